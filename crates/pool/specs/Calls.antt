@@ -1,0 +1,117 @@
+-- The calls: what each is turned down by, in checking order, the move of one that is not, and check 8 again after it. Assumes nothing.
+use mathlib.Core.Bool.{Bool, not}
+use mathlib.Core.List.{List, [], _∷_}
+use Prim.Native.Nat.{ℕ, _-_, _*_}
+use lib.Dec.{eqb, ltb}
+use lib.ListN.{replicate}
+use Rattle.pool.specs.Choose.{choose, both}
+use Rattle.pool.specs.Answers.{refusalOf}
+use Rattle.pool.specs.State.{none, evicted, clientCount, resting, pins, client, grantFrame}
+use Rattle.pool.specs.Moves.{wanting, holding, completes, stuck, apply}
+use Rattle.pool.specs.Stages.{stageMove}
+use Rattle.pool.specs.Grants.{grantOf}
+use Rattle.pool.specs.Valid.{numbersOk, valid}
+use Rattle.pool.specs.declared.Pool.{Pool}
+use Rattle.pool.specs.declared.Client.{Client}
+use Rattle.pool.specs.declared.Call.{Call}
+use Rattle.pool.specs.declared.Call.the-variants.{Begin, Step, Release}
+use Rattle.pool.specs.declared.Move.{Move}
+use Rattle.pool.specs.declared.Outcome.{Outcome}
+use Rattle.pool.specs.declared.Answer.the-variants.{Done, Refused}
+use Rattle.pool.specs.declared.Counted.the-variants.{Nothing}
+use Rattle.pool.specs.declared.GrantChange.the-variants.{Same, End}
+use Rattle.pool.specs.declared.Write.the-variants.{Keep, PutPins}
+
+-- "All but 15 change no pool, tally or list."
+abbrev pub turnedDown : ℕ → Pool → Outcome
+turnedDown n p = record { answer = Refused n; counted = Nothing; pool = p }
+
+-- ---- setup
+
+-- "At setup all slots and the table are empty, every frame has page 0, pins -1 and count 0, and every bench rests with no grants."
+abbrev pub fresh : ℕ → ℕ → ℕ → ℕ → Pool
+fresh s t c h =
+    record {
+      size = s;
+      «client_count» = t;
+      cap = c;
+      hand = h;
+      free = s;
+      last = none;
+      slots = replicate 64 none;
+      pages = replicate 96 0;
+      pins = replicate 96 evicted;
+      counts = replicate 96 0;
+      «table_pages» = replicate 96 0;
+      «table_frames» = replicate 96 none;
+      clients = replicate 16 (resting 0);
+      «grant_pages» = replicate 128 0;
+      «grant_frames» = replicate 128 0;
+    }
+
+-- what a refused setup leaves: a pool without slots, which every call refuses as 8
+abbrev pub noPool : Pool
+noPool = fresh 0 0 0 0
+
+-- 8. "S, T or C is outside its range."
+unfoldable pub setupOf : ℕ → ℕ → ℕ → ℕ → Outcome
+setupOf s t c h = choose (numbersOk s t c) (record { answer = Done s; counted = Nothing; pool = fresh s t c h }) (turnedDown 8 noPool)
+
+-- ---- begin, step, release
+
+-- the client that a call names
+unfoldable pub caller : Call → ℕ
+caller (Begin c g) = c
+caller (Step c) = c
+caller (Release c g) = c
+
+-- 10. "Begin or release at a working bench." 11. "Step at a resting bench." 12. "Begin at a bench with 8 grants."
+-- 13. "Release of a page the bench does not hold." 0: none of them.
+unfoldable pub refusalAt : Pool → Client → Call → ℕ
+refusalAt p k (Begin c g) = choose (eqb (k .stage) 0) (choose (ltb (k .held) 8) 0 12) 10
+refusalAt p k (Step c) = choose (eqb (k .stage) 0) 11 0
+refusalAt p k (Release c g) = choose (eqb (k .stage) 0) (choose (eqb (grantOf p c g) none) 13 0) 10
+
+-- the number by which a call is turned down before its action, in checking order: 8, 9 ("The bench number is T or more."), then the others
+unfoldable pub refusal : Pool → Call → ℕ
+refusal p call =
+    choose (valid p) (choose (ltb (caller call) (clientCount p)) (refusalAt p (client p (caller call)) call) 9) 8
+
+-- "Begin (bench, page) puts a resting bench at stage 1."
+abbrev pub beginMove : Client → ℕ → Move
+beginMove k g = completes g (wanting k g) Same Keep
+
+-- "Release (bench, page) ends one grant and lowers that frame's pins by one." Read: the grant's place, its frame, and the frame's pins.
+unfoldable pub releaseMove : Client → ℕ → ℕ → ℕ → ℕ → Move
+releaseMove k g i f n =
+    choose (eqb n evicted) (stuck k) (completes g (holding k (k .held - 1)) (End i (k .held - 1)) (PutPins f (n - 1)))
+
+-- the action of a call
+unfoldable pub moveOf : Pool → Call → Move
+moveOf p (Begin c g) = beginMove (client p c) g
+moveOf p (Step c) = stageMove p (client p c)
+moveOf p (Release c g) =
+    let i = grantOf p c g in
+    let f = grantFrame p c i in
+    releaseMove (client p c) g i f (pins p f)
+
+-- the pool after an action, if it keeps the ranges; else 8, and nothing changes
+unfoldable pub finished : Pool → ℕ → Move → Outcome
+finished p c m =
+    let next = apply p c m in
+    choose (both (not (eqb (refusalOf (m .answer)) 8)) (valid next))
+    (record { answer = m .answer; counted = m .counted; pool = next })
+    (turnedDown 8 p)
+
+-- A call: check 8 as handed, 9 to 13, the action, check 8 after it.
+unfoldable pub callOf : Pool → Call → Outcome
+callOf p call =
+    let n = refusal p call in
+    let done = finished p (caller call) (moveOf p call) in
+    choose (eqb n 0) done (turnedDown n p)
+
+-- ---- lists of calls: "Setup gives the first pool, each later call gets the pool the last one returned"
+
+unfoldable pub poolAfter : Pool → List Call → Pool
+poolAfter p [] = p
+poolAfter p (call ∷ calls) = poolAfter (callOf p call .pool) calls

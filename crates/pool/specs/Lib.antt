@@ -1,0 +1,14 @@
+pub mod Choose
+pub mod Answers
+pub mod State
+pub mod Table
+pub mod Grants
+pub mod Frames
+pub mod Moves
+pub mod Stages
+pub mod Valid
+pub mod Calls
+pub mod Tallies
+pub mod Holdings
+pub mod Schedule
+pub mod Cases

@@ -1,0 +1,71 @@
+-- Check 8 of a pool: "whose numbers .. break the ranges above, where one bench's grants of one page name different frames". It looks only at
+-- the slots, frames, places of the table, clients and grants that the pool has. Assumes nothing.
+use mathlib.Core.Bool.{Bool, true, false, not, _&&_, _||_}
+use Prim.Native.Nat.{ℕ}
+use lib.Dec.{eqb, ltb, leb}
+use Rattle.pool.specs.Choose.{choose, both, either, every}
+use Rattle.pool.specs.State.{none, pinned, clientCount, total, slot, pins, count, entryPage, entryFrame, client, grantPage, grantFrame}
+use Rattle.pool.specs.Table.{entryOf}
+use Rattle.pool.specs.Grants.{grantOf}
+use Rattle.pool.specs.declared.Pool.{Pool}
+use Rattle.pool.specs.declared.Client.{Client}
+
+-- "Setup takes S slots (1 to 64), T benches (1 to 16), count cap C (1 to 100)"
+unfoldable pub numbersOk : ℕ → ℕ → ℕ → Bool
+numbersOk s t c = both (ltb 0 s) (both (leb s 64) (both (ltb 0 t) (both (leb t 16) (both (ltb 0 c) (leb c 100)))))
+
+-- no frame, or one of the pool's
+unfoldable pub frameOk : Pool → ℕ → Bool
+frameOk p f = either (eqb f none) (ltb f (total p))
+
+-- one of the pool's frames where the stage uses it, else none or one of them
+unfoldable pub usedOk : Bool → Pool → ℕ → Bool
+usedOk used p f = choose used (ltb f (total p)) (frameOk p f)
+
+-- the stages that use the own frame, the found frame, the victim
+abbrev pub usesOwn : ℕ → Bool
+usesOwn s = leb 5 s && not (eqb s 21)
+
+abbrev pub usesFound : ℕ → Bool
+usesFound s = (leb 2 s && leb s 3) || (leb 19 s && leb s 22)
+
+abbrev pub usesVictim : ℕ → Bool
+usesVictim s = leb 12 s && leb s 17
+
+-- "A slot is empty or names one frame."
+abbrev pub slotOk : Pool → ℕ → Bool
+slotOk p i = frameOk p (slot p i)
+
+-- "pins (-1, evicted, to 128) and a reference count (0 to C)"
+unfoldable pub stateOk : Pool → ℕ → Bool
+stateOk p f = both (leb (pins p f) (pinned 128)) (leb (count p f) (p .cap))
+
+-- "The table maps a page to at most one frame.": an entry is the one that its page is found at
+unfoldable pub entryOk : Pool → ℕ → Bool
+entryOk p i = either (eqb (entryFrame p i) none) (both (ltb (entryFrame p i) (total p)) (eqb (entryOf p (entryPage p i)) i))
+
+-- a grant names a frame, and the one that the client's first grant of its page names
+unfoldable pub grantOk : Pool → ℕ → ℕ → Bool
+grantOk p c i = both (ltb (grantFrame p c i) (total p)) (eqb (grantFrame p c (grantOf p c (grantPage p c i))) (grantFrame p c i))
+
+-- "A slot number that a bench remembers is 0 to S - 1, and so is a busy run."; a bench "holds 0 to 8 grants"
+unfoldable pub countsOk : Pool → Client → Bool
+countsOk p k =
+    both (leb (k .stage) 23) (both (leb (k .held) 8) (both (ltb (k .place) (p .size)) (both (ltb (k .busy) (p .size)) (leb (k .seen) (p .size)))))
+
+unfoldable pub namesOk : Pool → Client → Bool
+namesOk p k =
+    both (usedOk (usesOwn (k .stage)) p (k .own))
+    (both (usedOk (usesFound (k .stage)) p (k .found)) (usedOk (usesVictim (k .stage)) p (k .victim)))
+
+unfoldable pub clientOk : Pool → ℕ → Bool
+clientOk p c = let k = client p c in both (countsOk p k) (both (namesOk p k) (every (grantOk p c) (k .held)))
+
+-- "'Free' starts at S and is 0 to S."
+unfoldable pub valid : Pool → Bool
+valid p =
+    both (numbersOk (p .size) (clientCount p) (p .cap))
+    (both (both (leb (p .free) (p .size)) (frameOk p (p .last)))
+    (both (every (slotOk p) (p .size))
+    (both (every (stateOk p) (total p))
+    (both (every (entryOk p) (total p)) (every (clientOk p) (clientCount p))))))
