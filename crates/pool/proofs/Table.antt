@@ -6,7 +6,8 @@ use Rattle.pool.specs.State.{within, slot, page, pins, count, entryPage,
 use Rattle.pool.specs.Table.{maps, entryOf, lookup, unusedEntry, resident, residents}
 use Rattle.pool.specs.Grants.{grantOf, holds, held}
 use Rattle.pool.specs.Frames.{names, referenced, firstTried, freeFrame}
-use Rattle.pool.specs.Moves.{granted, stored, slotsAfter, pagesAfter, pinsAfter, countsAfter, entryPagesAfter, entryFramesAfter, handAfter, freeAfter, lastAfter, grantPagesAfter, grantFramesAfter, apply}
+use Rattle.pool.specs.Moves.{granted}
+use Rattle.pool.specs.Apply.{stored, slotsAfter, pagesAfter, pinsAfter, countsAfter, entryPagesAfter, entryFramesAfter, handAfter, freeAfter, lastAfter, grantPagesAfter, grantFramesAfter, apply}
 use Rattle.pool.specs.Stages.{around, advanced, growth, raised, busyVisit, evictOwn, stage1, stage2, stage3, stage4, stage5, stage6, stage7, stage8, stage9, stage10, stage11, stage12, stage13, stage14, stage15, stage16, stage17, stage18, stage19, stage20, stage21, stage22, stage23, stageMove}
 use Rattle.pool.specs.Valid.{numbersOk, frameOk, usedOk, stateOk, entryOk, grantOk, countsOk, namesOk, clientOk, valid}
 use Rattle.pool.specs.Calls.{setupOf, caller, refusalAt, refusal, releaseMove, moveOf, finished, callOf, poolAfter}

@@ -7,7 +7,8 @@ use lib.ListN.{replicate}
 use Rattle.pool.specs.Choose.{choose, both}
 use Rattle.pool.specs.Answers.{refusalOf}
 use Rattle.pool.specs.State.{none, evicted, clientCount, resting, pins, client, grantFrame}
-use Rattle.pool.specs.Moves.{wanting, holding, completes, stuck, apply}
+use Rattle.pool.specs.Moves.{wanting, holding, completes, stuck}
+use Rattle.pool.specs.Apply.{apply}
 use Rattle.pool.specs.Stages.{stageMove}
 use Rattle.pool.specs.Grants.{grantOf}
 use Rattle.pool.specs.Valid.{numbersOk, valid}

@@ -5,6 +5,7 @@ pub mod Table
 pub mod Grants
 pub mod Frames
 pub mod Moves
+pub mod Apply
 pub mod Stages
 pub mod Valid
 pub mod Calls
