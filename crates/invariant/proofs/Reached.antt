@@ -1,0 +1,220 @@
+-- The invariant: what holds of every pool that comes from setup and calls. One record, its clauses grouped by layer, each named; the number
+-- of the clause in the list that was confirmed by search stands beside it. Definitions only: the proofs stand in the layers' own files.
+-- Assumes nothing.
+use mathlib.Core.Path.{_≡_}
+use mathlib.Core.Logic.{_≢_, _⊎_}
+use mathlib.Core.Bool.{Bool, true, false, not, _&&_, _||_}
+use mathlib.Core.List.{List, [], _∷_}
+use Prim.Native.Nat.{ℕ, zero, suc, _+_, _*_, _≤_, _<_}
+use lib.Dec.{T, eqb, leb}
+use lib.ListN.{length, getD}
+use Rattle.pool.specs.Choose.{scan}
+use Rattle.pool.specs.State.{none, evicted, pinned, clientCount, total, slot, page, pins, count, entryPage, entryFrame, client, grantPage, grantFrame}
+use Rattle.pool.specs.declared.Pool.{Pool}
+use Rattle.pool.specs.declared.Client.{Client}
+
+-- ---- words
+
+abbrev pub one : Bool → ℕ
+one true = 1
+one false = 0
+
+unfoldable pub sumTo : (ℕ → ℕ) → ℕ → ℕ
+sumTo g zero = 0
+sumTo g (suc n) = sumTo g n + g n
+
+-- no two places have the same number, the neutral one z aside
+abbrev pub Apart : (ℕ → ℕ) → ℕ → Type 0
+Apart g z = (i j : ℕ) → g i ≢ z → g i ≡ g j → i ≡ j
+
+-- The table by frame: one more than the page that is mapped to a frame, 0 where none is. No frame is in two entries (`entries-apart`).
+unfoldable pub mapped : Pool → ℕ → ℕ
+mapped p f = scan (λ i. eqb (entryFrame p i) f) (λ i. suc (entryPage p i)) 0 0 (total p)
+
+-- a frame stands in a slot
+abbrev pub Seated : Pool → ℕ → Type 0
+Seated p f = (i : ℕ) × (slot p i ≡ f)
+
+-- The stages at which the own frame has no slot yet; at which a client has no own frame, no found frame, no victim; at which the found frame
+-- is pinned for this client and no grant names it yet; at which a victim is taken out of its slot and may still be in the table; at which a
+-- client has claimed an empty slot and not filled it; at which it hunts: has a victim that stands in no slot but its place.
+abbrev pub unplaced : ℕ → Bool
+unplaced s = (leb 5 s && leb s 8) || (leb 10 s && leb s 15)
+
+abbrev pub ownless : ℕ → Bool
+ownless s = leb s 4 || eqb s 21
+
+abbrev pub foundless : ℕ → Bool
+foundless s = not (eqb s 2 || eqb s 3 || (leb 19 s && leb s 22))
+
+abbrev pub victimless : ℕ → Bool
+victimless s = not (leb 12 s && leb s 17)
+
+abbrev pub pinsFound : ℕ → Bool
+pinsFound s = eqb s 3 || eqb s 20 || eqb s 21
+
+abbrev pub leaving : ℕ → Bool
+leaving s = eqb s 16 || eqb s 17
+
+abbrev pub filling : ℕ → Bool
+filling s = eqb s 7 || eqb s 8
+
+abbrev pub hunting : ℕ → Bool
+hunting s = leb 12 s && leb s 15
+
+-- ---- claims on a frame: open grants, the found frame where it is pinned for this client, the own frame
+
+unfoldable pub grantsOn : Pool → ℕ → ℕ → ℕ
+grantsOn p c f = sumTo (λ i. one (eqb (grantFrame p c i) f)) (client p c .held)
+
+abbrev pub claims : Pool → ℕ → ℕ → ℕ
+claims p c f = let k = client p c in grantsOn p c f + one (pinsFound (k .stage) && eqb (k .found) f) + one (eqb (k .own) f)
+
+unfoldable pub claimed : Pool → ℕ → ℕ
+claimed p f = sumTo (λ c. claims p c f) (clientCount p)
+
+-- A frame that only its number knows: no slot, no table entry, no client's own or found frame and no grant names it. Refusal 15 leaves one,
+-- with its pins.
+pub record Orphan (p : Pool) (f : ℕ) : Type 0 where
+  pub no-slot : (i : ℕ) → slot p i ≢ f
+  pub unmapped : mapped p f ≡ 0
+  pub unowned : (c : ℕ) → client p c .own ≢ f
+  pub unfound : (c : ℕ) → client p c .found ≢ f
+  pub ungranted : (c i : ℕ) → grantFrame p c i ≢ f
+
+-- how a frame's pins, as stored, and the claims on it go together
+pub data Balance (p : Pool) (f q w : ℕ) : Type 0 where
+  gone : q ≡ evicted → w ≡ 0 → Balance p f q w
+  held : q ≡ suc w → Balance p f q w
+  orphan : Orphan p f → Balance p f q w
+
+-- ---- what a client knows at its stage, whatever the others do
+
+abbrev pub Know : Type 1
+Know = Pool → Client → Type 0
+
+abbrev pub Owns : Know
+Owns p k = k .own ≢ none
+
+abbrev pub Placed : Know
+Placed p k = (k .own ≢ none) × Seated p (k .own)
+
+-- the found frame is the page's, if it is not evicted
+abbrev pub Live : Know
+Live p k = (k .found ≢ none) × (pins p (k .found) ≢ evicted → mapped p (k .found) ≡ suc (k .page))
+
+abbrev pub DeadFound : Know
+DeadFound p k = (k .found ≢ none) × (pins p (k .found) ≡ evicted)
+
+-- the victim stands in a slot, if it is not evicted
+abbrev pub Seat : Know
+Seat p k = (k .victim ≢ none) × (pins p (k .victim) ≢ evicted → Seated p (k .victim))
+
+abbrev pub DeadVictim : Know
+DeadVictim p k = (k .victim ≢ none) × (pins p (k .victim) ≡ evicted)
+
+abbrev pub Nothing : Know
+Nothing p k = Unit {0}
+
+infixr 35 _and_
+abbrev pub _and_ : Know → Know → Know
+_and_ x y p k = x p k × y p k
+
+-- at stage 0, 1, 2 and so on
+abbrev pub knows : List Know
+knows =
+    Nothing ∷ Nothing ∷ Live ∷ Live ∷ Nothing ∷ Owns ∷ Owns ∷ Owns ∷ Owns ∷ Placed ∷ Owns ∷ Owns ∷ (Owns and Seat) ∷ (Owns and Seat) ∷ (Owns and Seat) ∷
+    (Owns and DeadVictim) ∷ (Placed and DeadVictim) ∷ (Placed and DeadVictim) ∷ Placed ∷ (Placed and Live) ∷ (Placed and Live) ∷ Live ∷ (Placed and DeadFound) ∷ Placed ∷ []
+
+abbrev pub Knows : ℕ → Know
+Knows s = getD knows s Nothing
+
+-- ---- the layers
+
+-- the arrays are as long as the largest pool needs, and the numbers of the setup are in range
+pub record Shape (p : Pool) : Type 0 where
+  pub size-low : 1 ≤ p .size
+  pub size-high : p .size ≤ 64
+  pub clients-low : 1 ≤ clientCount p
+  pub clients-high : clientCount p ≤ 16
+  pub cap-low : 1 ≤ p .cap
+  pub cap-high : p .cap ≤ 100
+  pub slots : length (p .slots) ≡ 64
+  pub pages : length (p .pages) ≡ 96
+  pub pins : length (p .pins) ≡ 96
+  pub counts : length (p .counts) ≡ 96
+  pub entry-pages : length (p .«table_pages») ≡ 96
+  pub entry-frames : length (p .«table_frames») ≡ 96
+  pub clients : length (p .clients) ≡ 16
+  pub grant-pages : length (p .«grant_pages») ≡ 128
+  pub grant-frames : length (p .«grant_frames») ≡ 128
+
+-- ranges (13, 14), for every client of the pool
+pub record Ranges (p : Pool) : Type 0 where
+  pub free-ok : p .free ≤ p .size
+  pub last-ok : (p .last ≡ none) ⊎ (p .last < total p)
+  pub stage-ok : (c : ℕ) → client p c .stage ≤ 23
+  pub place-ok : (c : ℕ) → client p c .place < p .size
+  pub busy-ok : (c : ℕ) → client p c .busy < p .size
+  pub seen-ok : (c : ℕ) → client p c .seen ≤ p .size
+  pub held-ok : (c : ℕ) → client p c .held ≤ 8
+  pub working-held : (c : ℕ) → client p c .stage ≢ 0 → client p c .held ≤ 7
+  pub pins-ok : (f : ℕ) → pins p f ≤ pinned 128
+  pub count-ok : (f : ℕ) → count p f ≤ p .cap
+  pub slot-ok : (i : ℕ) → slot p i ≢ none → slot p i < total p
+  pub entry-ok : (i : ℕ) → entryFrame p i ≢ none → entryFrame p i < total p
+  pub own-ok : (c : ℕ) → client p c .own ≢ none → client p c .own < total p
+  pub found-ok : (c : ℕ) → client p c .found ≢ none → client p c .found < total p
+  pub victim-ok : (c : ℕ) → client p c .victim ≢ none → client p c .victim < total p
+  pub grant-ok : (c i : ℕ) → grantFrame p c i ≢ none → grantFrame p c i < total p
+
+-- where frames stand (1, 3, 4)
+pub record Places (p : Pool) : Type 0 where
+  pub slots-apart : Apart (slot p) none
+  pub owns-apart : Apart (λ c. client p c .own) none
+  pub unplaced-out : (c i : ℕ) → T (unplaced (client p c .stage)) → client p c .own ≢ none → slot p i ≢ client p c .own
+
+-- the own frame is in no entry and nobody else's (3, 4)
+pub record Private (p : Pool) : Type 0 where
+  pub own-unmapped : (c : ℕ) → client p c .own ≢ none → mapped p (client p c .own) ≡ 0
+  pub own-unfound : (c d : ℕ) → client p c .own ≢ none → client p d .found ≢ client p c .own
+  pub own-ungranted : (c d i : ℕ) → client p c .own ≢ none → grantFrame p d i ≢ client p c .own
+
+-- pins and claims (8)
+pub record Counts (p : Pool) : Type 0 where
+  pub owns-none : (c : ℕ) → T (ownless (client p c .stage)) → client p c .own ≡ none
+  pub balance : (f : ℕ) → f ≢ none → Balance p f (pins p f) (claimed p f)
+
+-- the table, and what each client knows (2, 5, 6, 9, 10)
+pub record Outline (p : Pool) : Type 0 where
+  pub entries-apart : Apart (entryFrame p) none
+  pub pages-apart : (i j : ℕ) → entryFrame p i ≢ none → entryFrame p j ≢ none → entryPage p i ≡ entryPage p j → i ≡ j
+  pub granted : (c i : ℕ) → grantFrame p c i ≢ none → mapped p (grantFrame p c i) ≡ suc (grantPage p c i)
+  pub grant-named : (c i : ℕ) → i < client p c .held → grantFrame p c i ≢ none
+  pub knowing : (c : ℕ) → Knows (client p c .stage) p (client p c)
+  pub resident : (f : ℕ) → f ≢ none → pins p f ≢ evicted → mapped p f ≢ 0 → Seated p f
+  pub known : (f : ℕ) → f ≢ none → pins p f ≢ evicted → (mapped p f ≢ 0) ⊎ (((c : ℕ) × (client p c .own ≡ f)) ⊎ Orphan p f)
+  pub no-found : (c : ℕ) → T (foundless (client p c .stage)) → client p c .found ≡ none
+  pub no-victim : (c : ℕ) → T (victimless (client p c .stage)) → client p c .victim ≡ none
+  pub own-page : (c : ℕ) → client p c .own ≢ none → page p (client p c .own) ≡ client p c .page
+  pub page-true : (f g : ℕ) → f ≢ none → mapped p f ≡ suc g → page p f ≡ g
+
+-- a client leaves frame f behind: it has it for its victim and stands at 16 or 17, or at 15 with the frame in its slot
+abbrev pub Leaves : Pool → Client → ℕ → Type 0
+Leaves p k f = (k .victim ≡ f) × (T (leaving (k .stage)) ⊎ ((k .stage ≡ 15) × (slot p (k .place) ≡ f)))
+
+-- empty slots, victims, evicted frames in the table (7, 11, 12)
+pub record Calm (p : Pool) : Type 0 where
+  pub empties : sumTo (λ i. one (eqb (slot p i) none)) (p .size) ≡ p .free + sumTo (λ c. one (filling (client p c .stage))) (clientCount p)
+  pub six : (c : ℕ) → client p c .stage ≡ 6 → client p c .seen ≢ 0
+  pub only : (c i : ℕ) → T (hunting (client p c .stage)) → client p c .victim ≢ none → slot p i ≡ client p c .victim → i ≡ client p c .place
+  pub ghosts : (f : ℕ) → f ≢ none → mapped p f ≢ 0 → pins p f ≡ evicted → (c : ℕ) × Leaves p (client p c) f
+
+pub record Reached (p : Pool) : Type 0 where
+  pub shape : Shape p
+  pub ranges : Ranges p
+  pub places : Places p
+  pub private : Private p
+  pub counts : Counts p
+  pub outline : Outline p
+  pub calm : Calm p
