@@ -1,0 +1,234 @@
+-- What is claimed of every run from an accepted setup. `Point3` is point 3 of the request, "a single claim about the whole list of calls"; the
+-- others go with it. Statements only; each proof stands in the file of proofs/ that its comment names. Assumes nothing.
+use mathlib.Core.Path.{_≡_}
+use mathlib.Core.Logic.{_≢_, _⊎_, _↔_}
+use mathlib.Core.Bool.{Bool, true, false, _||_}
+use mathlib.Core.List.{List, [], _∷_}
+use Prim.Native.Nat.{ℕ, suc, _+_, _≤_, _<_}
+use lib.Dec.{T, eqb}
+use lib.ListN.{replicate}
+use Rattle.pool.specs.State.{none, evicted, pinned, total, slot, pins, client, grantPage, grantFrame}
+use Rattle.pool.specs.Table.{lookup, resident, residents}
+use Rattle.pool.specs.Grants.{held}
+use Rattle.pool.specs.Frames.{freeFrame}
+use Rattle.pool.specs.Moves.{refused15}
+use Rattle.pool.specs.Apply.{apply}
+use Rattle.pool.specs.Valid.{valid}
+use Rattle.pool.specs.Calls.{setupOf, caller, callOf, poolAfter}
+use Rattle.pool.specs.Tallies.{largest, zeroTally, tallied}
+use Rattle.pool.specs.declared.Pool.{Pool}
+use Rattle.pool.specs.declared.Tally.{Tally}
+use Rattle.pool.specs.declared.Call.{Call}
+use Rattle.pool.specs.declared.Call.the-variants.{Begin, Step, Release}
+use Rattle.pool.specs.declared.Answer.{Answer}
+use Rattle.pool.specs.declared.Answer.the-variants.{Done, Working, Granted, Refused}
+use Rattle.pool.specs.declared.Counted.the-variants.{Nothing}
+use Rattle.guarantee.specs.Runs.{Event, happens, events, At, Throughout, StepAt, Begins, GrantedTo}
+use Rattle.guarantee.specs.Sequential.{Sequential, Keeps, start, Rule, adding, admitting}
+
+-- ---- a. "any two grants of one page that were ever open together name the same frame"
+
+abbrev pub OneCopy : Pool → Type 0
+OneCopy p =
+    (c d i j : ℕ) → i < client p c .held → j < client p d .held → grantPage p c i ≡ grantPage p d j → grantFrame p c i ≡ grantFrame p d j
+
+-- ---- b. "no held frame was evicted"
+
+-- a call leaves a frame evicted that was not
+abbrev pub PutsOut : ℕ → Event → Type 0
+PutsOut f e = (pins (e .before) f ≢ evicted) × (pins (e .next) f ≡ evicted)
+
+abbrev pub NoHeldEvicted : List Event → Type 0
+NoHeldEvicted es = (f n : ℕ) → At (PutsOut f) es n → At (λ e. held (e .before) f ≡ false) es n
+
+abbrev pub HeldPinned : Pool → Type 0
+HeldPinned p = (f : ℕ) → held p f ≡ true → pinned 1 ≤ pins p f
+
+-- ---- c. "no eviction was taken out of its slot twice"
+
+-- "An eviction is a stage 14, 20 or 23 that sets a frame's pins to -1"
+pub record Evicts (f : ℕ) (e : Event) : Type 0 where
+  pub client-of : ℕ
+  pub stage : ℕ
+  pub step-of : StepAt client-of stage e
+  pub one-of : T (eqb stage 14 || eqb stage 20 || eqb stage 23)
+  pub puts-out : PutsOut f e
+
+-- "it is taken out of its slot each time a stage 15 replaces that frame in a slot before a stage 4 takes it anew"
+pub record Replaces (f : ℕ) (e : Event) : Type 0 where
+  pub client-of : ℕ
+  pub step-of : StepAt client-of 15 e
+  pub place : ℕ
+  pub named : slot (e .before) place ≡ f
+  pub names-no-more : slot (e .next) place ≢ f
+
+pub record Takes (f : ℕ) (e : Event) : Type 0 where
+  pub client-of : ℕ
+  pub step-of : StepAt client-of 4 e
+  pub takes : client (e .next) client-of .own ≡ f
+
+-- the eviction of frame f at event k is taken out of its slot at event n
+pub record TakenOut (es : List Event) (f k n : ℕ) : Type 0 where
+  pub later : k < n
+  pub out : At (Replaces f) es n
+  pub not-anew : (m : ℕ) → k < m → m < n → At (Takes f) es m → ⊥
+
+abbrev pub TakenOutOnce : List Event → Type 0
+TakenOutOnce es = (f k m n : ℕ) → At (Evicts f) es k → TakenOut es f k m → TakenOut es f k n → m ≡ n
+
+-- ---- d. "The plain pool's choices can be made so that all these rules are kept, every answer equals the real pool's .., and after every call the
+-- plain pool's pages with their frames are exactly the resident ones with theirs."
+
+abbrev pub SamePages : Pool → Sequential → Type 0
+SamePages p q = (g f : ℕ) → Keeps q g f ↔ ((resident p g ≡ true) × (lookup p g ≡ f))
+
+-- the sequential pool, from state q, can answer each call as the pool p and its successors do
+pub data Follows : Pool → Sequential → List Call → Type 0 where
+  ends : {p : Pool} {q : Sequential} → SamePages p q → Follows p q []
+  goes : {p : Pool} {q q′ : Sequential} {x : Call} {calls : List Call}
+      → SamePages p q → Rule q x (callOf p x .answer) q′ → Follows (callOf p x .pool) q′ calls → Follows p q (x ∷ calls)
+
+-- "each grant takes effect at exactly one action after its begin and no later than its answer"; "A grant takes effect where it is added or
+-- admitted.": the steps of which the sequential pool's rules `adds` and `admits` speak, by the stage and the answer, which both pools share
+unfoldable pub takesEffect : ℕ → Answer → Bool
+takesEffect i (Done n) = false
+takesEffect i (Working j) = adding i j
+takesEffect i (Granted f) = admitting i
+takesEffect i (Refused n) = false
+
+abbrev pub Effects : ℕ → Event → Type 0
+Effects c e = (e .asked ≡ Step c) × T (takesEffect (client (e .before) c .stage) (e .answer))
+
+-- Client c's request that is begun at event k is open up to event n: no later begin of the client is done before n.
+abbrev pub SameRequest : List Event → ℕ → ℕ → ℕ → Type 0
+SameRequest es c k n = (m : ℕ) → k < m → m < n → At (Begins c) es m → ⊥
+
+-- exactly one of the events k + 1 to n has the property
+abbrev pub ExactlyOne : (Event → Type 0) → List Event → ℕ → ℕ → Type 0
+ExactlyOne P es k n = (j : ℕ) × (k < j) × (j ≤ n) × At P es j × ((i : ℕ) → k < i → i ≤ n → At P es i → i ≡ j)
+
+abbrev pub OneEffect : List Event → Type 0
+OneEffect es =
+    (c k n : ℕ) → At (Begins c) es k → k < n → At (GrantedTo c) es n → SameRequest es c k n → ExactlyOne (Effects c) es k n
+
+-- ---- e. "A request in the list that is begun and answered while all other benches rest and release nothing is refused for want of a frame
+-- exactly when, at its begin, its page is absent and every slot names a held frame."
+
+abbrev pub AllHeld : Pool → Type 0
+AllHeld p = (i : ℕ) → i < p .size → (slot p i ≢ none) × (held p (slot p i) ≡ true)
+
+-- the request of client c is answered
+abbrev pub AnswersTo : ℕ → Event → Type 0
+AnswersTo c e = (e .asked ≡ Step c) × (((f : ℕ) × (e .answer ≡ Granted f)) ⊎ (e .answer ≡ Refused 15))
+
+-- a call that is turned down, by whichever number but 15
+abbrev pub TurnedDown : Event → Type 0
+TurnedDown e = (n : ℕ) × (e .answer ≡ Refused n) × (n ≢ 15)
+
+-- Client c begins on page g at event k, in pool p, and is answered at event n; at the begin the others rest, and between the two events every call
+-- is this client's or is turned down.
+pub record Alone (es : List Event) (p : Pool) (c g k n : ℕ) : Type 0 where
+  pub begun : At (λ e. (e .before ≡ p) × (e .asked ≡ Begin c g) × (e .answer ≡ Done g)) es k
+  pub others-rest : (d : ℕ) → d ≢ c → client p d .stage ≡ 0
+  pub later : k < n
+  pub answered : At (AnswersTo c) es n
+  pub same : SameRequest es c k n
+  pub no-others : (m : ℕ) → k < m → m < n → At (λ e. (caller (e .asked) ≡ c) ⊎ TurnedDown e) es m
+
+abbrev pub RefusedAlone : List Event → Type 0
+RefusedAlone es =
+    (p : Pool) (c g k n : ℕ) → Alone es p c g k n → At (λ e. e .answer ≡ Refused 15) es n ↔ ((resident p g ≡ false) × AllHeld p)
+
+-- ---- point 3
+
+pub record Point3 (p : Pool) (q : Sequential) (calls : List Call) : Type 0 where
+  pub one-copy : Throughout OneCopy p calls
+  pub no-held-evicted : NoHeldEvicted (events p calls)
+  pub held-pinned : Throughout HeldPinned p calls
+  pub taken-out-once : TakenOutOnce (events p calls)
+  pub sequential : Follows p q calls
+  pub one-effect : OneEffect (events p calls)
+  pub refused-alone : RefusedAlone (events p calls)
+
+-- "For every list of begins, steps and releases .. from a freshly set-up pool"
+abbrev pub Claim-point3 : Type 0
+Claim-point3 = (s t c h : ℕ) → setupOf s t c h .answer ≡ Done s → (calls : List Call) → Point3 (setupOf s t c h .pool) (start s t) calls
+
+-- ---- answers: "Every call .. ends with a listed answer"; "pools that come from setup and calls never meet this" (8)
+
+-- a stage, a frame or a refusal number that the call can be answered by
+unfoldable pub Listed : Pool → Call → Answer → Type 0
+Listed p (Begin c g) a = (a ≡ Done g) ⊎ ((a ≡ Refused 9) ⊎ ((a ≡ Refused 10) ⊎ (a ≡ Refused 12)))
+Listed p (Step c) a =
+    ((j : ℕ) × (a ≡ Working j) × (1 ≤ j) × (j ≤ 23)) ⊎ (((f : ℕ) × (a ≡ Granted f) × (f < total p))
+    ⊎ ((a ≡ Refused 9) ⊎ ((a ≡ Refused 11) ⊎ (a ≡ Refused 15))))
+Listed p (Release c g) a = (a ≡ Done g) ⊎ ((a ≡ Refused 9) ⊎ ((a ≡ Refused 10) ⊎ (a ≡ Refused 13)))
+
+-- no range is broken in any pool of the run, a client at stage 4 finds a frame, and every answer is a listed one, so never 8
+pub record Answered (p : Pool) (calls : List Call) : Type 0 where
+  pub in-range : Throughout (λ p. valid p ≡ true) p calls
+  pub finds : Throughout (λ p. (c : ℕ) → client p c .stage ≡ 4 → freeFrame p < total p) p calls
+  pub listed : (n : ℕ) (e : Event) → At (λ x. x ≡ e) (events p calls) n → Listed (e .before) (e .asked) (e .answer)
+
+abbrev pub Claim-answers : Type 0
+Claim-answers = (s t c h : ℕ) → setupOf s t c h .answer ≡ Done s → (calls : List Call) → Answered (setupOf s t c h .pool) calls
+
+-- "All but 15 change no pool, tally or list.": of every pool, from wherever it was handed
+abbrev pub Claim-turned : Type 0
+Claim-turned =
+    (p : Pool) (x : Call) (n : ℕ) → callOf p x .answer ≡ Refused n → n ≢ 15 → (callOf p x .pool ≡ p) × (callOf p x .counted ≡ Nothing)
+
+-- "15 puts the bench to rest with its grants kept, forgets its frames, counts one refusal, and keeps earlier actions' effects.": nothing else changes
+abbrev pub Claim-refused : Type 0
+Claim-refused =
+    (p : Pool) (x : Call) → callOf p x .answer ≡ Refused 15
+    → (c : ℕ) × (x ≡ Step c) × (let m = refused15 (client p c) in (callOf p x .pool ≡ apply p c m) × (callOf p x .counted ≡ m .counted))
+
+-- ---- the tally's sum
+
+-- one tally lent throughout, "each time as the last call left it"
+unfoldable pub tallyOf : Tally → List Event → Tally
+tallyOf t [] = t
+tallyOf t (e ∷ es) = tallyOf (tallied (e .counted) t) es
+
+-- "none of its counts is at that value"
+abbrev pub Below : Tally → Type 0
+Below t =
+    (t .hits < largest) × (t .joins < largest) × (t .admitted < largest) × (t .revived < largest) × (t .drops < largest) × (t .refused < largest)
+
+-- "resident pages = admitted + revived - drops"
+abbrev pub Claim-sum : Type 0
+Claim-sum =
+    (s t c h : ℕ) → setupOf s t c h .answer ≡ Done s → (calls : List Call)
+    → let p = setupOf s t c h .pool in
+    let tally = tallyOf zeroTally (events p calls) in
+    Below tally → residents (poolAfter p calls) + tally .drops ≡ tally .admitted + tally .revived
+
+-- ---- "Stepped alone, all others resting, a hit takes at most 3 steps, and an admission to an empty slot at most S + 7."
+
+-- of n + 1 steps of client c, with no other call, the last is granted
+abbrev pub GrantedAtLast : Pool → ℕ → ℕ → Type 0
+GrantedAtLast p c n = At (GrantedTo c) (events p (replicate (suc n) (Step c))) n
+
+-- it is granted at one of its first n steps
+abbrev pub GrantedWithin : Pool → ℕ → ℕ → Type 0
+GrantedWithin p c n = (i : ℕ) × (i < n) × GrantedAtLast p c i
+
+abbrev pub Claim-limits : Type 0
+Claim-limits =
+    (s t c h : ℕ) → setupOf s t c h .answer ≡ Done s → (calls : List Call) (b g : ℕ)
+    → let p = poolAfter (setupOf s t c h .pool) calls in
+    let q = callOf p (Begin b g) .pool in
+    ((d : ℕ) → client p d .stage ≡ 0) → callOf p (Begin b g) .answer ≡ Done g
+    → (resident p g ≡ true → GrantedWithin q b 3)
+    × (resident p g ≡ false → (i : ℕ) → i < p .size → slot p i ≡ none → GrantedWithin q b (s + 7))
+
+-- ---- all of it
+
+pub record Guarantee : Type 0 where
+  pub point3 : Claim-point3
+  pub answers : Claim-answers
+  pub turned : Claim-turned
+  pub refused : Claim-refused
+  pub sum : Claim-sum
+  pub limits : Claim-limits

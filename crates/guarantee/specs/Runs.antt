@@ -1,0 +1,50 @@
+-- Runs: "every list of begins, steps and releases, refused ones included, in whatever order the benches make them". Assumes nothing.
+use mathlib.Core.Path.{_≡_}
+use mathlib.Core.List.{List, [], _∷_}
+use Prim.Native.Nat.{ℕ, zero, suc}
+use Rattle.pool.specs.State.{client}
+use Rattle.pool.specs.Calls.{callOf}
+use Rattle.pool.specs.declared.Pool.{Pool}
+use Rattle.pool.specs.declared.Call.{Call}
+use Rattle.pool.specs.declared.Call.the-variants.{Begin, Step, Release}
+use Rattle.pool.specs.declared.Answer.{Answer}
+use Rattle.pool.specs.declared.Answer.the-variants.{Done, Working, Granted, Refused}
+use Rattle.pool.specs.declared.Counted.{Counted}
+
+-- one call of a run: the pool it was handed, what was asked and answered, what the tally counted, and the pool it returned
+pub record Event : Type 0 where
+  pub before : Pool
+  pub asked : Call
+  pub answer : Answer
+  pub counted : Counted
+  pub next : Pool
+
+abbrev pub happens : Pool → Call → Event
+happens p x = let o = callOf p x in record { before = p; asked = x; answer = o .answer; counted = o .counted; next = o .pool }
+
+-- "each later call gets the pool the last one returned"
+unfoldable pub events : Pool → List Call → List Event
+events p [] = []
+events p (x ∷ calls) = happens p x ∷ events (callOf p x .pool) calls
+
+-- the list has an element at place n, counted from 0, and that element has the property
+unfoldable pub At : {A : Type 0} → (A → Type 0) → List A → ℕ → Type 0
+At P [] n = ⊥
+At P (x ∷ xs) zero = P x
+At P (x ∷ xs) (suc n) = At P xs n
+
+-- every pool of a run has the property: the first, and each that a call returned
+unfoldable pub Throughout : (Pool → Type 0) → Pool → List Call → Type 0
+Throughout P p [] = P p
+Throughout P p (x ∷ calls) = P p × Throughout P (callOf p x .pool) calls
+
+-- a step of client c, which stands at stage i
+abbrev pub StepAt : ℕ → ℕ → Event → Type 0
+StepAt c i e = (e .asked ≡ Step c) × (client (e .before) c .stage ≡ i)
+
+-- a begin of client c that is done; a step of client c that is granted, and one that answers its request
+abbrev pub Begins : ℕ → Event → Type 0
+Begins c e = (g : ℕ) × (e .asked ≡ Begin c g) × (e .answer ≡ Done g)
+
+abbrev pub GrantedTo : ℕ → Event → Type 0
+GrantedTo c e = (f : ℕ) × (e .asked ≡ Step c) × (e .answer ≡ Granted f)
