@@ -1,0 +1,89 @@
+"""The report of a run, read and checked against its schedule file.
+
+Each record gives one line: its number from 0, the client (0 for a setup and
+for a record that ends the run), a code and a value, in decimal.
+"""
+
+import re
+from typing import NamedTuple
+
+import second
+
+from . import BadInput, words
+from .records import read
+
+DONE, WORKING, GRANTED, REFUSAL = (second.DONE, second.WORKING,
+                                   second.GRANTED, second.REFUSAL)
+
+LINE = re.compile(rb"([0-9]{1,10}) ([0-9]{1,10}) ([0-9]{1,10}) ([0-9]{1,10})")
+
+
+class Answer(NamedTuple):
+    """One line of a report."""
+
+    number: int
+    client: int
+    code: int
+    value: int
+
+    @property
+    def refusal(self):
+        """The number of the refusal, or 0."""
+        return self.code - REFUSAL if self.code > REFUSAL else 0
+
+    @property
+    def ends_run(self):
+        return 0 < self.refusal <= words.LAST_TO_END
+
+
+def read_line(line):
+    match = LINE.fullmatch(line)
+    if not match:
+        raise BadInput("expected four numbers with one space between: "
+                       "record, client, code, value")
+    answer = Answer(*map(int, match.groups()))
+    if not (answer.code in (DONE, WORKING, GRANTED)
+            or answer.refusal in words.REFUSALS):
+        raise BadInput("there is no code %d; expected 0, 1, 2 or 100 and a "
+                       "refusal number" % answer.code)
+    return answer
+
+
+def check_place(answer, number, records, damage):
+    """Complain unless the line can be the answer to record 'number'."""
+    if answer.number != number:
+        raise BadInput("it says record %d; expected record %d"
+                       % (answer.number, number))
+    if number >= len(records) + (1 if damage else 0):
+        raise BadInput("the schedule has only %s; is this the report of "
+                       "another schedule?"
+                       % words.count(len(records), "record"))
+    expected = 0
+    if number < len(records) and not answer.ends_run:
+        expected = records[number].client or 0
+    if answer.client != expected:
+        raise BadInput("it says client %d, but record %d is of client %d; is "
+                       "this the report of another schedule?"
+                       % (answer.client, number, expected))
+
+
+def read_report(data, schedule):
+    """The answers in a report, which must fit the schedule."""
+    records, damage = read(schedule)
+    answers = []
+    for number, line in enumerate(data.splitlines()):
+        try:
+            if answers and answers[-1].ends_run:
+                raise BadInput("the line before ends the run; expected no "
+                               "more")
+            answer = read_line(line)
+            check_place(answer, number, records, damage)
+        except BadInput as wrong:
+            raise BadInput("line %d: %s" % (number + 1, wrong)) from None
+        answers.append(answer)
+    return answers
+
+
+def computed_report(schedule):
+    """The report as the second program writes it."""
+    return second.run(schedule)[0]
