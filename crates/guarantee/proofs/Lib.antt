@@ -1,0 +1,13 @@
+pub mod Mirror
+pub mod Pages
+pub mod Frames
+pub mod Places
+pub mod Weights
+pub mod Shown
+pub mod Takers
+pub mod Simulate
+pub mod SimulateStages
+pub mod Follow
+pub mod Sequence
+pub mod Copies
+pub mod Sum

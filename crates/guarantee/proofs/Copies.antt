@@ -1,0 +1,144 @@
+-- Grants of one page name one frame; a held frame is pinned, and no call evicts it: the sequential pool drops only pages without grants, so the
+-- page of a held frame is still there after the call, and its frame is resident. Assumes nothing.
+use mathlib.Core.Path.{_≡_, refl, sym, ap, _∙_}
+use mathlib.Core.Logic.{_≢_}
+use mathlib.Core.Bool.{Bool, true, false, true≢false}
+use mathlib.Core.List.{List, [], _∷_}
+use Prim.Native.Nat.{ℕ, zero, suc, _<_}
+use native.Mathlib.Omega.{arith}
+use lib.Dec.{eqb}
+use lib.ListN.{getD}
+use lib.Seq.{getD-set-other}
+use borrow.Author.Tests.{eqb-true}
+use Rattle.pool.specs.State.{none, evicted, clientCount, slot, pins, client, grantPage, grantFrame}
+use Rattle.pool.specs.Grants.{holds, held}
+use Rattle.pool.specs.Calls.{callOf}
+use Rattle.pool.specs.declared.Pool.{Pool}
+use Rattle.pool.specs.declared.Call.{Call}
+use Rattle.pool.specs.declared.Answer.{Answer}
+use Rattle.laws.specs.Scans.{some-true}
+use Rattle.invariant.proofs.Reached.{Reached, one}
+use Rattle.invariant.proofs.Sums.{one-is, sum-has}
+use Rattle.invariant.proofs.Facts.{grant-live}
+use Rattle.invariant.proofs.Calls.{reached-call}
+use Rattle.guarantee.specs.Runs.{At, Throughout, events}
+use Rattle.guarantee.specs.Sequential as Plain
+use Rattle.guarantee.specs.Sequential.{Place, Taker, Sequential, taker, member, Keeps, StepRule, adds, admits, drops, answers, moves, refuses, Rule, turns, begins, releases, steps}
+use Rattle.guarantee.specs.Claims.{OneCopy, HeldPinned, NoHeldEvicted}
+use Rattle.guarantee.proofs.Mirror.{Shows, is-member, grantsOf, Mirrors, view, mirrors-view}
+use Rattle.guarantee.proofs.Follow.{Followed}
+use Rattle.guarantee.proofs.Frames.{same-frame}
+use Rattle.guarantee.proofs.Places.{there, shows}
+use Rattle.guarantee.proofs.Sequence.{followed}
+
+-- what holds of every reached pool holds throughout a run
+pub throughout : (P : Pool → Type 0) → ((p : Pool) → Reached p → P p) → (p : Pool) (calls : List Call) → Reached p → Throughout P p calls
+unfolding Throughout
+throughout P h p [] r = h p r
+throughout P h p (x ∷ calls) r = (h p r, throughout P h (callOf p x .pool) calls (reached-call p x r))
+
+pub one-copy : (p : Pool) → Reached p → OneCopy p
+one-copy p r c d i j a b e =
+    let u = r .outline .grant-named c i a in
+    let v = r .outline .grant-named d j b in
+    same-frame p r (grantFrame p c i) (grantFrame p d j) (grantPage p d j) u v (r .outline .granted c i u ∙ ap suc e) (r .outline .granted d j v)
+
+-- a held frame has a grant
+record Grant (p : Pool) (f : ℕ) : Type 0 where
+  client-of : ℕ
+  place : ℕ
+  inside : place < client p client-of .held
+  names : grantFrame p client-of place ≡ f
+
+held-grant : (p : Pool) (f : ℕ) → held p f ≡ true → Grant p f
+unfolding held holds
+held-grant p f h =
+    let c = some-true (holds p f) (clientCount p) h in
+    let i = some-true (λ j. eqb (grantFrame p (c .0) j) f) (client p (c .0) .held) (c .2) in
+    record { client-of = c .0; place = i .0; inside = i .1; names = eqb-true _ _ (i .2) }
+
+pub held-pinned : (p : Pool) → Reached p → HeldPinned p
+held-pinned p r f h =
+    let g = held-grant p f h in
+    rw (g .names) at (grant-live p r (g .client-of) (g .place) (r .outline .grant-named (g .client-of) (g .place) (g .inside)))
+
+-- ---- a page with a grant stays
+
+step-keeps : {q : Sequential} {k : Taker} {a : Answer} {places : List Place} {next : Taker} {g f : ℕ} → StepRule q k a places next
+    → (c : ℕ) → member g (taker q c .grants) ≡ true → Keeps q g f → (i : ℕ) × (getD places i Plain.empty ≡ Plain.holds g f)
+step-keeps (adds _ _) c m h = h
+step-keeps (answers _ _) c m h = h
+step-keeps (moves _ _ _) c m h = h
+step-keeps refuses c m h = h
+step-keeps {q} {k} {g = g} (admits {f = x} _ _ _ i _ vacant) c m h =
+    let other : h .0 ≢ i = λ e. let z : _≡_ {A = ℕ} 0 1 = cc (ap (Plain.place q) e) in omega arith in
+    (h .0, getD-set-other (q .places) i (h .0) (Plain.holds (k .wants) x) Plain.empty other ∙ h .1)
+step-keeps {q} {g = g} (drops {g = y} _ i full unheld) c m h =
+    let other : h .0 ≢ i = λ e. let same : y ≡ g = cc (ap (Plain.place q) e) in true≢false (sym m ∙ rw same at (unheld c)) in
+    (h .0, getD-set-other (q .places) i (h .0) Plain.empty Plain.empty other ∙ h .1)
+
+rule-keeps : {q next : Sequential} {x : Call} {a : Answer} {g f : ℕ} → Rule q x a next
+    → (c : ℕ) → member g (taker q c .grants) ≡ true → Keeps q g f → Keeps next g f
+rule-keeps (turns _ _) c m h = h
+rule-keeps (begins _) c m h = h
+rule-keeps (releases _) c m h = h
+rule-keeps (steps _ s) c m h = step-keeps s c m h
+
+-- ---- so a held frame is not evicted
+
+not-evicted : (p : Pool) (x : Call) (f : ℕ) → Reached p → held p f ≡ true → pins (callOf p x .pool) f ≢ evicted
+unfolding grantsOf
+not-evicted p x f r h out = v .live (ap (pins (callOf p x .pool)) (v .frame) ∙ out)
+  where
+    grant : Grant p f
+    grant = held-grant p f h
+
+    c : ℕ
+    c = grant .client-of
+
+    i : ℕ
+    i = grant .place
+
+    g : ℕ
+    g = grantPage p c i
+
+    mirror : Mirrors p (view p)
+    mirror = mirrors-view p (r .shape)
+
+    named : grantFrame p c i ≢ none
+    named = r .outline .grant-named c i (grant .inside)
+
+    kept : Keeps (view p) g f
+    kept = rw (grant .names) at (there r mirror named (λ z. omega (arith, grant-live p r c i named)) (r .outline .granted c i named))
+
+    granted : member g (taker (view p) c .grants) ≡ true
+    granted =
+        let n = sum-has (λ j. one (eqb (grantPage p c j) g)) (client p c .held) i (grant .inside) in
+        is-member g _ (λ z. omega (arith, mirror .takers c .grants g, one-is g))
+
+    after : Followed (view p) x (callOf p x)
+    after = followed r mirror x
+
+    still : Keeps (after .state) g f
+    still = rule-keeps (after .rule) c granted kept
+
+    v : Shows (callOf p x .pool) (slot (callOf p x .pool) (still .0)) g f
+    v = shows (reached-call p x r) (after .mirrors) still
+
+pub no-held-evicted : (p : Pool) (calls : List Call) → Reached p → NoHeldEvicted (events p calls)
+unfolding events At
+no-held-evicted p [] r f n h = h
+no-held-evicted p (x ∷ calls) r f zero h = go (held p f) refl
+  where
+    go : (b : Bool) → held p f ≡ b → b ≡ false
+    go true e = absurd (not-evicted p x f r e (h .1))
+    go false e = refl
+no-held-evicted p (x ∷ calls) r f (suc n) h = no-held-evicted (callOf p x .pool) calls (reached-call p x r) f n h
+
+-- ---- throughout a run
+
+pub one-copies : (p : Pool) (calls : List Call) → Reached p → Throughout OneCopy p calls
+one-copies = throughout OneCopy one-copy
+
+pub helds-pinned : (p : Pool) (calls : List Call) → Reached p → Throughout HeldPinned p calls
+helds-pinned = throughout HeldPinned held-pinned

@@ -1,0 +1,239 @@
+-- The sequential pool that goes with a pool. Its place i shows slot i: the page of the slot's frame with that frame, if the table maps the page
+-- there and the frame is not evicted. Its clients stand where the pool's stand. A client's grants are its open ones, and its wanted page once
+-- more where that is pinned and not answered yet: at 3, 20 and 21. A release moves the last grant into the freed place while `without` leaves
+-- the others in order, so `Mirrors` compares how often each page stands in a list of grants, and not the lists. Assumes nothing.
+use mathlib.Core.Path.{_≡_, refl, sym, ap, _∙_}
+use mathlib.Core.Logic.{_≢_}
+use mathlib.Core.Bool.{Bool, true, false, _&&_, _||_}
+use mathlib.Core.List.{List, [], _∷_}
+use Prim.Native.Nat.{ℕ, zero, suc, _+_, _≤_, _<_}
+use native.Mathlib.Nat.{le-of-suc-le-suc, not-suc-le-zero}
+use native.Mathlib.Decide.{decLt}
+use native.Mathlib.Omega.{arith}
+use lib.Dec.{eqb}
+use lib.ListN.{length, getD, List·getD-eq-default}
+use borrow.Author.Tests.{eqb-true, eqb-false, eq-eqb, ne-eqb}
+use Rattle.pool.specs.Choose.{choose}
+use Rattle.pool.specs.State.{none, evicted, clientCount, slot, pins, client, grantPage}
+use Rattle.pool.specs.declared.Pool.{Pool}
+use Rattle.pool.specs.declared.Client.{Client}
+use Rattle.laws.specs.Choices.{by-test, chosen, passed}
+use Rattle.invariant.proofs.Reached.{one, sumTo, mapped, pinsFound, Shape}
+use Rattle.invariant.proofs.After.{slot-past, pins-past, client-past}
+use Rattle.guarantee.specs.Sequential.{Place, empty, holds, Taker, Sequential, place, resting, taker, member, without}
+
+-- ---- places
+
+-- a frame and its entry, one more than the page or 0, as a place
+unfoldable pub shown : ℕ → ℕ → Place
+shown f zero = empty
+shown f (suc g) = holds g f
+
+unfoldable pub seen : Pool → ℕ → Place
+seen p f = choose (eqb (pins p f) evicted) empty (shown f (mapped p f))
+
+module _ (p : Pool) (f : ℕ) where
+  pub seen-evicted : pins p f ≡ evicted → seen p f ≡ empty
+  unfolding seen
+  seen-evicted e = chosen _ _ _ (eq-eqb (pins p f) evicted e)
+
+  pub seen-unmapped : mapped p f ≡ 0 → seen p f ≡ empty
+  unfolding seen shown
+  seen-unmapped e = by-test (λ (x : Place). x ≡ empty) (λ _. refl) (λ _. rw e refl)
+
+  pub seen-full : {g : ℕ} → pins p f ≢ evicted → mapped p f ≡ suc g → seen p f ≡ holds g f
+  unfolding seen shown
+  seen-full z e = passed _ _ _ (ne-eqb (pins p f) evicted z) ∙ rw e refl
+
+  -- a place that holds a page shows a resident frame
+  pub record Shows (g h : ℕ) : Type 0 where
+    pub live : pins p f ≢ evicted
+    pub entry : mapped p f ≡ suc g
+    pub frame : f ≡ h
+
+  pub seen-shows : {g h : ℕ} → seen p f ≡ holds g h → Shows g h
+  unfolding seen shown choose
+  seen-shows {g} {h} e = go (eqb (pins p f) evicted) (mapped p f) refl refl e
+    where
+      go : (t : Bool) (n : ℕ) → eqb (pins p f) evicted ≡ t → mapped p f ≡ n → choose t empty (shown f n) ≡ holds g h → Shows g h
+      go true n a b e = let z : _≡_ {A = ℕ} 0 1 = cc in absurd (omega arith)
+      go false zero a b e = let z : _≡_ {A = ℕ} 0 1 = cc in absurd (omega arith)
+      go false (suc n) a b e = record { live = eqb-false (pins p f) evicted a; entry = cc; frame = cc }
+
+-- a frame that is mapped as it was, and evicted as it was
+pub seen-same : (p q : Pool) (f : ℕ) → eqb (pins q f) evicted ≡ eqb (pins p f) evicted → mapped q f ≡ mapped p f → seen q f ≡ seen p f
+unfolding seen
+seen-same p q f a b = rw (a, b) refl
+
+-- ---- grants
+
+-- how often a page stands in a list
+unfoldable pub times : ℕ → List ℕ → ℕ
+times g [] = 0
+times g (x ∷ xs) = times g xs + one (eqb x g)
+
+pub not-member : (g : ℕ) (l : List ℕ) → times g l ≡ 0 → member g l ≡ false
+unfolding times member
+not-member g [] e = refl
+not-member g (x ∷ xs) e = go (eqb x g) e (not-member g xs)
+  where
+    go : (t : Bool) → times g xs + one t ≡ 0 → (times g xs ≡ 0 → member g xs ≡ false) → t || member g xs ≡ false
+    go true h ih = absurd (omega arith)
+    go false h ih = ih (omega arith)
+
+pub is-member : (g : ℕ) (l : List ℕ) → times g l ≢ 0 → member g l ≡ true
+unfolding times member
+is-member g [] z = absurd (z refl)
+is-member g (x ∷ xs) z = go (eqb x g) z (is-member g xs)
+  where
+    go : (t : Bool) → times g xs + one t ≢ 0 → (times g xs ≢ 0 → member g xs ≡ true) → t || member g xs ≡ true
+    go true h ih = refl
+    go false h ih = ih (λ e. h (omega arith))
+
+-- the list without a page that stands in it
+pub without-times : (g h : ℕ) (l : List ℕ) → times g l ≢ 0 → times h (without g l) + one (eqb g h) ≡ times h l
+unfolding times without choose
+without-times g h [] z = absurd (z refl)
+without-times g h (x ∷ xs) z = go (eqb x g) refl (without-times g h xs)
+  where
+    go : (t : Bool) → eqb x g ≡ t → (times g xs ≢ 0 → times h (without g xs) + one (eqb g h) ≡ times h xs)
+        → times h (choose t xs (x ∷ without g xs)) + one (eqb g h) ≡ times h xs + one (eqb x h)
+    go true e ih = rw (eqb-true x g e) refl
+    go false e ih = omega (arith, ih (λ w. z (omega (arith, ap one e))))
+
+pub without-length : (g : ℕ) (l : List ℕ) → times g l ≢ 0 → length (without g l) + 1 ≡ length l
+unfolding times without choose
+without-length g [] z = absurd (z refl)
+without-length g (x ∷ xs) z = go (eqb x g) refl (without-length g xs)
+  where
+    go : (t : Bool) → eqb x g ≡ t → (times g xs ≢ 0 → length (without g xs) + 1 ≡ length xs)
+        → length (choose t xs (x ∷ without g xs)) + 1 ≡ suc (length xs)
+    go true e ih = omega arith
+    go false e ih = omega (arith, ih (λ w. z (omega (arith, ap one e))))
+
+-- client c's open grants of a page
+unfoldable pub grantsOf : Pool → ℕ → ℕ → ℕ
+grantsOf p c g = sumTo (λ i. one (eqb (grantPage p c i) g)) (client p c .held)
+
+-- A client and its like in the sequential pool; x says how many open grants the client has on each page.
+pub record Taken (k : Client) (x : ℕ → ℕ) (t : Taker) : Type 0 where
+  pub stage : t .stage ≡ k .stage
+  pub wants : k .stage ≢ 0 → t .wants ≡ k .page
+  pub many : length (t .grants) ≡ k .held + one (pinsFound (k .stage))
+  pub grants : (g : ℕ) → times g (t .grants) ≡ x g + one (pinsFound (k .stage) && eqb (k .page) g)
+
+pub taken-as : {k : Client} {x y : ℕ → ℕ} {t : Taker} → ((g : ℕ) → y g ≡ x g) → Taken k x t → Taken k y t
+taken-as e h = record { stage = h .stage; wants = h .wants; many = h .many; grants = λ g. rw (e g) (h .grants g) }
+
+-- where no page is pinned for it, its grants are the open ones
+module _ {k : Client} {x : ℕ → ℕ} {t : Taker} (old : Taken k x t) (e : pinsFound (k .stage) ≡ false) where
+  pub open-many : length (t .grants) ≡ k .held
+  open-many = old .many ∙ rw e (omega arith)
+
+  pub open-grants : (g : ℕ) → times g (t .grants) ≡ x g
+  open-grants g = old .grants g ∙ rw e (omega arith)
+
+-- ---- the two pools
+
+pub record Mirrors (p : Pool) (q : Sequential) : Type 0 where
+  pub size : length (q .places) ≡ p .size
+  pub places : (i : ℕ) → place q i ≡ seen p (slot p i)
+  pub count : length (q .takers) ≡ clientCount p
+  pub takers : (c : ℕ) → Taken (client p c) (grantsOf p c) (taker q c)
+
+-- ---- one such sequential pool
+
+-- f 0 to f (n - 1); f (n - 1) to f 0
+unfoldable pub upTo : {A : Type 0} → (ℕ → A) → ℕ → List A
+upTo f zero = []
+upTo f (suc n) = f 0 ∷ upTo (λ i. f (suc i)) n
+
+unfoldable pub downFrom : (ℕ → ℕ) → ℕ → List ℕ
+downFrom f zero = []
+downFrom f (suc n) = f n ∷ downFrom f n
+
+unfoldable pub viewTaker : Client → List ℕ → Taker
+viewTaker k grants =
+    record {
+      stage = k .stage;
+      wants = choose (eqb (k .stage) 0) 0 (k .page);
+      grants = choose (pinsFound (k .stage)) (k .page ∷ grants) grants;
+    }
+
+unfoldable pub view : Pool → Sequential
+view p =
+    record {
+      places = upTo (λ i. seen p (slot p i)) (p .size);
+      takers = upTo (λ c. viewTaker (client p c) (downFrom (grantPage p c) (client p c .held))) (clientCount p);
+    }
+
+module _ {A : Type 0} where
+  upTo-length : (f : ℕ → A) (n : ℕ) → length (upTo f n) ≡ n
+  unfolding upTo
+  upTo-length f zero = refl
+  upTo-length f (suc n) = ap suc (upTo-length (λ i. f (suc i)) n)
+
+  upTo-in : (f : ℕ → A) (n i : ℕ) (d : A) → i < n → getD (upTo f n) i d ≡ f i
+  unfolding upTo
+  upTo-in f zero i d h = absurd (not-suc-le-zero h)
+  upTo-in f (suc n) zero d h = refl
+  upTo-in f (suc n) (suc i) d h = upTo-in (λ i. f (suc i)) n i d (le-of-suc-le-suc h)
+
+  -- a numbering that is d from n on
+  upTo-at : (f : ℕ → A) (n : ℕ) (d : A) → ((i : ℕ) → n ≤ i → f i ≡ d) → (i : ℕ) → getD (upTo f n) i d ≡ f i
+  upTo-at f n d past i = go (decLt i n)
+    where
+      go : Dec (i < n) → getD (upTo f n) i d ≡ f i
+      go (yes h) = upTo-in f n i d h
+      go (no h) = List·getD-eq-default (upTo f n) d (omega (arith, upTo-length f n)) ∙ sym (past i (omega arith))
+
+down-times : (f : ℕ → ℕ) (n g : ℕ) → times g (downFrom f n) ≡ sumTo (λ i. one (eqb (f i) g)) n
+unfolding downFrom times sumTo
+down-times f zero g = refl
+down-times f (suc n) g = ap (λ (x : ℕ). x + one (eqb (f n) g)) (down-times f n g)
+
+down-length : (f : ℕ → ℕ) (n : ℕ) → length (downFrom f n) ≡ n
+unfolding downFrom
+down-length f zero = refl
+down-length f (suc n) = ap suc (down-length f n)
+
+one-and : (a b : Bool) → a ≡ false → one (a && b) ≡ 0
+one-and a b e = rw e refl
+
+view-taken : (k : Client) (l : List ℕ) → length l ≡ k .held → Taken k (λ g. times g l) (viewTaker k l)
+unfolding viewTaker times
+view-taken k l n =
+    record {
+      stage = refl;
+      wants = λ z. passed _ _ _ (ne-eqb (k .stage) 0 z);
+      many = by-test (λ (x : List ℕ). length x ≡ k .held + one (pinsFound (k .stage))) (λ e. omega (arith, ap one e)) (λ e. omega (arith, ap one e));
+      grants =
+          λ g. by-test (λ (x : List ℕ). times g x ≡ times g l + one (pinsFound (k .stage) && eqb (k .page) g))
+          (λ e. rw e refl) (λ e. omega (arith, one-and (pinsFound (k .stage)) (eqb (k .page) g) e));
+    }
+
+pub none-evicted : (p : Pool) → Shape p → pins p none ≡ evicted
+none-evicted p s = pins-past p none (omega (arith, s .size-high, s .clients-high))
+
+pub mirrors-view : (p : Pool) → Shape p → Mirrors p (view p)
+unfolding view grantsOf viewTaker choose downFrom
+mirrors-view p s =
+    record {
+      size = upTo-length _ (p .size);
+      places =
+          upTo-at (λ i. seen p (slot p i)) (p .size) empty
+          (λ i h. ap (seen p) (slot-past p i h) ∙ seen-evicted p none (none-evicted p s));
+      count = upTo-length _ (clientCount p);
+      takers =
+          λ c. rw (upTo-at taken (clientCount p) (resting []) past c)
+          (taken-as (λ g. sym (down-times (grantPage p c) _ g)) (view-taken (client p c) (grants c) (down-length (grantPage p c) _)));
+    }
+  where
+    grants : ℕ → List ℕ
+    grants c = downFrom (grantPage p c) (client p c .held)
+
+    taken : ℕ → Taker
+    taken c = viewTaker (client p c) (grants c)
+
+    past : (c : ℕ) → clientCount p ≤ c → taken c ≡ resting []
+    past c h = rw (client-past p c h) refl

@@ -1,0 +1,314 @@
+-- A move of the pool as a step of the sequential pool that mirrors it. Each stage is one of six kinds of move: it is quiet, adds a grant, answers
+-- one, admits a page, drops a page, or refuses; and each write is one of those that leave every place as it was, or change one. Assumes nothing.
+use mathlib.Core.Path.{_≡_, refl, sym, ap, _∙_}
+use mathlib.Core.Logic.{_≢_, _⊎_, inl, inr}
+use mathlib.Core.Bool.{Bool, true, false, _&&_}
+use mathlib.Core.List.{List, [], _∷_}
+use Prim.Native.Nat.{ℕ, suc, _+_, _≤_, _<_}
+use native.Mathlib.Decide.{ℕ-discrete}
+use native.Mathlib.Omega.{arith}
+use lib.Dec.{T, eqb}
+use lib.ListN.{length, getD, set, length-set}
+use lib.Seq.{getD-set-same, getD-set-other}
+use borrow.Author.Tests.{ne-eqb}
+use Rattle.pool.specs.State.{none, evicted, pinned, clientCount, total, slot, pins, entryFrame, client, grantPage, grantFrame}
+use Rattle.pool.specs.Apply.{apply}
+use Rattle.pool.specs.declared.Pool.{Pool}
+use Rattle.pool.specs.declared.Client.{Client}
+use Rattle.pool.specs.declared.Move.{Move}
+use Rattle.pool.specs.declared.Answer.the-variants.{Refused}
+use Rattle.pool.specs.declared.Counted.{Counted}
+use Rattle.pool.specs.declared.Counted.the-variants.{Nothing, Drop}
+use Rattle.pool.specs.declared.GrantChange.the-variants.{Same}
+use Rattle.pool.specs.declared.Write.the-variants.{PutPins, PutEntry}
+use Rattle.invariant.proofs.Reached.{Reached, one, mapped, pinsFound, Seated, Live, Placed, Orphan}
+use Rattle.invariant.proofs.After.{client-same, client-other, pins-in}
+use Rattle.invariant.proofs.Sums.{sum-zero}
+use Rattle.invariant.proofs.Facts.{own-pins, grant-live}
+use Rattle.invariant.proofs.Grants.{Granting, keeps, opens}
+use Rattle.invariant.proofs.Table.{suc-not, some-suc}
+use Rattle.guarantee.specs.Sequential.{Place, empty, holds, Taker, Sequential, place, resting, taker, member, Absent, Unused, adding, admitting, answering, StepRule, adds, admits, drops, answers, moves, refuses}
+use Rattle.guarantee.proofs.Mirror.{seen, seen-unmapped, seen-full, not-member, grantsOf, Taken, open-many, open-grants, taken-as, Mirrors, none-evicted}
+use Rattle.guarantee.proofs.Takers.{Outward, outward, working, gotten, denied, quiet, quiet-means, Stays, Gets, rests, stays, pins-more, answered, admitted}
+use Rattle.guarantee.proofs.Pages.{pages-other, pages-kept, pages-more}
+use Rattle.guarantee.proofs.Frames.{same-frame, live-found, found-pinned}
+use Rattle.guarantee.proofs.Places.{there, shows}
+use Rattle.guarantee.proofs.Weights.{full, kept-set, gained, lost, Weighs}
+use Rattle.guarantee.proofs.Shown.{Kept, Changed, silent, as-was, pins-put, pins-out, entry-new}
+
+-- the move is a step of the sequential pool, and the two pools after it are alike again
+pub record Simulates (p : Pool) (c : ℕ) (q : Sequential) (m : Move) : Type 0 where
+  pub places : List Place
+  pub next : Taker
+  pub rule : StepRule q (taker q c) (m .answer) places next
+  pub weighs : Weighs (m .counted) (q .places) places
+  pub mirrors : Mirrors (apply p c m) (record { places = places; takers = set (q .takers) c next })
+
+-- no pool from setup meets the second
+pub data Stepped (p : Pool) (c : ℕ) (q : Sequential) (m : Move) : Type 0 where
+  goes : Simulates p c q m → Stepped p c q m
+  stops : m .answer ≡ Refused 8 → Stepped p c q m
+
+-- ---- the two pools after a move
+
+-- client c of pool p acts, and q mirrors p
+pub record Acting (p : Pool) (c : ℕ) (q : Sequential) : Type 0 where
+  pub here : c < clientCount p
+  pub reached : Reached p
+  pub mirror : Mirrors p q
+
+module _ {p : Pool} {c : ℕ} {q : Sequential} (acting : Acting p c q) where
+  here : c < clientCount p
+  here = acting .here
+
+  r : Reached p
+  r = acting .reached
+
+  mirror : Mirrors p q
+  mirror = acting .mirror
+
+  abbrev pub k : Client
+  k = client p c
+
+  abbrev t : Taker
+  t = taker q c
+
+  abbrev After : Move → List Place → Taker → Type 0
+  After m places next = Mirrors (apply p c m) (record { places = places; takers = set (q .takers) c next })
+
+  pub taken : Taken k (grantsOf p c) t
+  taken = mirror .takers c
+
+  -- the pools after a move are alike if the places and the acting client are
+  module _ (m : Move) (next : Taker) (how : Granting p c m) (new : Taken (m .next) (grantsOf (apply p c m) c) next) where
+    takers-now : (d : ℕ) → Taken (client (apply p c m) d) (grantsOf (apply p c m) d) (getD (set (q .takers) c next) d (resting []))
+    takers-now d = go (ℕ-discrete d c)
+      where
+        go : Dec (d ≡ c) → Taken (client (apply p c m) d) (grantsOf (apply p c m) d) (getD (set (q .takers) c next) d (resting []))
+        go (yes e) = rw (e, client-same p c m (r .shape) here, getD-set-same (q .takers) c next (resting []) (omega (arith, mirror .count))) new
+        go (no z) =
+            rw (client-other p c m (r .shape) d z, getD-set-other (q .takers) c d next (resting []) z)
+            (taken-as (pages-other p c m (r .shape) here (r .ranges .held-ok) how d z) (mirror .takers d))
+
+    with-places : (places : List Place) → length places ≡ length (q .places)
+        → ((i : ℕ) → getD places i empty ≡ seen (apply p c m) (slot (apply p c m) i)) → After m places next
+    unfolding apply
+    with-places places n e =
+        record { size = n ∙ mirror .size; places = e; count = length-set (q .takers) c next ∙ mirror .count; takers = takers-now }
+
+    pub same-places : Kept p c m → After m (q .places) next
+    same-places same = with-places (q .places) refl (λ i. mirror .places i ∙ sym (same i))
+
+    one-place : {j : ℕ} {x : Place} → Changed p c m j x → After m (set (q .places) j x) next
+    one-place {j} {x} h = with-places (set (q .places) j x) (length-set (q .places) j x) (λ i. at i (ℕ-discrete i j))
+      where
+        at : (i : ℕ) → Dec (i ≡ j) → getD (set (q .places) j x) i empty ≡ seen (apply p c m) (slot (apply p c m) i)
+        at i (yes e) = rw e (getD-set-same (q .places) j x empty (omega (arith, mirror .size, h .inside)) ∙ sym (h .there))
+        at i (no z) = getD-set-other (q .places) j i x empty z ∙ (mirror .places i ∙ sym (h .others i z))
+
+  -- ---- the acting client after a move
+
+  few : (d : ℕ) → client p d .held ≤ 8
+  few = r .ranges .held-ok
+
+  module _ (m : Move) (j : ℕ) (u : Counted) (o : outward m ≡ working k j u) where
+    same-held : m .next .held ≡ k .held
+    same-held = ap (λ (x : Outward). x .held) o
+
+    keeping : Granting p c m
+    keeping = keeps (ap (λ (x : Outward). x .grants) o) same-held
+
+    works-on : k .stage ≢ 0 → Stays k (m .next) (grantsOf p c) (grantsOf (apply p c m) c) j
+    works-on busy =
+        record {
+          works = busy;
+          at-stage = ap (λ (x : Outward). x .stage) o;
+          same-page = ap (λ (x : Outward). x .page) o;
+          same-held = same-held;
+          same-grants = pages-kept p c m (r .shape) here few (ap (λ (x : Outward). x .grants) o) same-held;
+        }
+
+  module _ (m : Move) (f : ℕ) (u : Counted) (o : outward m ≡ gotten k f u) (room : k .held < 8) where
+    more-held : m .next .held ≡ k .held + 1
+    more-held = ap (λ (x : Outward). x .held) o
+
+    opening : Granting p c m
+    opening = opens (k .page) f (ap (λ (x : Outward). x .grants) o) more-held room
+
+    gets : Gets k (m .next) (grantsOf p c) (grantsOf (apply p c m) c)
+    gets =
+        record {
+          at-rest = ap (λ (x : Outward). x .stage) o;
+          more-held = more-held;
+          more-grants = pages-more p c m (r .shape) here few (k .page) f (ap (λ (x : Outward). x .grants) o) more-held room;
+        }
+
+  -- ---- the six kinds of move
+
+  module _ (busy : k .stage ≢ 0) where
+    pub quietly : (i j : ℕ) → k .stage ≡ i → {m : Move} → outward m ≡ working k j Nothing → T (quiet i j) → Kept p c m → Stepped p c q m
+    quietly i j e {m} o h same =
+        let w = quiet-means i j h in
+        goes (record {
+          places = q .places;
+          next = record { stage = j; wants = t .wants; grants = t .grants };
+          rule = rw (ap (λ (x : Outward). x .answer) o) (moves {j = j} (rw (taken .stage ∙ e) (w .still)) (w .low) (w .high));
+          weighs = rw (ap (λ (x : Outward). x .counted) o) refl;
+          mirrors = same-places m _ (keeping m j Nothing o) (stays taken (works-on m j Nothing o busy) (rw e (w .pins-alike))) same;
+        })
+
+    pub calmly : (i j : ℕ) → k .stage ≡ i → {m : Move} → outward m ≡ working k j Nothing → T (quiet i j) → T (silent (m .write)) → Stepped p c q m
+    calmly i j e {m} o h s = quietly i j e o h (as-was p c m r s)
+
+    pub adds-one : (i j : ℕ) → k .stage ≡ i → T (adding i j) → pinsFound i ≡ false → pinsFound j ≡ true → Live p k → pins p (k .found) ≢ evicted
+        → {m : Move} → outward m ≡ working k j Nothing → m .write ≡ PutPins (k .found) (pins p (k .found) + 1) → Stepped p c q m
+    adds-one i j e h pi pj know live {m} o w =
+        let n : ℕ = pins p (k .found) in
+        goes (record {
+          places = q .places;
+          next = record { stage = j; wants = t .wants; grants = t .wants ∷ t .grants };
+          rule =
+              rw (ap (λ (x : Outward). x .answer) o)
+              (adds {j = j} {f = k .found} (rw (taken .stage ∙ e) h) (rw (taken .wants busy) (there r mirror (know .0) live (know .1 live))));
+          weighs = rw (ap (λ (x : Outward). x .counted) o) refl;
+          mirrors =
+              same-places m _ (keeping m j Nothing o) (pins-more taken (works-on m j Nothing o busy) pj (rw e pi))
+              (pins-put p c m r (k .found) (n + 1) w (pins-in p (k .found) live) (inl (ne-eqb (n + 1) 0 (λ z. omega arith) ∙ sym (ne-eqb n 0 live))));
+        })
+
+    pub answers-one : (i : ℕ) (u : Counted) → k .stage ≡ i → T (answering i) → pinsFound i ≡ true → gained u ≡ 0 → lost u ≡ 0 → Live p k → k .held < 8
+        → {m : Move} → outward m ≡ gotten k (k .found) u → T (silent (m .write)) → Stepped p c q m
+    answers-one i u e h pi no-gain no-loss know room {m} o s =
+        let live : pins p (k .found) ≢ evicted = λ z. omega (arith, found-pinned p r c (rw e pi)) in
+        goes (record {
+          places = q .places;
+          next = resting (t .grants);
+          rule =
+              rw (ap (λ (x : Outward). x .answer) o)
+              (answers {f = k .found} (rw (taken .stage ∙ e) h) (rw (taken .wants busy) (there r mirror (know .0) live (know .1 live))));
+          weighs = rw (ap (λ (x : Outward). x .counted) o, no-gain, no-loss) refl;
+          mirrors = same-places m _ (opening m (k .found) u o room) (answered taken (gets m (k .found) u o room) (rw e pi)) (as-was p c m r s);
+        })
+
+    -- the wanted page's frames are evicted, and so is the frame of the entry that the own frame gets
+    pub admits-one : (i : ℕ) (u : Counted) → k .stage ≡ i → T (admitting i) → pinsFound i ≡ false → gained u ≡ 1 → lost u ≡ 0 → Placed p k → k .held < 8
+        → ((f : ℕ) → f ≢ none → mapped p f ≡ suc (k .page) → pins p f ≡ evicted) → (j : ℕ) → j < total p → pins p (entryFrame p j) ≡ evicted
+        → {m : Move} → outward m ≡ gotten k (k .own) u → m .write ≡ PutEntry j (k .page) (k .own) → Stepped p c q m
+    admits-one i u e h pi gain no-loss own room gone j low out {m} o w =
+        goes (record {
+          places = set (q .places) s x;
+          next = resting (t .wants ∷ t .grants);
+          rule = rw (ap (λ (x : Outward). x .answer) o) (admits (rw (taken .stage ∙ e) h) absent unused s inside vacant);
+          weighs = rw (ap (λ (x : Outward). x .counted) o, gain, no-loss) (omega (arith, kept-set (q .places) s x inside, ap full vacant));
+          mirrors = one-place m _ (opening m (k .own) u o room) (admitted taken (gets m (k .own) u o room) busy (rw e pi)) changed;
+        })
+      where
+        s : ℕ
+        s = own .1 .0
+
+        x : Place
+        x = holds (t .wants) (k .own)
+
+        unmapped : mapped p (k .own) ≡ 0
+        unmapped = r .private .own-unmapped c (own .0)
+
+        changed : Changed p c m s x
+        changed =
+            rw (taken .wants busy)
+            (entry-new p c m r j (k .page) (k .own) w low out (own .0) unmapped (λ z. omega (arith, own-pins p r c (own .0))) s (own .1 .1))
+
+        inside : s < length (q .places)
+        inside = omega (arith, mirror .size, changed .inside)
+
+        vacant : place q s ≡ empty
+        vacant = mirror .places s ∙ (ap (seen p) (own .1 .1) ∙ seen-unmapped p (k .own) unmapped)
+
+        absent : Absent q (t .wants)
+        absent f at =
+            let v = shows r mirror at in
+            v .live (gone (slot p (at .0)) (λ z. v .live (ap (pins p) z ∙ none-evicted p (r .shape))) (v .entry ∙ ap suc (taken .wants busy)))
+
+        unused : Unused q (k .own)
+        unused g at = let v = shows r mirror at in suc-not (v .entry) (ap (mapped p) (v .frame) ∙ unmapped)
+
+    pub refuses-one : (i : ℕ) → k .stage ≡ i → pinsFound i ≡ false → {m : Move} → outward m ≡ denied k → T (silent (m .write)) → Stepped p c q m
+    refuses-one i e pi {m} o s =
+        goes (record {
+          places = q .places;
+          next = resting (t .grants);
+          rule = rw (ap (λ (x : Outward). x .answer) o) refuses;
+          weighs = rw (ap (λ (x : Outward). x .counted) o) refl;
+          mirrors =
+              same-places m _ (keeps grants held)
+              (rests (ap (λ (x : Outward). x .stage) o) (open-many taken pk ∙ sym held)
+              (λ g. open-grants taken pk g ∙ sym (pages-kept p c m (r .shape) here few grants held g))) (as-was p c m r s);
+        })
+      where
+        grants : m .grants ≡ Same
+        grants = ap (λ (x : Outward). x .grants) o
+
+        held : m .next .held ≡ k .held
+        held = ap (λ (x : Outward). x .held) o
+
+        pk : pinsFound (k .stage) ≡ false
+        pk = rw e pi
+
+    -- a frame with no pin: its page has no grants
+    unheld : (f g : ℕ) → f ≢ none → pins p f ≡ pinned 0 → mapped p f ≡ suc g → (d : ℕ) → member g (taker q d .grants) ≡ false
+    unfolding grantsOf
+    unheld f g z unpinned e d =
+        let none-open = sum-zero (λ i. one (eqb (grantPage p d i) g)) (client p d .held) (λ i h. ap one (ne-eqb _ _ (no-grant i h))) in
+        not-member g (taker q d .grants) (mirror .takers d .grants g ∙ omega (arith, wanted (pinsFound (client p d .stage)) refl))
+      where
+        only : (h : ℕ) → h ≢ none → pinned 1 ≤ pins p h → mapped p h ≡ suc g → ⊥
+        only h n two w =
+            let same : pins p h ≡ pins p f = ap (pins p) (same-frame p r h f g n z w e) in
+            omega arith
+
+        no-grant : (i : ℕ) → i < client p d .held → grantPage p d i ≢ g
+        no-grant i h w =
+            let n = r .outline .grant-named d i h in
+            only (grantFrame p d i) n (grant-live p r d i n) (r .outline .granted d i n ∙ ap suc w)
+
+        wanted : (b : Bool) → pinsFound (client p d .stage) ≡ b → one (b && eqb (client p d .page) g) ≡ 0
+        wanted false _ = refl
+        wanted true s =
+            let two = found-pinned p r d s in
+            let know = live-found p r d s in
+            ap one (ne-eqb _ _ (λ w. only (client p d .found) (know .0) two (know .1 (λ x. omega arith) ∙ ap suc w)))
+
+    pub drops-one : k .stage ≡ 14 → k .victim ≢ none → pins p (k .victim) ≡ pinned 0 → Seated p (k .victim)
+        → {m : Move} → outward m ≡ working k 15 Drop → m .write ≡ PutPins (k .victim) evicted → Stepped p c q m
+    drops-one e z unpinned seat {m} o w = by-known (r .outline .known f z live)
+      where
+        f : ℕ
+        f = k .victim
+
+        live : pins p f ≢ evicted
+        live n = omega arith
+
+        s : ℕ
+        s = seat .0
+
+        changed : Changed p c m s empty
+        changed = pins-out p c m r f evicted w refl (pins-in p f live) z s (seat .1)
+
+        drop : (g : ℕ) → mapped p f ≡ suc g → Stepped p c q m
+        drop g n =
+            let holding : place q s ≡ holds g f = mirror .places s ∙ (ap (seen p) (seat .1) ∙ seen-full p f live n) in
+            goes (record {
+              places = set (q .places) s empty;
+              next = record { stage = 15; wants = t .wants; grants = t .grants };
+              rule = rw (ap (λ (x : Outward). x .answer) o) (drops {j = 15} (rw (taken .stage ∙ e) tt) s holding (unheld f g z unpinned n));
+              weighs =
+                  rw (ap (λ (x : Outward). x .counted) o)
+                  (omega (arith, kept-set (q .places) s empty (omega (arith, mirror .size, changed .inside)), ap full holding));
+              mirrors = one-place m _ (keeping m 15 Drop o) (stays taken (works-on m 15 Drop o busy) (rw e refl)) changed;
+            })
+
+        by-known : (mapped p f ≢ 0) ⊎ (((d : ℕ) × (client p d .own ≡ f)) ⊎ Orphan p f) → Stepped p c q m
+        by-known (inl n) = let g = some-suc (mapped p f) n in drop (g .0) (g .1)
+        by-known (inr (inl d)) =
+            let two : pins p f ≡ pinned 1 = rw (d .1) at (own-pins p r (d .0) (λ n. z (sym (d .1) ∙ n))) in
+            absurd (omega arith)
+        by-known (inr (inr lone)) = absurd (lone .no-slot s (seat .1))

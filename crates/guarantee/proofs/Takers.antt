@@ -1,0 +1,128 @@
+-- What a move shows of itself, and what the acting client of the sequential pool has after it. Assumes nothing.
+use mathlib.Core.Path.{_≡_, refl, sym, _∙_}
+use mathlib.Core.Logic.{_≢_}
+use mathlib.Core.Bool.{Bool, true, false, not, _&&_, _||_}
+use mathlib.Core.List.{List, _∷_}
+use Prim.Native.Nat.{ℕ, _+_, _≤_}
+use native.Mathlib.Omega.{arith}
+use lib.Dec.{T, eqb, leb}
+use lib.ListN.{length}
+use borrow.Author.Tests.{leb-true}
+use Rattle.pool.specs.declared.Client.{Client}
+use Rattle.pool.specs.declared.Move.{Move}
+use Rattle.pool.specs.declared.Answer.{Answer}
+use Rattle.pool.specs.declared.Answer.the-variants.{Working, Granted, Refused}
+use Rattle.pool.specs.declared.Counted.{Counted}
+use Rattle.pool.specs.declared.Counted.the-variants.{Refusal}
+use Rattle.pool.specs.declared.GrantChange.{GrantChange}
+use Rattle.pool.specs.declared.GrantChange.the-variants.{Same, Open}
+use Rattle.invariant.proofs.Reached.{one, pinsFound}
+use Rattle.invariant.proofs.Facts.{T-true}
+use Rattle.guarantee.specs.Sequential.{Taker, resting, adding, dropping}
+use Rattle.guarantee.proofs.Mirror.{times, Taken, open-many, open-grants}
+
+-- ---- what a move shows of itself
+
+pub record Outward : Type 0 where
+  pub answer : Answer
+  pub counted : Counted
+  pub grants : GrantChange
+  pub stage : ℕ
+  pub page : ℕ
+  pub held : ℕ
+
+abbrev pub outward : Move → Outward
+outward m = record { answer = m .answer; counted = m .counted; grants = m .grants; stage = m .next .stage; page = m .next .page; held = m .next .held }
+
+-- the client goes on to stage j; it is granted frame f; it is refused
+abbrev pub working : Client → ℕ → Counted → Outward
+working k j u = record { answer = Working j; counted = u; grants = Same; stage = j; page = k .page; held = k .held }
+
+abbrev pub gotten : Client → ℕ → Counted → Outward
+gotten k f u = record { answer = Granted f; counted = u; grants = Open (k .held) (k .page) f; stage = 0; page = 0; held = k .held + 1 }
+
+abbrev pub denied : Client → Outward
+denied k = record { answer = Refused 15; counted = Refusal; grants = Same; stage = 0; page = 0; held = k .held }
+
+-- ---- the steps that move no page and add no grant
+
+abbrev pub alike : Bool → Bool → Bool
+alike true b = b
+alike false b = not b
+
+abbrev pub quiet : ℕ → ℕ → Bool
+quiet i j = not (adding i j || dropping i j) && (leb 1 j && (leb j 23 && alike (pinsFound i) (pinsFound j)))
+
+pub record Quiet (i j : ℕ) : Type 0 where
+  pub still : T (not (adding i j || dropping i j))
+  pub low : 1 ≤ j
+  pub high : j ≤ 23
+  pub pins-alike : pinsFound j ≡ pinsFound i
+
+pub quiet-means : (i j : ℕ) → T (quiet i j) → Quiet i j
+quiet-means i j h =
+    let a = T-both (not (adding i j || dropping i j)) _ h in
+    let b = T-both (leb 1 j) _ (a .1) in
+    let d = T-both (leb j 23) _ (b .1) in
+    record { still = a .0; low = leb-true 1 j (T-true _ (b .0)); high = leb-true j 23 (T-true _ (d .0)); pins-alike = same (pinsFound i) (pinsFound j) (d .1) }
+  where
+    T-both : (a b : Bool) → T (a && b) → T a × T b
+    T-both true b h = (tt, h)
+    T-both false b h = absurd h
+
+    same : (a b : Bool) → T (alike a b) → b ≡ a
+    same true true h = refl
+    same true false h = absurd h
+    same false true h = absurd h
+    same false false h = refl
+
+-- ---- a client n that was k, of which x and y say how many open grants it had and has on each page
+
+pub record Stays (k n : Client) (x y : ℕ → ℕ) (j : ℕ) : Type 0 where
+  pub works : k .stage ≢ 0
+  pub at-stage : n .stage ≡ j
+  pub same-page : n .page ≡ k .page
+  pub same-held : n .held ≡ k .held
+  pub same-grants : (g : ℕ) → y g ≡ x g
+
+pub record Gets (k n : Client) (x y : ℕ → ℕ) : Type 0 where
+  pub at-rest : n .stage ≡ 0
+  pub more-held : n .held ≡ k .held + 1
+  pub more-grants : (g : ℕ) → y g ≡ x g + one (eqb (k .page) g)
+
+-- at rest, with these grants
+pub rests : {n : Client} {y : ℕ → ℕ} {l : List ℕ} → n .stage ≡ 0 → length l ≡ n .held → ((g : ℕ) → times g l ≡ y g) → Taken n y (resting l)
+rests s a e = record { stage = sym s; wants = λ z. absurd (z s); many = rw s (omega (arith, a)); grants = λ g. rw s (omega (arith, e g)) }
+
+module _ {k n : Client} {x y : ℕ → ℕ} {t : Taker} (old : Taken k x t) where
+  -- at stage j, with the grants it had
+  pub stays : {j : ℕ} → Stays k n x y j → pinsFound j ≡ pinsFound (k .stage) → Taken n y (record { stage = j; wants = t .wants; grants = t .grants })
+  stays h pf =
+      record {
+        stage = sym (h .at-stage);
+        wants = λ _. old .wants (h .works) ∙ sym (h .same-page);
+        many = rw (h .at-stage, pf, h .same-held) (old .many);
+        grants = λ g. rw (h .at-stage, pf, h .same-page, h .same-grants g) (old .grants g);
+      }
+
+  -- at stage j, with its page pinned
+  pub pins-more : {j : ℕ} → Stays k n x y j → pinsFound j ≡ true → pinsFound (k .stage) ≡ false
+      → Taken n y (record { stage = j; wants = t .wants; grants = t .wants ∷ t .grants })
+  unfolding times
+  pins-more h pj pk =
+      record {
+        stage = sym (h .at-stage);
+        wants = λ _. old .wants (h .works) ∙ sym (h .same-page);
+        many = rw (h .at-stage, pj, h .same-held) (omega (arith, open-many old pk));
+        grants = λ g. rw (h .at-stage, pj, h .same-page, h .same-grants g, old .wants (h .works)) (omega (arith, open-grants old pk g));
+      }
+
+  -- granted: the page was pinned for it already; it was not
+  pub answered : Gets k n x y → pinsFound (k .stage) ≡ true → Taken n y (resting (t .grants))
+  answered h pk = rests (h .at-rest) (old .many ∙ rw (pk, h .more-held) refl) (λ g. old .grants g ∙ rw (pk, h .more-grants g) refl)
+
+  pub admitted : Gets k n x y → k .stage ≢ 0 → pinsFound (k .stage) ≡ false → Taken n y (resting (t .wants ∷ t .grants))
+  unfolding times
+  admitted h busy pk =
+      rests (h .at-rest) (omega (arith, open-many old pk, h .more-held))
+      (λ g. rw (h .more-grants g, old .wants busy) (omega (arith, open-grants old pk g)))

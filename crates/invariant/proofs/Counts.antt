@@ -1,0 +1,304 @@
+-- A frame is evicted and nobody claims it, or its pins are the number of claims on it, or it is an orphan: a move changes the claims of its own
+-- client alone, and a frame's pins together with them. Assumes nothing.
+use mathlib.Core.Path.{_≡_, refl, sym, ap, subst, _∙_}
+use mathlib.Core.Logic.{_≢_, _⊎_, inl, inr}
+use mathlib.Core.Bool.{Bool, true, false, not, _&&_}
+use Prim.Native.Nat.{ℕ, suc, _+_, _-_, _≤_, _<_}
+use native.Mathlib.Omega.{arith}
+use native.Mathlib.Decide.{ℕ-discrete}
+use lib.Dec.{T, eqb}
+use borrow.Author.Tests.{eq-eqb}
+use Rattle.pool.specs.State.{none, evicted, pinned, clientCount, total, pins, client, grantFrame}
+use Rattle.pool.specs.Frames.{referenced, freeFrame}
+use Rattle.pool.specs.Grants.{grantOf}
+use Rattle.pool.specs.Moves.{refused15}
+use Rattle.pool.specs.Apply.{stored, slotsAfter, pinsAfter, entryPagesAfter, entryFramesAfter, apply}
+use Rattle.pool.specs.declared.Pool.{Pool}
+use Rattle.pool.specs.declared.Client.{Client}
+use Rattle.pool.specs.declared.Move.{Move}
+use Rattle.pool.specs.declared.GrantChange.the-variants.{Same, Open}
+use Rattle.invariant.proofs.Reached.{Reached, Counts, Knows, one, grantsOn, claims, claimed, pinsFound, unplaced, ownless, Orphan, Balance, gone, held, orphan}
+use Rattle.invariant.proofs.After.{client-same, client-other, all-clients, slot-kept, pins-kept, pins-here, pins-else}
+use Rattle.invariant.proofs.Sums.{one-is, one-not, sum-zero, sum-put, sum-has}
+use Rattle.invariant.proofs.Searches.{Fresh, fresh-means, free-found, grantOf-found, grant-in}
+use Rattle.invariant.proofs.Table.{mapped-kept}
+use Rattle.invariant.proofs.Grants.{grantsOn-none, grantsOn-other, grantsOn-keeps, grantsOn-opens, grantsOn-ends}
+use Rattle.invariant.proofs.Never.{know}
+use Rattle.invariant.proofs.Facts.{none-own, foreign-claims, orphan-claims, own-pins, grant-live, never, T-false}
+use Rattle.invariant.proofs.Steps.{imp-mp}
+use Rattle.invariant.proofs.Edges.{Edge, on, found1, found18, lost2, lost22, pins2, pins19, gets3, gets21, takes, fills, swaps, gives-up, drops, removes, admits, revives, evicts20, evicts23, begins, releases}
+use Rattle.invariant.proofs.Effects.{no-open, untouched, Effect}
+use Rattle.invariant.proofs.Next.{slot-now, all-grants}
+use Rattle.invariant.proofs.Private.{Secret, secret-unmapped, secret-unfound, secret-ungranted}
+
+-- ---- what a move has to show of each frame: how its pins go from a to b and its client's claims from v to w
+
+data Change (p q : Pool) (f a b v w : ℕ) : Type 0 where
+  idle : b ≡ a → w ≡ v → Change p q f a b v w
+  shift : (Orphan p f → ⊥) → a ≢ evicted → b ≢ evicted → b + v ≡ a + w → Change p q f a b v w
+  evict : a ≢ evicted → b ≡ evicted → a + w ≡ suc v → Change p q f a b v w
+  revive : claimed p f ≡ 0 → b ≡ pinned 1 → w ≡ 1 → Change p q f a b v w
+  strand : Orphan q f → Change p q f a b v w
+
+-- all claims go from s to t
+balance-next : (p q : Pool) (f a b v w s t : ℕ) → claimed p f ≡ s → Balance p f a s → Change p q f a b v w → t + v ≡ s + w → v ≤ s
+    → (Orphan p f → Orphan q f ⊎ ((s ≡ 0) × (1 ≤ w))) → Balance q f b t
+balance-next p q f a b v w s t e h (strand o) n l j = orphan o
+balance-next p q f a b v w s t e (gone x y) (idle x₁ y₁) n l j = gone (omega arith) (omega arith)
+balance-next p q f a b v w s t e (gone x y) (shift _ z _ _) n l j = absurd (z x)
+balance-next p q f a b v w s t e (gone x y) (evict z _ _) n l j = absurd (z x)
+balance-next p q f a b v w s t e (gone x y) (revive x₁ y₁ z) n l j = held (omega arith)
+balance-next p q f a b v w s t e (held h) (idle x y) n l j = held (omega arith)
+balance-next p q f a b v w s t e (held h) (shift _ x y z) n l j = held (omega arith)
+balance-next p q f a b v w s t e (held h) (evict x y z) n l j = gone y (omega arith)
+balance-next p q f a b v w s t e (held h) (revive x y z) n l j = held (omega arith)
+balance-next p q f a b v w s t e (orphan o) (idle x y) n l j = elim (j o) [ inl r ↦ orphan r | inr r ↦ held (omega (arith, r)) ]
+balance-next p q f a b v w s t e (orphan o) (shift u x y z) n l j = absurd (u o)
+balance-next p q f a b v w s t e (orphan o) (evict x y z) n l j = elim (j o) [ inl r ↦ orphan r | inr r ↦ gone y (omega (arith, r)) ]
+balance-next p q f a b v w s t e (orphan o) (revive x y z) n l j = held (omega arith)
+
+module _ (p : Pool) (c : ℕ) (here : c < clientCount p) (r : Reached p) (m : Move) (x : Effect p c m) where
+  abbrev k : Client
+  k = client p c
+
+  abbrev q : Pool
+  q = apply p c m
+
+  few : (d : ℕ) → client p d .held ≤ 8
+  few = r .ranges .held-ok
+
+  -- ---- the claims after a move
+
+  claims-next : (f : ℕ) → claims q c f ≡ grantsOn q c f + one (pinsFound (m .next .stage) && eqb (m .next .found) f) + one (eqb (m .next .own) f)
+  claims-next f = ap (λ (n : Client). grantsOn q c f + one (pinsFound (n .stage) && eqb (n .found) f) + one (eqb (n .own) f)) (client-same p c m (r .shape) here)
+
+  claims-other : (d f : ℕ) → d ≢ c → claims q d f ≡ claims p d f
+  claims-other d f o =
+      omega (
+        arith,
+        grantsOn-other p c m (r .shape) here few (x .grants) d o f,
+        ap (λ (n : Client). one (pinsFound (n .stage) && eqb (n .found) f) + one (eqb (n .own) f)) (client-other p c m (r .shape) d o),
+      )
+
+  claimed-next : (f : ℕ) → claimed q f + claims p c f ≡ claimed p f + claims q c f
+  unfolding claimed apply
+  claimed-next f = sum-put (λ d. claims p d f) (λ d. claims q d f) (clientCount p) c here (λ d _ o. claims-other d f o)
+
+  -- the grants stay, and what else is claimed
+  claims-kept : m .grants ≡ Same → m .next .held ≡ k .held → (f : ℕ) → claims q c f ≡ grantsOn p c f + one (pinsFound (m .next .stage) && eqb (m .next .found) f) + one (eqb (m .next .own) f)
+  claims-kept g h f = omega (arith, claims-next f, grantsOn-keeps p c m (r .shape) here few (x .grants) g h f)
+
+  -- one more grant, and nothing else is claimed
+  claims-open : (g y : ℕ) → m .grants ≡ Open (k .held) g y → m .next .held ≡ k .held + 1 → k .held < 8 → m .next .stage ≡ 0 → m .next .own ≡ none
+      → (f : ℕ) → f ≢ none → claims q c f ≡ grantsOn p c f + one (eqb y f)
+  claims-open g y e h l s o f z =
+      omega (
+        arith,
+        claims-next f,
+        grantsOn-opens p c m (r .shape) here few (x .grants) g y e h l f,
+        ap (λ (n : ℕ). one (pinsFound n && eqb (m .next .found) f)) s,
+        ap (λ (n : ℕ). one (eqb n f)) o,
+        none-own f z,
+      )
+
+  -- ---- orphans
+
+  pub orphan-stays : (f : ℕ) → f ≢ none → Orphan p f → m .next .own ≢ f → Orphan q f
+  orphan-stays f z o n =
+      record {
+        no-slot = λ i. elim (slot-now p c here r m x i) [ inl e ↦ (λ w. o .no-slot i (sym e ∙ w)) | inr e ↦ (λ w. o .unowned c (sym (e .0) ∙ w)) ];
+        unmapped = secret-unmapped p c here r m x f z secret;
+        unowned = all-clients p c m (r .shape) (λ _ n. n .own ≢ f) here (λ d _. o .unowned d) n;
+        unfound = secret-unfound p c here r m x f z secret;
+        ungranted = secret-ungranted p c here r m x f z secret;
+      }
+    where
+      secret : Secret p c (m .next) f
+      secret = record { unmapped = o .unmapped; unfound = o .unfound; ungranted = o .ungranted; not-left = λ _. o .unowned c }
+
+  pub orphan-next : (f : ℕ) → f ≢ none → Orphan p f → Orphan q f ⊎ ((claimed p f ≡ 0) × (1 ≤ claims q c f))
+  orphan-next f z o = go (ℕ-discrete (m .next .own) f)
+    where
+      go : Dec (m .next .own ≡ f) → Orphan q f ⊎ ((claimed p f ≡ 0) × (1 ≤ claims q c f))
+      go (yes e) = inr (orphan-claims p f o, omega (arith, claims-next f, ap one (eq-eqb (m .next .own) f e)))
+      go (no e) = inl (orphan-stays f z o e)
+
+  -- ---- the layer, from the changes
+
+  record Tallies : Type 0 where
+    owns : T (ownless (m .next .stage)) → m .next .own ≡ none
+    change : (f : ℕ) → f ≢ none → Change p q f (pins p f) (pins q f) (claims p c f) (claims q c f)
+
+  counts-of : Tallies → Counts q
+  unfolding claimed
+  counts-of t =
+      record {
+        owns-none = all-clients p c m (r .shape) (λ _ n. T (ownless (n .stage)) → n .own ≡ none) here (λ d _. r .counts .owns-none d) (t .owns);
+        balance = λ f z. balance-next p q f (pins p f) (pins q f) (claims p c f) (claims q c f) (claimed p f) (claimed q f) refl (r .counts .balance f z) (t .change f z)
+            (claimed-next f) (sum-has (λ d. claims p d f) (clientCount p) c here) (orphan-next f z);
+      }
+
+  -- no pins change, and no claims
+  quiet : (T (ownless (m .next .stage)) → m .next .own ≡ none) → pinsAfter (total p) (p .pins) (m .write) ≡ p .pins → ((f : ℕ) → f ≢ none → claims q c f ≡ claims p c f) → Tallies
+  quiet o w e = record { owns = o; change = λ f z. idle (pins-kept p c m (r .shape) w f) (e f z) }
+
+  -- the pins of one frame change
+  touch : (g y : ℕ) → (T (ownless (m .next .stage)) → m .next .own ≡ none) → pinsAfter (total p) (p .pins) (m .write) ≡ stored (p .pins) (total p) g y → g < total p
+      → (g ≢ none → Change p q g (pins p g) y (claims p c g) (claims q c g)) → ((f : ℕ) → f ≢ none → f ≢ g → claims q c f ≡ claims p c f) → Tallies
+  touch g y o w h ch e = record { owns = o; change = λ f z. go f z (ℕ-discrete f g) }
+    where
+      go : (f : ℕ) → f ≢ none → Dec (f ≡ g) → Change p q f (pins p f) (pins q f) (claims p c f) (claims q c f)
+      go f z (no n) = idle (pins-else p c m (r .shape) g y w f n) (e f z n)
+      go f z (yes n) =
+          subst (λ (f : ℕ). Change p q f (pins p f) (pins q f) (claims p c f) (claims q c f)) (sym n)
+          (subst (λ (b : ℕ). Change p q g (pins p g) b (claims p c g) (claims q c g)) (sym (pins-here p c m (r .shape) g y w h)) (ch (λ w. z (n ∙ w))))
+
+-- ---- each kind of move
+
+module _ (p : Pool) (c : ℕ) (here : c < clientCount p) (r : Reached p) where
+  abbrev me : Client
+  me = client p c
+
+  kn : (i : ℕ) → client p c .stage ≡ i → Knows i p me
+  kn = know p r c
+
+  -- what the client claims by its found frame, at stage i
+  by-found : (i f : ℕ) → client p c .stage ≡ i → one (pinsFound (me .stage) && eqb (me .found) f) ≡ one (pinsFound i && eqb (me .found) f)
+  by-found i f e = ap (λ (s : ℕ). one (pinsFound s && eqb (me .found) f)) e
+
+  -- nothing by its own frame, where it has none
+  by-none : (f : ℕ) → f ≢ none → T (ownless (me .stage)) → one (eqb (me .own) f) ≡ 0
+  by-none f z t = ap (λ (o : ℕ). one (eqb o f)) (r .counts .owns-none c t) ∙ none-own f z
+
+  module _ {m : Move} (x : Effect p c m) where
+    abbrev Good : Type 0
+    Good = Tallies p c here r m x
+
+    -- the grants stay, no pins change, and the client claims what it did
+    still : (T (ownless (m .next .stage)) → m .next .own ≡ none) → pinsAfter (total p) (p .pins) (m .write) ≡ p .pins → m .grants ≡ Same → m .next .held ≡ me .held
+        → ((f : ℕ) → one (pinsFound (m .next .stage) && eqb (m .next .found) f) + one (eqb (m .next .own) f) ≡ one (pinsFound (me .stage) && eqb (me .found) f) + one (eqb (me .own) f)) → Good
+    still o w g h e = quiet p c here r m x o w (λ f _. omega (arith, claims-kept p c here r m x g h f, e f))
+
+    -- the found frame has one claim more, and one pin
+    pins-found : (i : ℕ) → client p c .stage ≡ i → T (not (pinsFound i)) → pinsFound (m .next .stage) ≡ true → (T (ownless (m .next .stage)) → m .next .own ≡ none)
+        → pinsAfter (total p) (p .pins) (m .write) ≡ stored (p .pins) (total p) (me .found) (pins p (me .found) + 1) → m .grants ≡ Same → m .next .held ≡ me .held → m .next .found ≡ me .found
+        → m .next .own ≡ me .own → me .found ≢ none → pins p (me .found) ≢ evicted → Good
+    pins-found i e t u o w g h fo ow z l =
+        touch p c here r m x (me .found) _ o w (r .ranges .found-ok c z)
+        (λ _. shift (λ n. n .unfound c refl) l (λ n. let y : ⊥ = omega arith in y) (omega (arith, more (me .found), one-is (me .found))))
+        (λ f _ n. omega (arith, more f, one-not (me .found) f (λ w. n (sym w))))
+      where
+        more : (f : ℕ) → claims (apply p c m) c f ≡ claims p c f + one (eqb (me .found) f)
+        more f =
+            let a : one (pinsFound (me .stage) && eqb (me .found) f) ≡ 0 = by-found i f e ∙ rw (T-false (pinsFound i) t) refl in
+            let b : one (pinsFound (m .next .stage) && eqb (m .next .found) f) ≡ one (eqb (me .found) f) = rw (u, fo) refl in
+            omega (arith, claims-kept p c here r m x g h f, ap (λ (o : ℕ). one (eqb o f)) ow)
+
+    -- a claim becomes a grant: that of the found frame, or that of the own one
+    becomes : (y : ℕ) → pinsAfter (total p) (p .pins) (m .write) ≡ p .pins → m .grants ≡ Open (me .held) (me .page) y → m .next .held ≡ me .held + 1 → me .stage ≢ 0 → m .next .stage ≡ 0 → m .next .own ≡ none
+        → ((f : ℕ) → f ≢ none → one (pinsFound (me .stage) && eqb (me .found) f) + one (eqb (me .own) f) ≡ one (eqb y f)) → Good
+    becomes y w g h n s o e =
+        quiet p c here r m x (λ _. o) w
+        (λ f z. omega (arith, claims-open p c here r m x (me .page) y g h (omega (arith, r .ranges .working-held c n)) s o f z, e f z))
+
+    -- the own frame is evicted and forgotten
+    evicts : (j : ℕ) → m .next .own ≡ none → pinsAfter (total p) (p .pins) (m .write) ≡ stored (p .pins) (total p) (me .own) evicted → m .grants ≡ Same → m .next .held ≡ me .held
+        → pinsFound (m .next .stage) ≡ pinsFound (me .stage) → m .next .found ≡ me .found → me .own ≢ none → Good
+    evicts j o w g h s fo z =
+        touch p c here r m x (me .own) evicted (λ _. o) w (r .ranges .own-ok c z)
+        (λ _. evict (λ n. let y : ⊥ = omega (arith, two) in y) refl (omega (arith, less (me .own) z, one-is (me .own), two)))
+        (λ f u n. omega (arith, less f u, one-not (me .own) f (λ w. n (sym w))))
+      where
+        two : pins p (me .own) ≡ pinned 1
+        two = own-pins p r c z
+
+        less : (f : ℕ) → f ≢ none → claims (apply p c m) c f + one (eqb (me .own) f) ≡ claims p c f
+        less f u =
+            let b : one (pinsFound (m .next .stage) && eqb (m .next .found) f) ≡ one (pinsFound (me .stage) && eqb (me .found) f) = rw (s, fo) refl in
+            omega (arith, claims-kept p c here r m x g h f, ap (λ (o : ℕ). one (eqb o f)) o, none-own f u)
+
+  -- a refused client leaves its own frame behind, with its pins
+  pub stranded : Effect p c (refused15 me) → T (unplaced (me .stage)) → me .own ≢ none → Orphan (apply p c (refused15 me)) (me .own)
+  unfolding slotsAfter entryPagesAfter entryFramesAfter
+  stranded x u z =
+      let m : Move = refused15 me in
+      record {
+        no-slot = λ i w. r .places .unplaced-out c i u z (sym (slot-kept p c m (r .shape) refl i) ∙ w);
+        unmapped = mapped-kept p c m (r .shape) refl refl (me .own) ∙ r .private .own-unmapped c z;
+        unowned = all-clients p c m (r .shape) (λ _ n. n .own ≢ me .own) here (λ d o w. o (sym (r .places .owns-apart c d z (sym w)))) (λ w. z (sym w));
+        unfound = all-clients p c m (r .shape) (λ _ n. n .found ≢ me .own) here (λ d _. r .private .own-unfound c d z) (λ w. z (sym w));
+        ungranted = λ d i w. all-grants p c here r m x (λ _ f. f ≢ me .own) (λ d i _. r .private .own-ungranted c d i z) (λ g f e. no-open e) d i (grant-in (apply p c m) d i (λ n. z (sym w ∙ n))) w;
+      }
+
+  tallies : {m : Move} → Edge p c m → (x : Effect p c m) → Tallies p c here r m x
+  unfolding pinsAfter claimed
+  tallies (on n j w h) x =
+      still x (λ t. h .same .own ∙ r .counts .owns-none c (imp-mp (ownless j) (ownless (me .stage)) (h .stages .from-ownless) t)) (untouched _ _ (h .quiet) .pins) refl (h .same .held)
+      (λ f. rw (h .stages .pins-alike, h .same .found, h .same .own) refl)
+  tallies (found1 e _) x = still x (λ _. r .counts .owns-none c (rw e tt)) refl refl refl (λ f. rw e refl)
+  tallies (found18 e _) x = still x never refl refl refl (λ f. rw e refl)
+  tallies (lost2 e _) x = still x (λ _. r .counts .owns-none c (rw e tt)) refl refl refl (λ f. rw e refl)
+  tallies (lost22 e) x = still x never refl refl refl (λ f. rw e refl)
+  tallies (pins2 e l) x = pins-found x 2 e tt refl (λ _. r .counts .owns-none c (rw e tt)) refl refl refl refl refl (kn 2 e .0) l
+  tallies (pins19 e l) x = pins-found x 19 e tt refl never refl refl refl refl refl (kn 19 e .1 .0) l
+  tallies (gets3 e) x =
+      becomes x (me .found) refl refl refl (λ w. let z : ⊥ = omega arith in z) refl refl (λ f z. omega (arith, by-found 3 f e, by-none f z (rw e tt)))
+  tallies (gets21 e) x =
+      becomes x (me .found) refl refl refl (λ w. let z : ⊥ = omega arith in z) refl refl (λ f z. omega (arith, by-found 21 f e, by-none f z (rw e tt)))
+  tallies {m} (takes e z) x =
+      touch p c here r m x (freeFrame p) (pinned 1) never refl (free .0)
+      (λ _. revive (sum-zero (λ d. claims p d (freeFrame p)) (clientCount p) (λ d _. none-of d)) refl
+      (omega (arith, claims-kept p c here r m x refl refl (freeFrame p), grantsOn-none p c (freeFrame p) (fresh .no-grant c), one-is (freeFrame p))))
+      (λ f u n. omega (arith, claims-kept p c here r m x refl refl f, one-not (freeFrame p) f (λ w. n (sym w)), by-found 4 f e, by-none f u (rw e tt)))
+    where
+      free : (freeFrame p < total p) × (referenced p (freeFrame p) ≡ false)
+      free = free-found p (r .shape) z
+
+      fresh : Fresh p (freeFrame p)
+      fresh = fresh-means p (freeFrame p) z (free .1)
+
+      none-of : (d : ℕ) → claims p d (freeFrame p) ≡ 0
+      none-of d = foreign-claims p d (freeFrame p) (fresh .no-found d) (fresh .no-grant d) ∙ one-not _ _ (fresh .no-own d)
+  tallies (fills e _) x = still x never refl refl refl (λ f. rw e refl)
+  tallies (swaps e _) x = still x never refl refl refl (λ f. rw e refl)
+  tallies {m} (gives-up v) x = record { owns = λ _. refl; change = λ f z. go f z (ℕ-discrete (me .own) f) }
+    where
+      go : (f : ℕ) → f ≢ none → Dec (me .own ≡ f) → Change p (apply p c m) f (pins p f) (pins (apply p c m) f) (claims p c f) (claims (apply p c m) c f)
+      go f z (yes h) =
+          subst (λ (f : ℕ). Change p (apply p c m) f (pins p f) (pins (apply p c m) f) (claims p c f) (claims (apply p c m) c f)) h (strand (stranded x (v .is-unplaced) (λ w. z (sym h ∙ w))))
+      go f z (no h) =
+          idle (pins-kept p c m (r .shape) refl f)
+          (omega (arith, claims-kept p c here r m x refl refl f, none-own f z, one-not _ _ h, ap (λ (b : Bool). one (b && eqb (me .found) f)) (v .no-pin)))
+  tallies {m} (drops e h) x =
+      touch p c here r m x (me .victim) evicted never refl (r .ranges .victim-ok c (kn 14 e .1 .0))
+      (λ _. evict (λ n. let y : ⊥ = omega arith in y) refl (omega (arith, claims-kept p c here r m x refl refl (me .victim), by-found 14 (me .victim) e)))
+      (λ f _ _. omega (arith, claims-kept p c here r m x refl refl f, by-found 14 f e))
+  tallies (removes e _) x = still x never refl refl refl (λ f. rw e refl)
+  tallies (admits e _ _) x = becomes x (me .own) refl refl refl (λ w. let z : ⊥ = omega arith in z) refl refl (λ f _. omega (arith, by-found 18 f e))
+  tallies (revives e _) x = becomes x (me .own) refl refl refl (λ w. let z : ⊥ = omega arith in z) refl refl (λ f _. omega (arith, by-found 22 f e))
+  tallies (evicts20 e) x = evicts x 21 refl refl refl refl (rw e refl) refl (kn 20 e .0 .0)
+  tallies (evicts23 e) x = evicts x 4 refl refl refl refl (rw e refl) refl (kn 23 e .0)
+  tallies (begins g e _) x = still x (λ _. r .counts .owns-none c (rw e tt)) refl refl refl (λ f. rw e refl)
+  tallies {m} (releases g e z) x =
+      touch p c here r m x gf (pins p gf - 1) (λ t. r .counts .owns-none c t) refl (r .ranges .grant-ok c i named)
+      (λ _. shift (λ o. o .ungranted c i refl) (λ n. let y : ⊥ = omega (arith, two) in y) (λ n. let y : ⊥ = omega (arith, two) in y) (omega (arith, less gf, one-is gf, two)))
+      (λ f _ n. omega (arith, less f, one-not gf f (λ w. n (sym w))))
+    where
+      i : ℕ
+      i = grantOf p c g
+
+      gf : ℕ
+      gf = grantFrame p c i
+
+      named : gf ≢ none
+      named = r .outline .grant-named c i (grantOf-found p c g z .0)
+
+      two : pinned 1 ≤ pins p gf
+      two = grant-live p r c i named
+
+      less : (f : ℕ) → claims (apply p c m) c f + one (eqb gf f) ≡ claims p c f
+      less f =
+          omega (arith, claims-next p c here r m x f, grantsOn-ends p c m (r .shape) here (r .ranges .held-ok) (x .grants) i refl refl (grantOf-found p c g z .0) f)
+
+  pub counts-next : {m : Move} → Edge p c m → Effect p c m → Counts (apply p c m)
+  counts-next {m} e x = counts-of p c here r m x (tallies e x)

@@ -1,0 +1,118 @@
+-- The moves that a call makes in a reached pool, one constructor for each kind, with what its tests found. No move is stuck there, so none of
+-- them is. Most steps only move the client on, with its frames and grants as they were and the slots, frames and table untouched: `on`.
+-- Definitions only. Assumes nothing.
+use mathlib.Core.Path.{_≡_}
+use mathlib.Core.Logic.{_≢_, _⊎_}
+use mathlib.Core.Bool.{Bool, true, false}
+use Prim.Native.Nat.{ℕ, _+_, _-_, _≤_, _<_}
+use lib.Dec.{T}
+use Rattle.pool.specs.State.{none, evicted, pinned, total, resting, slot, page, pins, count, client, grantFrame}
+use Rattle.pool.specs.Table.{entryOf, lookup, unusedEntry}
+use Rattle.pool.specs.Frames.{freeFrame}
+use Rattle.pool.specs.Grants.{grantOf}
+use Rattle.pool.specs.Moves.{standing, withOwn, withFound, withVictim, holding, worksAs, works, refused15, completes}
+use Rattle.pool.specs.Apply.{freeAfter}
+use Rattle.pool.specs.Stages.{raised}
+use Rattle.pool.specs.Calls.{beginMove}
+use Rattle.pool.specs.declared.Pool.{Pool}
+use Rattle.pool.specs.declared.Client.{Client}
+use Rattle.pool.specs.declared.Move.{Move}
+use Rattle.pool.specs.declared.Answer.the-variants.{Granted}
+use Rattle.pool.specs.declared.Counted.{Counted}
+use Rattle.pool.specs.declared.Counted.the-variants.{Hit, Join, Admitted, Revived, Drop}
+use Rattle.pool.specs.declared.GrantChange.the-variants.{Open, End}
+use Rattle.pool.specs.declared.Write.{Write}
+use Rattle.pool.specs.declared.Write.the-variants.{Keep, PutSlot, PutPins, PutCount, TakeFrame, PutEntry, PutHand, PutFree}
+use Rattle.invariant.proofs.Reached.{one, mapped, unplaced, ownless, foundless, victimless, pinsFound, leaving, filling, hunting, Knows, Leaves}
+
+abbrev pub imp : Bool → Bool → Bool
+imp true b = b
+imp false b = true
+
+-- Stages i and j such that a client may go from the one to the other with its own frame, its found frame and its claims as they are.
+pub record Onward (i j : ℕ) : Type 0 where
+  pub from-unplaced : T (imp (unplaced j) (unplaced i))
+  pub from-ownless : T (imp (ownless j) (ownless i))
+  pub from-foundless : T (imp (foundless j) (foundless i))
+  pub pins-alike : pinsFound j ≡ pinsFound i
+  pub stage-ok : j ≤ 23
+  pub working : i ≢ 0
+
+-- a stage of the sweep at which a busy visit may end it
+pub record Visits (i : ℕ) : Type 0 where
+  pub is-unplaced : T (unplaced i)
+  pub is-foundless : T (foundless i)
+  pub no-pin : pinsFound i ≡ false
+  pub no-fill : filling i ≡ false
+  pub no-leave : T (leaving i) → ⊥
+  pub not-15 : i ≢ 15
+
+-- a write that the slots, the frames' pages and pins, and the table do not see
+pub data Quiet (p : Pool) : Write → Type 0 where
+  keep : Quiet p Keep
+  hand : {h : ℕ} → Quiet p (PutHand h)
+  counts : {f x : ℕ} → x ≤ p .cap → Quiet p (PutCount f x)
+  free : {x : ℕ} → x ≤ p .size → Quiet p (PutFree x)
+
+pub record Alike (k n : Client) : Type 0 where
+  pub page : n .page ≡ k .page
+  pub own : n .own ≡ k .own
+  pub found : n .found ≡ k .found
+  pub held : n .held ≡ k .held
+
+-- client k goes on to stage j as n
+pub record Passes (p : Pool) (k n : Client) (j : ℕ) (w : Write) : Type 0 where
+  pub same : Alike k n
+  pub quiet : Quiet p w
+  pub stages : Onward (k .stage) j
+  pub place-ok : n .place < p .size
+  pub busy-ok : n .busy < p .size
+  pub seen-ok : n .seen ≤ p .size
+  pub victim-ok : n .victim ≢ none → n .victim < total p
+  pub knows : Knows j p (standing n j)
+  pub no-victim : T (victimless j) → n .victim ≡ none
+  pub six : j ≡ 6 → n .seen ≢ 0
+  pub hunts : T (hunting j) → ((n .victim ≡ k .victim) × (n .place ≡ k .place) × T (hunting (k .stage))) ⊎ (n .victim ≡ slot p (n .place))
+  pub leaves : (f : ℕ) → f ≢ none → mapped p f ≢ 0 → Leaves p k f → Leaves p (standing n j) f
+  pub fills : p .free + one (filling (k .stage)) ≡ freeAfter (p .free) w + one (filling j)
+
+-- client k, which is to rest, is granted frame f
+abbrev pub grants : Client → ℕ → Write → Counted → Move
+grants k f w counted = record { next = resting (k .held + 1); grants = Open (k .held) (k .page) f; write = w; answer = Granted f; counted = counted }
+
+module _ (p : Pool) (c : ℕ) where
+  abbrev pub k : Client
+  k = client p c
+
+  pub data Edge : Move → Type 0 where
+    on : (n : Client) (j : ℕ) (w : Write) → Passes p k n j w → Edge (works n j w)
+    -- 1, 18: the look-up found a frame
+    found1 : k .stage ≡ 1 → lookup p (k .page) ≢ none → Edge (works (withFound k (lookup p (k .page))) 2 Keep)
+    found18 : k .stage ≡ 18 → lookup p (k .page) ≢ none → Edge (works (withFound k (lookup p (k .page))) 19 Keep)
+    -- 2: the found frame is evicted. 22: the page is mapped to another
+    lost2 : k .stage ≡ 2 → pins p (k .found) ≡ evicted → Edge (works (withFound k none) 4 Keep)
+    lost22 : k .stage ≡ 22 → Edge (works (withFound k none) 23 Keep)
+    -- 2, 19: the found frame is pinned
+    pins2 : k .stage ≡ 2 → pins p (k .found) ≢ evicted → Edge (works k 3 (PutPins (k .found) (pins p (k .found) + 1)))
+    pins19 : k .stage ≡ 19 → pins p (k .found) ≢ evicted → Edge (works k 20 (PutPins (k .found) (pins p (k .found) + 1)))
+    -- 3, 21: and granted
+    gets3 : k .stage ≡ 3 → Edge (grants k (k .found) (PutCount (k .found) (raised (p .cap) (count p (k .found)))) Hit)
+    gets21 : k .stage ≡ 21 → Edge (grants k (k .found) (PutCount (k .found) (raised (p .cap) (count p (k .found)))) Join)
+    takes : k .stage ≡ 4 → freeFrame p ≢ none → Edge (works (withOwn k (freeFrame p)) 5 (TakeFrame (freeFrame p) (k .page) (pinned 1) 1))
+    -- 8, 15: the own frame is put into the slot
+    fills : k .stage ≡ 8 → slot p (k .place) ≡ none → Edge (works k 9 (PutSlot (k .place) (k .own)))
+    swaps : k .stage ≡ 15 → slot p (k .place) ≡ k .victim → Edge (works k 16 (PutSlot (k .place) (k .own)))
+    -- 11, 12: the S-th busy visit
+    gives-up : Visits (k .stage) → Edge (refused15 k)
+    drops : k .stage ≡ 14 → pins p (k .victim) ≡ pinned 0 → Edge (worksAs k Drop 15 (PutPins (k .victim) evicted))
+    removes : k .stage ≡ 17 → lookup p (page p (k .victim)) ≡ k .victim
+        → Edge (works (withVictim k none) 18 (PutEntry (entryOf p (page p (k .victim))) (page p (k .victim)) none))
+    -- 18, 22: the page is mapped to the own frame, which is granted
+    admits : k .stage ≡ 18 → lookup p (k .page) ≡ none → unusedEntry p ≢ none → Edge (grants k (k .own) (PutEntry (unusedEntry p) (k .page) (k .own)) Admitted)
+    revives : k .stage ≡ 22 → lookup p (k .page) ≡ k .found → Edge (grants k (k .own) (PutEntry (entryOf p (k .page)) (k .page) (k .own)) Revived)
+    -- 20, 23: the own frame is evicted
+    evicts20 : k .stage ≡ 20 → Edge (works (withOwn k none) 21 (PutPins (k .own) evicted))
+    evicts23 : k .stage ≡ 23 → Edge (works (withOwn k none) 4 (PutPins (k .own) evicted))
+    begins : (g : ℕ) → k .stage ≡ 0 → k .held < 8 → Edge (beginMove k g)
+    releases : (g : ℕ) → k .stage ≡ 0 → grantOf p c g ≢ none
+        → Edge (completes g (holding k (k .held - 1)) (End (grantOf p c g) (k .held - 1)) (PutPins (grantFrame p c (grantOf p c g)) (pins p (grantFrame p c (grantOf p c g)) - 1)))

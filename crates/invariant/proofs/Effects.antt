@@ -1,0 +1,274 @@
+-- What a move of a reached pool does to each thing that the layers speak of: the own frame, the slots, the pins, the found frame, the grants,
+-- the table, the frames' pages. Each is a menu of the few ways it can happen, and each kind of move picks one. Assumes nothing.
+use mathlib.Core.Path.{_≡_, refl, sym, ap, subst, _∙_}
+use mathlib.Core.Logic.{_≢_, _⊎_, inl, inr}
+use mathlib.Core.Bool.{false, not}
+use mathlib.Core.List.{List}
+use Prim.Native.Nat.{ℕ, suc, _+_, _-_, _≤_, _<_}
+use native.Mathlib.Omega.{arith}
+use lib.Dec.{T}
+use Rattle.pool.specs.State.{none, evicted, pinned, clientCount, total, slot, page, pins, count, entryPage, entryFrame, client, grantFrame}
+use Rattle.pool.specs.Table.{entryOf, lookup}
+use Rattle.pool.specs.Frames.{referenced, freeFrame}
+use Rattle.pool.specs.Grants.{grantOf}
+use Rattle.pool.specs.Moves.{withOwn, works}
+use Rattle.pool.specs.Stages.{raised}
+use Rattle.pool.specs.Apply.{stored, slotsAfter, pagesAfter, pinsAfter, entryPagesAfter, entryFramesAfter}
+use Rattle.pool.specs.declared.Pool.{Pool}
+use Rattle.pool.specs.declared.Client.{Client}
+use Rattle.pool.specs.declared.Move.{Move}
+use Rattle.pool.specs.declared.Counted.{Counted}
+use Rattle.pool.specs.declared.Counted.the-variants.{Hit, Join, Admitted, Revived}
+use Rattle.pool.specs.declared.GrantChange.the-variants.{Same, Open, End}
+use Rattle.pool.specs.declared.Write.{Write}
+use Rattle.pool.specs.declared.Write.the-variants.{PutSlot, PutPins, PutCount, TakeFrame, PutEntry}
+use Rattle.invariant.proofs.Reached.{Reached, mapped, Seated, Knows, unplaced, pinsFound, leaving}
+use Rattle.invariant.proofs.Searches.{lookup-found, lookup-none, unused-found, grantOf-found, free-found}
+use Rattle.invariant.proofs.Table.{suc-not, lookup-mapped}
+use Rattle.invariant.proofs.Grants.{Granting, keeps, opens, ends}
+use Rattle.invariant.proofs.Never.{know}
+use Rattle.invariant.proofs.Facts.{own-pins, grant-live, found-live, one-more}
+use Rattle.invariant.proofs.Edges.{imp, Quiet, keep, hand, counts, free, Edge, on, grants, found1, found18, lost2, lost22, pins2, pins19, gets3, gets21, takes, fills, swaps, gives-up, drops, removes, admits, revives, evicts20, evicts23, begins, releases}
+
+module _ (p : Pool) (c : ℕ) (m : Move) where
+  abbrev k : Client
+  k = client p c
+
+  -- how the client came by its own frame
+  pub data OwnOk : Type 0 where
+    forgot : m .next .own ≡ none → OwnOk
+    kept : m .next .own ≡ k .own → T (imp (unplaced (m .next .stage)) (unplaced (k .stage))) → OwnOk
+    taken : k .own ≡ none → m .next .own ≢ none → m .next .own < total p → referenced p (m .next .own) ≡ false
+        → m .write ≡ TakeFrame (m .next .own) (m .next .page) (pinned 1) 1 → OwnOk
+
+  -- the own frame is put into an empty slot, or into that of the victim, which is on its way out then
+  pub data SlotOk : Type 0 where
+    slots-stay : slotsAfter (p .size) (p .slots) (m .write) ≡ p .slots → SlotOk
+    puts : (i : ℕ) → m .write ≡ PutSlot i (k .own) → i < p .size → T (unplaced (k .stage)) → T (not (unplaced (m .next .stage))) → m .next .own ≡ k .own → k .own ≢ none
+        → (slot p i ≡ none) ⊎ ((slot p i ≡ k .victim) × (pins p (k .victim) ≡ evicted) × T (leaving (m .next .stage)) × (m .next .victim ≡ k .victim)) → SlotOk
+
+  -- frame f gets pins x
+  pub data PinChange (f x : ℕ) : Type 0 where
+    adds : f ≡ k .found → pins p f ≢ evicted → x ≡ pins p f + 1 → x ≤ pinned 128 → PinChange f x
+    lowers : (i : ℕ) → f ≡ grantFrame p c i → pinned 1 ≤ pins p f → x ≡ pins p f - 1 → PinChange f x
+    drops-victim : f ≡ k .victim → pins p f ≡ pinned 0 → x ≡ evicted → k .stage ≡ 14 → m .next .stage ≡ 15 → m .next .victim ≡ k .victim → m .next .place ≡ k .place → PinChange f x
+    drops-own : f ≡ k .own → pins p f ≡ pinned 1 → x ≡ evicted → m .next .own ≡ none → PinChange f x
+    takes-one : f ≡ m .next .own → referenced p f ≡ false → x ≡ pinned 1 → PinChange f x
+
+  pub data PinsOk : Type 0 where
+    pins-stay : pinsAfter (total p) (p .pins) (m .write) ≡ p .pins → PinsOk
+    pins-put : (f x : ℕ) → pinsAfter (total p) (p .pins) (m .write) ≡ stored (p .pins) (total p) f x → f < total p → f ≢ none → PinChange f x → PinsOk
+
+  pub data FoundOk : Type 0 where
+    found-stays : m .next .found ≡ k .found → FoundOk
+    lost : m .next .found ≡ none → FoundOk
+    looked : m .next .found ≢ none → m .next .found < total p → mapped p (m .next .found) ≢ 0 → FoundOk
+
+  -- whose frame f a new grant of page g names
+  pub data Opened (g f : ℕ) : Type 0 where
+    of-found : f ≡ k .found → f ≢ none → mapped p f ≡ suc g → pinned 1 ≤ pins p f → Opened g f
+    of-own : (i : ℕ) → f ≡ k .own → f ≢ none → g ≡ k .page → m .next .own ≡ none → m .write ≡ PutEntry i g f → i < total p → Opened g f
+
+  -- a page is mapped to the own frame, at a place that is unused or whose frame is evicted; or the evicted victim's entry is removed
+  pub data EntryOk : Type 0 where
+    entries-stay : entryPagesAfter (total p) (p .«table_pages») (m .write) ≡ p .«table_pages» → entryFramesAfter (total p) (p .«table_frames») (m .write) ≡ p .«table_frames» → EntryOk
+    maps : (i : ℕ) → m .write ≡ PutEntry i (k .page) (k .own) → i < total p → k .own ≢ none → m .next .own ≡ none → Seated p (k .own)
+        → (entryFrame p i ≡ none) ⊎ (pins p (entryFrame p i) ≡ evicted) → ((j : ℕ) → j ≢ i → entryFrame p j ≢ none → entryPage p j ≢ k .page) → EntryOk
+    unmaps : (i g : ℕ) → m .write ≡ PutEntry i g none → i < total p → k .victim ≢ none → entryFrame p i ≡ k .victim → pins p (k .victim) ≡ evicted → EntryOk
+
+  pub data PageOk : Type 0 where
+    pages-stay : pagesAfter (total p) (p .pages) (m .write) ≡ p .pages → PageOk
+    paged : (f : ℕ) → referenced p f ≡ false → f < total p → pagesAfter (total p) (p .pages) (m .write) ≡ stored (p .pages) (total p) f (m .next .page) → f ≡ m .next .own → PageOk
+
+  pub record Effect : Type 0 where
+    pub own : OwnOk
+    pub slot : SlotOk
+    pub pins : PinsOk
+    pub found : FoundOk
+    pub grants : Granting p c m
+    pub opened : (g f : ℕ) → m .grants ≡ Open (k .held) g f → Opened g f
+    pub entries : EntryOk
+    pub pages : PageOk
+
+-- ---- a quiet write leaves the lists
+
+pub record Untouched (n : ℕ) (l : List ℕ) (w : Write) : Type 0 where
+  pub slots : slotsAfter n l w ≡ l
+  pub pages : pagesAfter n l w ≡ l
+  pub pins : pinsAfter n l w ≡ l
+  pub entry-pages : entryPagesAfter n l w ≡ l
+  pub entry-frames : entryFramesAfter n l w ≡ l
+
+pub untouched : {p : Pool} (n : ℕ) (l : List ℕ) {w : Write} → Quiet p w → Untouched n l w
+unfolding slotsAfter pagesAfter pinsAfter entryPagesAfter entryFramesAfter
+untouched n l keep = record { slots = refl; pages = refl; pins = refl; entry-pages = refl; entry-frames = refl }
+untouched n l hand = record { slots = refl; pages = refl; pins = refl; entry-pages = refl; entry-frames = refl }
+untouched n l (counts _) = record { slots = refl; pages = refl; pins = refl; entry-pages = refl; entry-frames = refl }
+untouched n l (free _) = record { slots = refl; pages = refl; pins = refl; entry-pages = refl; entry-frames = refl }
+
+-- ---- each kind of move
+
+pub no-open : {A : Type 0} {i g f : ℕ} → Same ≡ Open i g f → A
+no-open e = let z : _≡_ {A = ℕ} 0 1 = cc in absurd (let y : ⊥ = omega arith in y)
+
+ends-no-open : {A : Type 0} {i l j g f : ℕ} → End i l ≡ Open j g f → A
+ends-no-open e = let z : _≡_ {A = ℕ} 0 1 = cc in absurd (let y : ⊥ = omega arith in y)
+
+module _ (p : Pool) (c : ℕ) (here : c < clientCount p) (r : Reached p) where
+  abbrev me : Client
+  me = client p c
+
+  kn : (i : ℕ) → client p c .stage ≡ i → Knows i p me
+  kn = know p r c
+
+  -- a quiet write: only the client changes
+  quietly : {m : Move} → Quiet p (m .write) → OwnOk p c m → FoundOk p c m → m .grants ≡ Same → m .next .held ≡ me .held → Effect p c m
+  quietly {m} w o f g h =
+      record {
+        own = o;
+        slot = slots-stay (untouched _ _ w .slots);
+        pins = pins-stay (untouched _ _ w .pins);
+        found = f;
+        grants = keeps g h;
+        opened = λ _ _ e. no-open (sym g ∙ e);
+        entries = entries-stay (untouched _ _ w .entry-pages) (untouched _ _ w .entry-frames);
+        pages = pages-stay (untouched _ _ w .pages);
+      }
+
+  -- one frame's pins change, and no grant
+  pinning : {m : Move} (f x : ℕ) → m .write ≡ PutPins f x → f < total p → f ≢ none → PinChange p c m f x → OwnOk p c m → m .next .found ≡ me .found
+      → Granting p c m → ((g y : ℕ) → m .grants ≡ Open (me .held) g y → Opened p c m g y) → Effect p c m
+  unfolding slotsAfter pinsAfter entryPagesAfter entryFramesAfter pagesAfter
+  pinning f x e h z ch o fo g op =
+      record {
+        own = o;
+        slot = slots-stay (rw e refl);
+        pins = pins-put f x (rw e refl) h z ch;
+        found = found-stays fo;
+        grants = g;
+        opened = op;
+        entries = entries-stay (rw e refl) (rw e refl);
+        pages = pages-stay (rw e refl);
+      }
+
+  -- the own frame goes into a slot
+  placing : {m : Move} (i : ℕ) → m .write ≡ PutSlot i (me .own) → SlotOk p c m → OwnOk p c m → m .next .found ≡ me .found → m .grants ≡ Same → m .next .held ≡ me .held → Effect p c m
+  unfolding slotsAfter pinsAfter entryPagesAfter entryFramesAfter pagesAfter
+  placing i e s o f g h =
+      record {
+        own = o;
+        slot = s;
+        pins = pins-stay (rw e refl);
+        found = found-stays f;
+        grants = keeps g h;
+        opened = λ _ _ x. no-open (sym g ∙ x);
+        entries = entries-stay (rw e refl) (rw e refl);
+        pages = pages-stay (rw e refl);
+      }
+
+  -- one entry of the table changes
+  entering : {m : Move} (i g f : ℕ) → m .write ≡ PutEntry i g f → EntryOk p c m → OwnOk p c m → FoundOk p c m → Granting p c m
+      → ((g y : ℕ) → m .grants ≡ Open (me .held) g y → Opened p c m g y) → Effect p c m
+  unfolding slotsAfter pinsAfter pagesAfter
+  entering i g f e en o fo gr op =
+      record { own = o; slot = slots-stay (rw e refl); pins = pins-stay (rw e refl); found = fo; grants = gr; opened = op; entries = en; pages = pages-stay (rw e refl) }
+
+  -- what a look-up finds
+  looking : (g : ℕ) → lookup p g ≢ none → (lookup p g < total p) × (mapped p (lookup p g) ≢ 0)
+  looking g z =
+      let f = lookup-found p (r .shape) g z in (
+        subst (λ (x : ℕ). x < total p) (f .entry-frame) (r .ranges .entry-ok (entryOf p g) (λ w. z (sym (f .entry-frame) ∙ w))),
+        suc-not (lookup-mapped p (r .shape) (r .outline .entries-apart) g z),
+      )
+
+  -- one more pin for the found frame
+  pins-found : (i j : ℕ) → client p c .stage ≡ i → i ≢ 0 → T (not (pinsFound i)) → T (imp (unplaced j) (unplaced i)) → me .found ≢ none → pins p (me .found) ≢ evicted
+      → Effect p c (works me j (PutPins (me .found) (pins p (me .found) + 1)))
+  pins-found i j e w t u z l =
+      pinning (me .found) _ refl (r .ranges .found-ok c z) z (adds refl l refl (omega (arith, one-more p r c here (λ s. w (sym e ∙ s)) (rw e t) z l))) (kept refl (rw e u)) refl (keeps refl refl)
+      (λ _ _ x. no-open x)
+
+  -- a working client holds fewer than 8
+  few : (i : ℕ) → client p c .stage ≡ i → i ≢ 0 → me .held < 8
+  few i e z = omega (arith, r .ranges .working-held c (λ w. z (sym e ∙ w)))
+
+  gets-found : (i : ℕ) (u : Counted) → client p c .stage ≡ i → i ≢ 0 → T (pinsFound i) → me .found ≢ none → (pins p (me .found) ≢ evicted → mapped p (me .found) ≡ suc (me .page))
+      → Effect p c (grants me (me .found) (PutCount (me .found) (raised (p .cap) (count p (me .found)))) u)
+  unfolding slotsAfter pinsAfter entryPagesAfter entryFramesAfter pagesAfter
+  gets-found i u e w t z live =
+      let two = found-live p r c (rw e t) z in
+      record {
+        own = forgot refl;
+        slot = slots-stay refl;
+        pins = pins-stay refl;
+        found = lost refl;
+        grants = opens (me .page) (me .found) refl refl (few i e w);
+        opened = λ g f x. let a : me .page ≡ g = cc in let b : f ≡ me .found = cc in
+            of-found b (λ n. z (sym b ∙ n)) (ap (mapped p) b ∙ live (λ n. let y : ⊥ = omega arith in y) ∙ ap suc a) (rw b two);
+        entries = entries-stay refl refl;
+        pages = pages-stay refl;
+      }
+
+  -- the page is mapped to the own frame, which is granted
+  gets-own : (i n : ℕ) (u : Counted) → client p c .stage ≡ i → i ≢ 0 → n < total p → me .own ≢ none → EntryOk p c (grants me (me .own) (PutEntry n (me .page) (me .own)) u)
+      → Effect p c (grants me (me .own) (PutEntry n (me .page) (me .own)) u)
+  gets-own i n u e w h z en =
+      entering n (me .page) (me .own) refl en (forgot refl) (lost refl) (opens (me .page) (me .own) refl refl (few i e w))
+      (λ g f x. let a : g ≡ me .page = cc in let b : f ≡ me .own = cc in of-own n b (λ y. z (sym b ∙ y)) a refl (rw (a, b) refl) h)
+
+  evicts-own : (j : ℕ) → me .own ≢ none → Effect p c (works (withOwn me none) j (PutPins (me .own) evicted))
+  evicts-own j z = pinning (me .own) evicted refl (r .ranges .own-ok c z) z (drops-own refl (own-pins p r c z) refl refl) (forgot refl) refl (keeps refl refl) (λ _ _ x. no-open x)
+
+  pub effect : {m : Move} → Edge p c m → Effect p c m
+  unfolding slotsAfter pinsAfter entryPagesAfter entryFramesAfter pagesAfter
+  effect (on n j w h) = quietly (h .quiet) (kept (h .same .own) (h .stages .from-unplaced)) (found-stays (h .same .found)) refl (h .same .held)
+  effect (found1 e z) = let l = looking (me .page) z in quietly keep (kept refl tt) (looked z (l .0) (l .1)) refl refl
+  effect (found18 e z) = let l = looking (me .page) z in quietly keep (kept refl tt) (looked z (l .0) (l .1)) refl refl
+  effect (lost2 e d) = quietly keep (kept refl tt) (lost refl) refl refl
+  effect (lost22 e) = quietly keep (kept refl tt) (lost refl) refl refl
+  effect (pins2 e l) = pins-found 2 3 e (λ w. let z : ⊥ = omega arith in z) tt tt (kn 2 e .0) l
+  effect (pins19 e l) = pins-found 19 20 e (λ w. let z : ⊥ = omega arith in z) tt tt (kn 19 e .1 .0) l
+  effect (gets3 e) = gets-found 3 Hit e (λ w. let z : ⊥ = omega arith in z) tt (kn 3 e .0) (kn 3 e .1)
+  effect (gets21 e) = gets-found 21 Join e (λ w. let z : ⊥ = omega arith in z) tt (kn 21 e .0) (kn 21 e .1)
+  effect (takes e z) =
+      let f = free-found p (r .shape) z in
+      record {
+        own = taken (r .counts .owns-none c (rw e tt)) z (f .0) (f .1) refl;
+        slot = slots-stay refl;
+        pins = pins-put (freeFrame p) (pinned 1) refl (f .0) z (takes-one refl (f .1) refl);
+        found = found-stays refl;
+        grants = keeps refl refl;
+        opened = λ _ _ x. no-open x;
+        entries = entries-stay refl refl;
+        pages = paged (freeFrame p) (f .1) (f .0) refl refl;
+      }
+  effect (fills e s) = placing (me .place) refl (puts (me .place) refl (r .ranges .place-ok c) (rw e tt) tt refl (kn 8 e) (inl s)) (kept refl tt) refl refl refl
+  effect (swaps e s) =
+      placing (me .place) refl (puts (me .place) refl (r .ranges .place-ok c) (rw e tt) tt refl (kn 15 e .0) (inr (s, kn 15 e .1 .1, tt, refl))) (kept refl tt) refl refl refl
+  effect (gives-up v) = quietly keep (forgot refl) (lost refl) refl refl
+  effect (drops e h) =
+      let z = kn 14 e .1 .0 in
+      pinning (me .victim) evicted refl (r .ranges .victim-ok c z) z (drops-victim refl h refl e refl refl refl) (kept refl (rw e tt)) refl (keeps refl refl) (λ _ _ x. no-open x)
+  effect (removes e h) =
+      let z = kn 17 e .1 .0 in
+      let f = lookup-found p (r .shape) (page p (me .victim)) (λ w. z (sym h ∙ w)) in
+      entering _ _ none refl (unmaps _ _ refl (f .place) z (f .entry-frame ∙ h) (kn 17 e .1 .1)) (kept refl tt) (found-stays refl) (keeps refl refl) (λ _ _ x. no-open x)
+  effect (admits e l u) =
+      let f = unused-found p (r .shape) u in
+      gets-own 18 _ Admitted e (λ w. let z : ⊥ = omega arith in z) (f .0) (kn 18 e .0)
+      (maps _ refl (f .0) (kn 18 e .0) refl (kn 18 e .1) (inl (f .1)) (λ j _ z. lookup-none p (r .shape) (me .page) l j z))
+  effect (revives e l) =
+      let z = kn 22 e .1 .0 in
+      let f = lookup-found p (r .shape) (me .page) (λ w. z (sym l ∙ w)) in
+      let n : entryFrame p (entryOf p (me .page)) ≡ me .found = f .entry-frame ∙ l in
+      gets-own 22 _ Revived e (λ w. let z : ⊥ = omega arith in z) (f .place) (kn 22 e .0 .0)
+      (maps _ refl (f .place) (kn 22 e .0 .0) refl (kn 22 e .0 .1) (inr (ap (pins p) n ∙ kn 22 e .1 .1))
+      (λ j q y w. q (r .outline .pages-apart j (entryOf p (me .page)) y (λ x. z (sym n ∙ x)) (w ∙ sym (f .entry-page)))))
+  effect (evicts20 e) = evicts-own 21 (kn 20 e .0 .0)
+  effect (evicts23 e) = evicts-own 4 (kn 23 e .0)
+  effect (begins g e h) = quietly keep (kept refl tt) (found-stays refl) refl refl
+  effect (releases g e z) =
+      let i = grantOf-found p c g z .0 in
+      let n = r .outline .grant-named c (grantOf p c g) i in
+      pinning _ _ refl (r .ranges .grant-ok c (grantOf p c g) n) n (lowers (grantOf p c g) refl (grant-live p r c (grantOf p c g) n) refl) (kept refl (rw e tt)) refl (ends (grantOf p c g) refl refl i)
+      (λ _ _ x. ends-no-open x)

@@ -1,0 +1,218 @@
+-- What a reached pool says of one frame: how its pins and the claims on it go together. Assumes nothing.
+use mathlib.Core.Path.{_≡_, refl, sym, ap, _∙_}
+use mathlib.Core.Logic.{_≢_, _⊎_, inl, inr}
+use mathlib.Core.Bool.{Bool, true, false, not, _&&_}
+use Prim.Native.Nat.{ℕ, _+_, _*_, _≤_, _<_}
+use native.Mathlib.Omega.{arith}
+use native.Mathlib.Decide.{ℕ-discrete}
+use lib.Dec.{T, eqb, leb}
+use borrow.Author.Tests.{ne-eqb, leb-true, ltb-true}
+use Rattle.pool.specs.State.{none, evicted, pinned, clientCount, resting, page, pins, client, grantFrame}
+use Rattle.pool.specs.Table.{lookup}
+use Rattle.pool.specs.Stages.{raised}
+use Rattle.pool.specs.declared.Pool.{Pool}
+use Rattle.pool.specs.declared.Client.{Client}
+use Rattle.laws.specs.Choices.{by-test}
+use Rattle.invariant.proofs.Reached.{one, mapped, Seated, grantsOn, claims, claimed, pinsFound, unplaced, hunting, Orphan, Balance, gone, held, orphan, Reached}
+use Rattle.invariant.proofs.After.{client-here}
+use Rattle.invariant.proofs.Sums.{one-is, one-not, one-least, sum-zero, sum-one, sum-has, sum-gap, sum-least}
+use Rattle.invariant.proofs.Searches.{grant-in}
+use Rattle.invariant.proofs.Table.{some-suc, mapped-lookup}
+use Rattle.invariant.proofs.Grants.{grantsOn-none}
+use Rattle.invariant.proofs.Never.{know}
+
+-- ---- flags
+
+pub T-true : (a : Bool) → T a → a ≡ true
+T-true true h = refl
+T-true false h = absurd h
+
+pub T-false : (a : Bool) → T (not a) → a ≡ false
+T-false true h = absurd h
+T-false false h = refl
+
+pub T-not : (a : Bool) → T (not a) → T a → ⊥
+T-not true h t = h
+T-not false h t = t
+
+pub and-false : (a : Bool) → a && false ≡ false
+and-false true = refl
+and-false false = refl
+
+pub never : {A : Type 0} → ⊥ → A
+never x = absurd x
+
+-- a raised count
+pub raised-ok : (cap n : ℕ) → n ≤ cap → raised cap n ≤ cap
+unfolding raised
+raised-ok cap n h = by-test (λ (x : ℕ). x ≤ cap) (λ t. omega (arith, ltb-true n cap t)) (λ _. h)
+
+-- ---- claims
+
+pub none-own : (f : ℕ) → f ≢ none → one (eqb none f) ≡ 0
+none-own f z = one-not none f (λ q. z (sym q))
+
+-- a client that has a frame neither found nor granted claims it as its own or not at all
+pub foreign-claims : (p : Pool) (c f : ℕ) → client p c .found ≢ f → ((i : ℕ) → grantFrame p c i ≢ f) → claims p c f ≡ one (eqb (client p c .own) f)
+foreign-claims p c f a b = rw (ne-eqb _ _ a, and-false, grantsOn-none p c f b) (omega arith)
+
+pub orphan-claims : (p : Pool) (f : ℕ) → Orphan p f → claimed p f ≡ 0
+unfolding claimed
+orphan-claims p f o =
+    sum-zero (λ c. claims p c f) (clientCount p) (λ c _. foreign-claims p c f (o .unfound c) (o .ungranted c) ∙ one-not _ _ (o .unowned c))
+
+-- what a grant claims
+pub grant-claims : (p : Pool) (c i : ℕ) → grantFrame p c i ≢ none → 1 ≤ grantsOn p c (grantFrame p c i)
+unfolding grantsOn
+grant-claims p c i z =
+    let f : ℕ = grantFrame p c i in
+    omega (arith, one-is f, sum-has (λ j. one (eqb (grantFrame p c j) f)) (client p c .held) i (grant-in p c i z))
+
+module _ (p : Pool) (r : Reached p) where
+  -- an own frame is pinned once, by its owner
+  module _ (c : ℕ) (z : client p c .own ≢ none) where
+    pub own-here : c < clientCount p
+    own-here = client-here p (λ k. k .own ≢ none) c z (λ w. w refl)
+
+    own-claimed : claimed p (client p c .own) ≡ 1
+    unfolding claimed
+    own-claimed =
+        sum-one (λ d. claims p d f) (clientCount p) c own-here (λ d _ q. only d ∙ one-not _ _ (λ w. q (sym (r .places .owns-apart c d z (sym w))))) ∙
+        (only c ∙ one-is f)
+      where
+        f : ℕ
+        f = client p c .own
+
+        only : (d : ℕ) → claims p d f ≡ one (eqb (client p d .own) f)
+        only d = foreign-claims p d f (r .private .own-unfound c d z) (λ i. r .private .own-ungranted c d i z)
+
+    pub own-pins : pins p (client p c .own) ≡ pinned 1
+    own-pins = go (r .counts .balance (client p c .own) z)
+      where
+        go : Balance p (client p c .own) (pins p (client p c .own)) (claimed p (client p c .own)) → pins p (client p c .own) ≡ pinned 1
+        go (gone x y) = omega (arith, own-claimed)
+        go (held x) = omega (arith, own-claimed)
+        go (orphan o) = absurd (o .unowned c refl)
+
+  -- a claimed frame is pinned
+  pub claimed-live : (c f : ℕ) → f ≢ none → 1 ≤ claims p c f → pinned 1 ≤ pins p f
+  unfolding claimed
+  claimed-live c f z h = go (r .counts .balance f z)
+    where
+      here : c < clientCount p
+      here = client-here p (λ k. Known k) c known rests
+        where
+          Known : Client → Type 0
+          Known k = (1 ≤ claims p c f) × (client p c ≡ k)
+
+          known : Known (client p c)
+          known = (h, refl)
+
+          rests : Known (resting 0) → ⊥
+          rests w = let n = none-own f z in let e : claims p c f ≡ 0 = foreign-claims p c f (λ q. z (sym q ∙ ap (λ (k : Client). k .found) (w .1))) (λ i q. let l = grant-in p c i (λ n. z (sym q ∙ n)) in let s = ap (λ (k : Client). k .held) (w .1) in let x : ⊥ = omega arith in x) ∙ rw (w .1) n in let x : ⊥ = omega arith in x
+
+      all : 1 ≤ claimed p f
+      all = omega (arith, sum-has (λ d. claims p d f) (clientCount p) c here)
+
+      go : Balance p f (pins p f) (claimed p f) → pinned 1 ≤ pins p f
+      go (gone x y) = omega (arith, all)
+      go (held x) = omega (arith, all)
+      go (orphan o) = omega (arith, all, orphan-claims p f o)
+
+  -- so a held frame is, and the found frame where it is pinned for its client
+  pub grant-live : (c i : ℕ) → grantFrame p c i ≢ none → pinned 1 ≤ pins p (grantFrame p c i)
+  grant-live c i z = claimed-live c (grantFrame p c i) z (omega (arith, grant-claims p c i z))
+
+  pub found-live : (c : ℕ) → T (pinsFound (client p c .stage)) → client p c .found ≢ none → pinned 1 ≤ pins p (client p c .found)
+  found-live c t z =
+      claimed-live c (client p c .found) z (rw (T-true (pinsFound (client p c .stage)) t) (omega (arith, one-is (client p c .found))))
+
+  -- ---- how many claims there are
+
+  grants-least : (c f : ℕ) → grantsOn p c f ≤ client p c .held
+  unfolding grantsOn
+  grants-least c f = omega (arith, sum-least (λ i. one (eqb (grantFrame p c i) f)) (client p c .held) 1 (λ i _. one-least (eqb (grantFrame p c i) f)))
+
+  -- a client with an own frame claims no other way
+  claims-least : (c f : ℕ) → f ≢ none → claims p c f ≤ 8
+  claims-least c f z = go (ℕ-discrete (client p c .own) f) (ℕ-discrete (client p c .stage) 0)
+    where
+      k : Client
+      k = client p c
+
+      go : Dec (k .own ≡ f) → Dec (k .stage ≡ 0) → claims p c f ≤ 8
+      go (yes e) _ =
+          let o : k .own ≢ none = λ w. z (sym e ∙ w) in
+          omega (arith, foreign-claims p c f (λ w. r .private .own-unfound c c o (w ∙ sym e)) (λ i w. r .private .own-ungranted c c i o (w ∙ sym e)), one-least (eqb (k .own) f))
+      go (no e) (yes s) =
+          omega (arith, one-not _ _ e, ap (λ (x : ℕ). one (pinsFound x && eqb (k .found) f)) s, grants-least c f, r .ranges .held-ok c)
+      go (no e) (no s) =
+          omega (arith, one-not _ _ e, one-least (pinsFound (k .stage) && eqb (k .found) f), grants-least c f, r .ranges .working-held c s)
+
+  -- one more pin on the found frame is within the range
+  pub one-more : (c : ℕ) → c < clientCount p → client p c .stage ≢ 0 → T (not (pinsFound (client p c .stage))) → client p c .found ≢ none
+      → pins p (client p c .found) ≢ evicted → pins p (client p c .found) < pinned 128
+  unfolding claimed
+  one-more c h s t z live = go (r .counts .balance f z)
+    where
+      k : Client
+      k = client p c
+
+      f : ℕ
+      f = k .found
+
+      other : k .own ≢ f
+      other w = r .private .own-unfound c c (λ n. z (sym w ∙ n)) (sym w)
+
+      mine : claims p c f ≤ 7
+      mine = rw (T-false (pinsFound (k .stage)) t) (omega (arith, one-not _ _ other, grants-least c f, r .ranges .working-held c s))
+
+      all : claimed p f + 1 ≤ 8 * clientCount p
+      all = sum-gap (λ d. claims p d f) (clientCount p) 8 c 1 h (λ d _. claims-least d f z) (omega (arith, mine))
+
+      go : Balance p f (pins p f) (claimed p f) → pins p f < pinned 128
+      go (gone x y) = absurd (live x)
+      go (held x) = omega (arith, all, r .shape .clients-high)
+      go (orphan o) = absurd (o .unfound c refl)
+
+  -- ---- victims
+
+  -- an entry that stage 17 does not find is gone
+  pub entry-gone : (v : ℕ) → v ≢ none → lookup p (page p v) ≢ v → mapped p v ≡ 0
+  entry-gone v z n = go (ℕ-discrete (mapped p v) 0)
+    where
+      go : Dec (mapped p v ≡ 0) → mapped p v ≡ 0
+      go (yes e) = e
+      go (no w) =
+          let s = some-suc (mapped p v) w in
+          absurd (n (ap (lookup p) (r .outline .page-true v (s .0) z (s .1)) ∙ mapped-lookup p (r .shape) (r .outline .pages-apart) v (s .0) z (s .1) .1))
+
+  pub hunt-cases : (s : ℕ) → T (hunting s) → (s ≡ 12) ⊎ ((s ≡ 13) ⊎ ((s ≡ 14) ⊎ (s ≡ 15)))
+  hunt-cases s h = go (leb 12 s) (leb s 15) refl refl h
+    where
+      go : (a b : Bool) → leb 12 s ≡ a → leb s 15 ≡ b → T (a && b) → (s ≡ 12) ⊎ ((s ≡ 13) ⊎ ((s ≡ 14) ⊎ (s ≡ 15)))
+      go true true a b t = by (ℕ-discrete s 12) (ℕ-discrete s 13) (ℕ-discrete s 14)
+        where
+          by : Dec (s ≡ 12) → Dec (s ≡ 13) → Dec (s ≡ 14) → (s ≡ 12) ⊎ ((s ≡ 13) ⊎ ((s ≡ 14) ⊎ (s ≡ 15)))
+          by (yes e) _ _ = inl e
+          by (no _) (yes e) _ = inr (inl e)
+          by (no _) (no _) (yes e) = inr (inr (inl e))
+          by (no x) (no y) (no w) = inr (inr (inr (omega (arith, leb-true 12 s a, leb-true s 15 b))))
+      go true false a b t = absurd t
+      go false b x y t = absurd t
+
+  -- an own frame that has no slot yet is nobody's victim while that hunts
+  pub own-not-victim : (c d : ℕ) → T (unplaced (client p c .stage)) → client p c .own ≢ none → T (hunting (client p d .stage)) → client p d .victim ≢ client p c .own
+  own-not-victim c d u z h e = go (hunt-cases (client p d .stage) h)
+    where
+      two : pins p (client p d .victim) ≡ pinned 1
+      two = ap (pins p) e ∙ own-pins c z
+
+      seat : (pins p (client p d .victim) ≢ evicted → Seated p (client p d .victim)) → ⊥
+      seat s = let w = s (λ x. let n : ⊥ = omega (arith, two) in n) in r .places .unplaced-out c (w .0) u z (w .1 ∙ e)
+
+      go : (client p d .stage ≡ 12) ⊎ ((client p d .stage ≡ 13) ⊎ ((client p d .stage ≡ 14) ⊎ (client p d .stage ≡ 15))) → ⊥
+      go (inl q) = seat (know p r d 12 q .1 .1)
+      go (inr (inl q)) = seat (know p r d 13 q .1 .1)
+      go (inr (inr (inl q))) = seat (know p r d 14 q .1 .1)
+      go (inr (inr (inr q))) = omega (arith, know p r d 15 q .1 .1, two)

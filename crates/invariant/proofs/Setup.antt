@@ -1,0 +1,169 @@
+-- A pool that is set up is reached: nothing is in its slots and its table, every frame is evicted, every client rests. Assumes nothing.
+use mathlib.Core.Path.{_≡_, refl, sym, ap, _∙_}
+use mathlib.Core.Logic.{_≢_, inl}
+use mathlib.Core.Bool.{true}
+use Prim.Native.Nat.{ℕ, zero, suc, _≤_, _<_}
+use native.Mathlib.Omega.{arith}
+use native.Mathlib.Decide.{decLt}
+use lib.Dec.{eqb}
+use lib.ListN.{getD, replicate}
+use borrow.Author.Tests.{ltb-true, leb-true}
+use Rattle.pool.specs.State.{none, evicted, total, within, resting, no-client, slot, pins, count, entryFrame, client, grantFrame}
+use Rattle.pool.specs.Valid.{numbersOk}
+use Rattle.pool.specs.Calls.{fresh}
+use Rattle.pool.specs.declared.Pool.{Pool}
+use Rattle.pool.specs.declared.Client.{Client}
+use Rattle.laws.specs.Choices.{by-test}
+use Rattle.laws.specs.Scans.{both-true}
+use Rattle.invariant.proofs.Reached.{Shape, Reached, gone, one, mapped, claims, claimed, filling}
+use Rattle.invariant.proofs.After.{within-in, within-past}
+use Rattle.invariant.proofs.Sums.{sum-zero, sum-full}
+use Rattle.invariant.proofs.Searches.{grantFrame-past}
+use Rattle.invariant.proofs.Table.{suc-not, mapped-zero}
+use Rattle.invariant.proofs.Facts.{foreign-claims, none-own}
+
+getD-replicate : {A : Type 0} (n i : ℕ) (x d : A) → i < n → getD (replicate n x) i d ≡ x
+getD-replicate zero i x d h = let z : ⊥ = omega arith in absurd z
+getD-replicate (suc n) zero x d h = refl
+getD-replicate (suc n) (suc i) x d h = getD-replicate n i x d (omega arith)
+
+-- a list that is d throughout
+within-same : (m n d i : ℕ) → n ≤ m → within (replicate m d) n d i ≡ d
+within-same m n d i h = go (decLt i n)
+  where
+    go : Dec (i < n) → within (replicate m d) n d i ≡ d
+    go (yes l) = within-in (replicate m d) n d i l ∙ getD-replicate m i d 0 (omega arith)
+    go (no l) = within-past (replicate m d) n d i (omega arith)
+
+module _ (s t c h : ℕ) (ok : numbersOk s t c ≡ true) where
+  abbrev p : Pool
+  p = fresh s t c h
+
+  record Small : Type 0 where
+    a : 1 ≤ s
+    b : s ≤ 64
+    d : 1 ≤ t
+    e : t ≤ 16
+    f : 1 ≤ c
+    g : c ≤ 100
+
+  small : Small
+  unfolding numbersOk
+  small =
+      let a = both-true _ _ ok in
+      let b = both-true _ _ (a .1) in
+      let d = both-true _ _ (b .1) in
+      let e = both-true _ _ (d .1) in
+      let f = both-true _ _ (e .1) in
+      record { a = ltb-true _ _ (a .0); b = leb-true _ _ (b .0); d = ltb-true _ _ (d .0); e = leb-true _ _ (e .0); f = ltb-true _ _ (f .0); g = leb-true _ _ (f .1) }
+
+  shape : Shape p
+  shape =
+      let n = small in
+      record {
+        size-low = n .a;
+        size-high = n .b;
+        clients-low = n .d;
+        clients-high = n .e;
+        cap-low = n .f;
+        cap-high = n .g;
+        slots = refl;
+        pages = refl;
+        pins = refl;
+        counts = refl;
+        entry-pages = refl;
+        entry-frames = refl;
+        clients = refl;
+        grant-pages = refl;
+        grant-frames = refl;
+      }
+
+  slot-none : (i : ℕ) → slot p i ≡ none
+  unfolding slot
+  slot-none i = within-same 64 s none i (small .b)
+
+  pins-none : (f : ℕ) → pins p f ≡ evicted
+  unfolding pins
+  pins-none f = let n = small in within-same 96 (total p) evicted f (omega arith)
+
+  count-none : (f : ℕ) → count p f ≡ 0
+  unfolding count
+  count-none f = let n = small in within-same 96 (total p) 0 f (omega arith)
+
+  entry-none : (i : ℕ) → entryFrame p i ≡ none
+  unfolding entryFrame
+  entry-none i = let n = small in within-same 96 (total p) none i (omega arith)
+
+  rests : (d : ℕ) → client p d ≡ resting 0
+  unfolding client
+  rests d = by-test (λ (k : Client). k ≡ resting 0) (λ w. let n = small in getD-replicate 16 d (resting 0) no-client (omega (arith, ltb-true d t w))) (λ _. refl)
+
+  grant-none : (d i : ℕ) → grantFrame p d i ≡ none
+  grant-none d i = grantFrame-past p d i (omega (arith, ap (λ (k : Client). k .held) (rests d)))
+
+  mapped-zeros : (f : ℕ) → f ≢ none → mapped p f ≡ 0
+  mapped-zeros f z = mapped-zero p f (λ i w. z (sym w ∙ entry-none i))
+
+  claims-zero : (d f : ℕ) → f ≢ none → claims p d f ≡ 0
+  claims-zero d f z =
+      foreign-claims p d f (λ w. z (sym w ∙ ap (λ (k : Client). k .found) (rests d))) (λ i w. z (sym w ∙ grant-none d i)) ∙
+      (rw (rests d) (none-own f z))
+
+  pub reached-setup : Reached p
+  unfolding claimed
+  reached-setup =
+      let n = small in
+      record {
+        shape = shape;
+        ranges = record {
+          free-ok = omega arith;
+          last-ok = inl refl;
+          stage-ok = λ d. rw (rests d) (omega arith);
+          place-ok = λ d. rw (rests d) (n .a);
+          busy-ok = λ d. rw (rests d) (n .a);
+          seen-ok = λ d. rw (rests d) (omega arith);
+          held-ok = λ d. rw (rests d) (omega arith);
+          working-held = λ d. rw (rests d) (λ w. absurd (w refl));
+          pins-ok = λ f. rw (pins-none f) (omega arith);
+          count-ok = λ f. rw (count-none f) (omega arith);
+          slot-ok = λ i z. absurd (z (slot-none i));
+          entry-ok = λ i z. absurd (z (entry-none i));
+          own-ok = λ d. rw (rests d) (λ z. absurd (z refl));
+          found-ok = λ d. rw (rests d) (λ z. absurd (z refl));
+          victim-ok = λ d. rw (rests d) (λ z. absurd (z refl));
+          grant-ok = λ d i z. absurd (z (grant-none d i));
+        };
+        places = record {
+          slots-apart = λ i j z _. absurd (z (slot-none i));
+          owns-apart = λ d e z _. absurd (z (ap (λ (k : Client). k .own) (rests d)));
+          unplaced-out = λ d i _ z _. z (ap (λ (k : Client). k .own) (rests d));
+        };
+        private = record {
+          own-unmapped = λ d z. absurd (z (ap (λ (k : Client). k .own) (rests d)));
+          own-unfound = λ d e z. absurd (z (ap (λ (k : Client). k .own) (rests d)));
+          own-ungranted = λ d e i z. absurd (z (ap (λ (k : Client). k .own) (rests d)));
+        };
+        counts = record {
+          owns-none = λ d _. ap (λ (k : Client). k .own) (rests d);
+          balance = λ f z. gone (pins-none f) (sum-zero (λ d. claims p d f) t (λ d _. claims-zero d f z));
+        };
+        outline = record {
+          entries-apart = λ i j z _. absurd (z (entry-none i));
+          pages-apart = λ i j z _ _. absurd (z (entry-none i));
+          granted = λ d i z. absurd (z (grant-none d i));
+          grant-named = λ d i l. absurd (let w = ap (λ (k : Client). k .held) (rests d) in let y : ⊥ = omega arith in y);
+          knowing = λ d. rw (rests d) tt;
+          resident = λ f z l _. absurd (l (pins-none f));
+          known = λ f z l. absurd (l (pins-none f));
+          no-found = λ d _. ap (λ (k : Client). k .found) (rests d);
+          no-victim = λ d _. ap (λ (k : Client). k .victim) (rests d);
+          own-page = λ d z. absurd (z (ap (λ (k : Client). k .own) (rests d)));
+          page-true = λ f g z e. absurd (suc-not e (mapped-zeros f z));
+        };
+        calm = record {
+          empties = omega (arith, sum-full (λ i. one (eqb (slot p i) none)) s (λ i _. ap (λ (f : ℕ). one (eqb f none)) (slot-none i)), sum-zero (λ d. one (filling (client p d .stage))) t (λ d _. rw (rests d) refl));
+          six = λ d e. absurd (let w = ap (λ (k : Client). k .stage) (rests d) in let y : ⊥ = omega arith in y);
+          only = λ d i _ z _. absurd (z (ap (λ (k : Client). k .victim) (rests d)));
+          ghosts = λ f z n _. absurd (n (mapped-zeros f z));
+        };
+      }

@@ -1,0 +1,98 @@
+-- Sums over the numbers below n. Assumes nothing.
+use mathlib.Core.Path.{_≡_, refl, sym, ap}
+use mathlib.Core.Logic.{_≢_}
+use mathlib.Core.Bool.{Bool, true, false}
+use Prim.Native.Nat.{ℕ, zero, suc, _+_, _*_, _≤_, _<_}
+use native.Mathlib.Omega.{arith}
+use native.Mathlib.Decide.{ℕ-discrete}
+use lib.Dec.{eqb}
+use borrow.Author.Tests.{eq-eqb, ne-eqb}
+use Rattle.invariant.proofs.Reached.{one, sumTo}
+
+pub one-is : (f : ℕ) → one (eqb f f) ≡ 1
+one-is f = ap one (eq-eqb f f refl)
+
+pub one-not : (f g : ℕ) → f ≢ g → one (eqb f g) ≡ 0
+one-not f g z = ap one (ne-eqb f g z)
+
+pub one-least : (b : Bool) → one b ≤ 1
+one-least true = omega arith
+one-least false = omega arith
+
+pub sum-same : (g h : ℕ → ℕ) (n : ℕ) → ((i : ℕ) → i < n → h i ≡ g i) → sumTo h n ≡ sumTo g n
+unfolding sumTo
+sum-same g h zero e = refl
+sum-same g h (suc n) e = omega (arith, sum-same g h n (λ i l. e i (omega arith)), e n (omega arith))
+
+-- one term changes
+pub sum-put : (g h : ℕ → ℕ) (n k : ℕ) → k < n → ((i : ℕ) → i < n → i ≢ k → h i ≡ g i) → sumTo h n + g k ≡ sumTo g n + h k
+unfolding sumTo
+sum-put g h zero k l e = let z : ⊥ = omega arith in absurd z
+sum-put g h (suc n) k l e = go (ℕ-discrete k n) (sum-put g h n k)
+  where
+    go : Dec (k ≡ n) → (k < n → ((i : ℕ) → i < n → i ≢ k → h i ≡ g i) → sumTo h n + g k ≡ sumTo g n + h k) → sumTo h n + h n + g k ≡ sumTo g n + g n + h k
+    go (yes q) ih = rw q (omega (arith, sum-same g h n (λ i r. e i (omega arith) (λ w. let z : ⊥ = omega arith in z))))
+    go (no q) ih = omega (arith, ih (omega arith) (λ i r w. e i (omega arith) w), e n (omega arith) (λ w. q (sym w)))
+
+pub sum-zero : (g : ℕ → ℕ) (n : ℕ) → ((i : ℕ) → i < n → g i ≡ 0) → sumTo g n ≡ 0
+unfolding sumTo
+sum-zero g zero e = refl
+sum-zero g (suc n) e = omega (arith, sum-zero g n (λ i l. e i (omega arith)), e n (omega arith))
+
+-- one term alone counts
+pub sum-one : (g : ℕ → ℕ) (n k : ℕ) → k < n → ((i : ℕ) → i < n → i ≢ k → g i ≡ 0) → sumTo g n ≡ g k
+sum-one g n k l e = omega (arith, sum-put (λ _. 0) g n k l e, sum-zero (λ _. 0) n (λ _ _. refl))
+
+pub sum-has : (g : ℕ → ℕ) (n k : ℕ) → k < n → g k ≤ sumTo g n
+unfolding sumTo
+sum-has g zero k l = let z : ⊥ = omega arith in absurd z
+sum-has g (suc n) k l = go (ℕ-discrete k n) (sum-has g n k)
+  where
+    go : Dec (k ≡ n) → (k < n → g k ≤ sumTo g n) → g k ≤ sumTo g n + g n
+    go (yes q) ih = rw q (omega arith)
+    go (no q) ih = let h = ih (omega arith) in omega arith
+
+-- no term is above b
+pub sum-least : (g : ℕ → ℕ) (n b : ℕ) → ((i : ℕ) → i < n → g i ≤ b) → sumTo g n ≤ b * n
+unfolding sumTo
+sum-least g zero b e = omega arith
+sum-least g (suc n) b e = let more : b * suc n ≡ b * n + b = omega arith in omega (arith, sum-least g n b (λ i l. e i (omega arith)), e n (omega arith))
+
+-- and one of them is d below it
+pub sum-gap : (g : ℕ → ℕ) (n b k d : ℕ) → k < n → ((i : ℕ) → i < n → g i ≤ b) → g k + d ≤ b → sumTo g n + d ≤ b * n
+unfolding sumTo
+sum-gap g zero b k d l e h = let z : ⊥ = omega arith in absurd z
+sum-gap g (suc n) b k d l e h = go (ℕ-discrete k n) (sum-gap g n b k d)
+  where
+    more : b * suc n ≡ b * n + b
+    more = omega arith
+
+    go : Dec (k ≡ n) → (k < n → ((i : ℕ) → i < n → g i ≤ b) → g k + d ≤ b → sumTo g n + d ≤ b * n) → sumTo g n + g n + d ≤ b * suc n
+    go (yes q) ih = omega (arith, more, ap g q, sum-least g n b (λ i r. e i (omega arith)))
+    go (no q) ih = omega (arith, more, ih (omega arith) (λ i r. e i (omega arith)) h, e n (omega arith))
+
+-- every term counts
+pub sum-most : (g : ℕ → ℕ) (n : ℕ) → ((i : ℕ) → i < n → 1 ≤ g i) → n ≤ sumTo g n
+unfolding sumTo
+sum-most g zero e = omega arith
+sum-most g (suc n) e = omega (arith, sum-most g n (λ i l. e i (omega arith)), e n (omega arith))
+
+-- a sum that is not 0 has a term that is not
+pub sum-some : (g : ℕ → ℕ) (n : ℕ) → sumTo g n ≢ 0 → (i : ℕ) × (i < n) × (g i ≢ 0)
+unfolding sumTo
+sum-some g zero z = absurd (z refl)
+sum-some g (suc n) z = go (ℕ-discrete (g n) 0) (sum-some g n)
+  where
+    go : Dec (g n ≡ 0) → (sumTo g n ≢ 0 → (i : ℕ) × (i < n) × (g i ≢ 0)) → (i : ℕ) × (i < suc n) × (g i ≢ 0)
+    go (no q) ih = (n, omega arith, q)
+    go (yes q) ih = let r = ih (λ w. z (omega arith)) in (r .0, omega (arith, r .1), r .2)
+
+pub sum-add : (g h : ℕ → ℕ) (n : ℕ) → sumTo (λ i. g i + h i) n ≡ sumTo g n + sumTo h n
+unfolding sumTo
+sum-add g h zero = refl
+sum-add g h (suc n) = omega (arith, sum-add g h n)
+
+pub sum-full : (g : ℕ → ℕ) (n : ℕ) → ((i : ℕ) → i < n → g i ≡ 1) → sumTo g n ≡ n
+unfolding sumTo
+sum-full g zero e = refl
+sum-full g (suc n) e = omega (arith, sum-full g n (λ i l. e i (omega arith)), e n (omega arith))
