@@ -22,12 +22,12 @@ use Rattle.laws.specs.Choices.{by-test, chosen}
 use Rattle.invariant.proofs.Reached.{Reached, Shape}
 use Rattle.invariant.proofs.After.{client-past}
 use Rattle.invariant.proofs.Valid.{valid-reached}
-use Rattle.invariant.proofs.Setup.{reached-setup}
 use Rattle.invariant.proofs.Calls.{never-stuck, call-moves, call-turned, reached-call}
 use Rattle.guarantee.specs.Sequential.{Sequential, empty, resting, start}
 use Rattle.guarantee.specs.Claims.{Follows, ends, goes}
 use Rattle.guarantee.proofs.Mirror.{seen, seen-evicted, Mirrors, upTo, downFrom, viewTaker, view, mirrors-view}
 use Rattle.guarantee.proofs.Places.{same-pages}
+use Rattle.guarantee.proofs.Start.{starts}
 use Rattle.guarantee.proofs.Follow.{Followed, turned-alike, turned, moved}
 
 module _ {p : Pool} {q : Sequential} (r : Reached p) (mirror : Mirrors p q) where
@@ -85,18 +85,12 @@ view-start s t c h shape = λ i. record { places = all-same _ s empty vacant i; 
     idle : (d : ℕ) → viewTaker (client p d) (downFrom (grantPage p d) (client p d .held)) ≡ resting []
     idle d = rw (at-rest d (decLt d t)) refl
 
--- a setup that is not turned down
-pub record SetUp (s t : ℕ) (p : Pool) : Type 0 where
-  pub reached : Reached p
-  pub mirrors : Mirrors p (start s t)
-
-pub set-up : (s t c h : ℕ) → setupOf s t c h .answer ≡ Done s → SetUp s t (setupOf s t c h .pool)
-unfolding setupOf
-set-up s t c h =
-    by-test (λ (o : Outcome). o .answer ≡ Done s → SetUp s t (o .pool))
-    (λ ok _. let r = reached-setup s t c h ok in
-    record { reached = r; mirrors = rw (view-start s t c h (r .shape)) at (mirrors-view (fresh s t c h) (r .shape)) })
-    (λ _ e. let z : _≡_ {A = ℕ} 0 1 = cc in absurd (omega arith))
+-- at a setup that is done the sequential pool that has just started mirrors the pool
+pub mirrors-start : (s t c h : ℕ) → setupOf s t c h .answer ≡ Done s → Mirrors (setupOf s t c h .pool) (start s t)
+mirrors-start s t c h e =
+    let first = starts s t c h e in
+    let shape = rw (first .fresh-pool) at (first .reached .shape) in
+    rw (first .fresh-pool) (rw (view-start s t c h shape) at (mirrors-view (fresh s t c h) shape))
 
 pub sequential : (s t c h : ℕ) → setupOf s t c h .answer ≡ Done s → (calls : List Call) → Follows (setupOf s t c h .pool) (start s t) calls
-sequential s t c h e calls = let u = set-up s t c h e in follows-on calls (u .reached) (u .mirrors)
+sequential s t c h e calls = follows-on calls (starts s t c h e .reached) (mirrors-start s t c h e)

@@ -31,7 +31,8 @@ use Rattle.guarantee.specs.Sequential.{Sequential, place}
 use Rattle.guarantee.specs.Claims.{tallyOf, Below, Claim-sum}
 use Rattle.guarantee.proofs.Mirror.{seen, seen-evicted, seen-unmapped, seen-full, Mirrors, none-evicted}
 use Rattle.guarantee.proofs.Weights.{occupied, full, kept, kept-sum, kept-none, gained, lost}
-use Rattle.guarantee.proofs.Sequence.{followed, set-up}
+use Rattle.guarantee.proofs.Sequence.{followed, mirrors-start}
+use Rattle.guarantee.proofs.Start.{starts}
 
 -- ---- a numbering that gives each number with a property once gives as many of them as there are
 
@@ -176,4 +177,4 @@ sum-run {p} {q} (x ∷ calls) t r mirror e h =
     sum-run calls (tallied u t) (reached-call p x r) (f .mirrors) (omega (arith, e, f .weighs, one-up .gains, one-up .loses)) h
 
 pub sum : Claim-sum
-sum s t c h e calls low = let u = set-up s t c h e in sum-run calls zeroTally (u .reached) (u .mirrors) (omega (arith, kept-none s)) low
+sum s t c h e calls low = sum-run calls zeroTally (starts s t c h e .reached) (mirrors-start s t c h e) (omega (arith, kept-none s)) low

@@ -1,0 +1,93 @@
+-- What stays as it was at a begin while its client runs alone: slots, look-up, and the pins of the frames in slots, under every write that they do
+-- not see. Assumes nothing.
+use mathlib.Core.Path.{_≡_, refl, sym, ap, subst, _∙_}
+use mathlib.Core.Logic.{_≢_}
+use mathlib.Core.Bool.{Bool, true, false}
+use mathlib.Core.List.{List, []}
+use Prim.Native.Nat.{ℕ, _<_}
+use native.Mathlib.Decide.{ℕ-discrete}
+use lib.Dec.{T}
+use Rattle.pool.specs.State.{none, total, slot, pins, entryFrame}
+use Rattle.pool.specs.Table.{entryOf, lookup}
+use Rattle.pool.specs.Apply.{stored, slotsAfter, pinsAfter, entryPagesAfter, entryFramesAfter, apply}
+use Rattle.pool.specs.declared.Pool.{Pool}
+use Rattle.pool.specs.declared.Move.{Move}
+use Rattle.pool.specs.declared.Write.{Write}
+use Rattle.pool.specs.declared.Write.the-variants.{Keep, PutSlot, PutPins, PutCount, TakeFrame, PutEntry, PutHand, PutFree}
+use Rattle.invariant.proofs.Reached.{Reached}
+use Rattle.invariant.proofs.After.{shape-next, slot-kept, pins-kept, entryPage-else, entryFrame-here, entryFrame-else}
+use Rattle.invariant.proofs.Searches.{lookup-found, lookup-none}
+use Rattle.guarantee.proofs.Solo.{keepsTable, lookup-kept}
+
+-- ---- what stays as it was at the begin
+
+pub record Base (p₀ p : Pool) (g : ℕ) : Type 0 where
+  pub slots : (i : ℕ) → slot p i ≡ slot p₀ i
+  pub looked : lookup p g ≡ lookup p₀ g
+  pub size : p .size ≡ p₀ .size
+  pub pins : (i : ℕ) → pins p (slot p₀ i) ≡ pins p₀ (slot p₀ i)
+
+-- a write that the slots, the pins and the table do not see
+abbrev pub still : Write → Bool
+still Keep = true
+still (PutSlot i f) = false
+still (PutPins f x) = false
+still (PutCount f x) = true
+still (TakeFrame f g x y) = false
+still (PutEntry i g f) = false
+still (PutHand h) = true
+still (PutFree x) = true
+
+pub record Still (n : ℕ) (l : List ℕ) (w : Write) : Type 0 where
+  pub slots : slotsAfter n l w ≡ l
+  pub pins : pinsAfter n l w ≡ l
+  pub table : T (keepsTable w)
+
+pub is-still : (n : ℕ) (l : List ℕ) (w : Write) → T (still w) → Still n l w
+unfolding slotsAfter pinsAfter
+is-still n l Keep t = record { slots = refl; pins = refl; table = tt }
+is-still n l (PutCount f x) t = record { slots = refl; pins = refl; table = tt }
+is-still n l (PutHand h) t = record { slots = refl; pins = refl; table = tt }
+is-still n l (PutFree x) t = record { slots = refl; pins = refl; table = tt }
+is-still n l (PutSlot i f) t = absurd t
+is-still n l (PutPins f x) t = absurd t
+is-still n l (TakeFrame f g x y) t = absurd t
+is-still n l (PutEntry i g f) t = absurd t
+
+module _ (p : Pool) (c : ℕ) (m : Move) (r : Reached p) (t : T (still (m .write))) where
+  pub slot-still : (i : ℕ) → slot (apply p c m) i ≡ slot p i
+  slot-still = slot-kept p c m (r .shape) (is-still _ _ (m .write) t .slots)
+
+  pub pins-still : (f : ℕ) → pins (apply p c m) f ≡ pins p f
+  pins-still = pins-kept p c m (r .shape) (is-still _ _ (m .write) t .pins)
+
+  pub base-still : {p₀ : Pool} {g : ℕ} → Base p₀ p g → Base p₀ (apply p c m) g
+  unfolding apply
+  base-still {g = g} h =
+      record {
+        slots = λ i. slot-still i ∙ h .slots i;
+        looked = lookup-kept p c m (is-still 0 [] (m .write) t .table) g ∙ h .looked;
+        size = h .size;
+        pins = λ i. pins-still _ ∙ h .pins i;
+      }
+
+-- a page that the table lacks it lacks still when an entry is emptied
+pub emptied : (p : Pool) (c i x : ℕ) (m : Move) → m .write ≡ PutEntry i x none → Reached p → (g : ℕ) → lookup p g ≡ none → lookup (apply p c m) g ≡ none
+unfolding apply entryPagesAfter entryFramesAfter
+emptied p c i x m e r g a = elim (ℕ-discrete (lookup q g) none) [ yes n ↦ n | no z ↦ absurd (by z (ℕ-discrete (entryOf q g) i)) ]
+  where
+    q : Pool
+    q = apply p c m
+
+    frames : entryFramesAfter (total p) (p .«table_frames») (m .write) ≡ stored (p .«table_frames») (total p) i none
+    frames = ap (entryFramesAfter (total p) (p .«table_frames»)) e
+
+    by : lookup q g ≢ none → Dec (entryOf q g ≡ i) → ⊥
+    by z (yes n) =
+        let f = lookup-found q (shape-next p c m (r .shape)) g z in
+        z (sym (f .entry-frame) ∙ (ap (entryFrame q) n ∙ entryFrame-here p c m (r .shape) i none frames (subst (λ (y : ℕ). y < total p) n (f .place))))
+    by z (no n) =
+        let f = lookup-found q (shape-next p c m (r .shape)) g z in
+        lookup-none p (r .shape) g a (entryOf q g)
+        (λ w. z (sym (f .entry-frame) ∙ (entryFrame-else p c m (r .shape) i none frames (entryOf q g) n ∙ w)))
+        (sym (entryPage-else p c m (r .shape) i x (ap (entryPagesAfter (total p) (p .«table_pages»)) e) (entryOf q g) n) ∙ f .entry-page)

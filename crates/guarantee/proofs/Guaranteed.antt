@@ -1,0 +1,59 @@
+-- All that `Claims.antt` states, put together: a pool that was set up is reached, and so is every pool after it. Assumes nothing.
+use mathlib.Core.Path.{_≡_}
+use mathlib.Core.Bool.{true}
+use mathlib.Core.List.{List}
+use Prim.Native.Nat.{ℕ, _<_}
+use native.Mathlib.Omega.{arith}
+use Rattle.pool.specs.State.{total, client}
+use Rattle.pool.specs.Frames.{freeFrame}
+use Rattle.pool.specs.Valid.{valid}
+use Rattle.pool.specs.Calls.{setupOf}
+use Rattle.pool.specs.declared.Pool.{Pool}
+use Rattle.pool.specs.declared.Call.{Call}
+use Rattle.pool.specs.declared.Answer.the-variants.{Done}
+use Rattle.invariant.proofs.Reached.{Reached}
+use Rattle.invariant.proofs.After.{client-here}
+use Rattle.invariant.proofs.Valid.{valid-reached}
+use Rattle.invariant.proofs.Never.{finds}
+use Rattle.guarantee.specs.Claims.{Claim-point3, Claim-answers, Guarantee}
+use Rattle.guarantee.proofs.Copies.{throughout, one-copies, helds-pinned, no-held-evicted}
+use Rattle.guarantee.proofs.Sequence.{sequential}
+use Rattle.guarantee.proofs.Sum.{sum}
+use Rattle.guarantee.proofs.Once.{taken-out-once}
+use Rattle.guarantee.proofs.Effect.{one-effect}
+use Rattle.guarantee.proofs.Alone.{refused-alone}
+use Rattle.guarantee.proofs.Listed.{listed}
+use Rattle.guarantee.proofs.Turned.{turned, refused}
+use Rattle.guarantee.proofs.Solo.{limits}
+use Rattle.guarantee.proofs.Start.{starts}
+
+point3 : Claim-point3
+point3 s t c h e calls =
+    let p = setupOf s t c h .pool in
+    let r = starts s t c h e .reached in
+    record {
+      one-copy = one-copies p calls r;
+      no-held-evicted = no-held-evicted p calls r;
+      held-pinned = helds-pinned p calls r;
+      taken-out-once = taken-out-once p calls r;
+      sequential = sequential s t c h e calls;
+      one-effect = one-effect p calls r;
+      refused-alone = refused-alone p calls r;
+    }
+
+-- a client past the last one rests, and so does not stand at 4
+finds-frame : (p : Pool) → Reached p → (d : ℕ) → client p d .stage ≡ 4 → freeFrame p < total p
+finds-frame p r d at4 = finds p r d (client-here p (λ k. k .stage ≡ 4) d at4 (λ e. let z : _≡_ {A = ℕ} 0 4 = e in omega arith)) at4
+
+answers : Claim-answers
+answers s t c h e calls =
+    let p = setupOf s t c h .pool in
+    let r = starts s t c h e .reached in
+    record {
+      in-range = throughout (λ q. valid q ≡ true) valid-reached p calls r;
+      finds = throughout (λ q. (d : ℕ) → client q d .stage ≡ 4 → freeFrame q < total q) finds-frame p calls r;
+      listed = listed p calls r;
+    }
+
+pub guarantee : Guarantee
+guarantee = record { point3 = point3; answers = answers; turned = turned; refused = refused; sum = sum; limits = limits }

@@ -1,0 +1,184 @@
+-- Once a stage 15 has replaced a frame, and until a stage 4 takes it, the frame stands in no slot and is nobody's own (`Out`). So between two stages
+-- 15 that replace it a stage 4 takes it. Assumes nothing.
+use mathlib.Core.Path.{_≡_, refl, sym, ap, subst, _∙_}
+use mathlib.Core.Logic.{_≢_, _⊎_, inl, inr}
+use mathlib.Core.List.{List, [], _∷_}
+use Prim.Native.Nat.{ℕ, zero, suc, _<_}
+use native.Mathlib.Decide.{ℕ-discrete, decLt}
+use native.Mathlib.Nat.{not-suc-le-zero, le-of-suc-le-suc}
+use native.Mathlib.Omega.{arith}
+use Rattle.pool.specs.State.{none, evicted, clientCount, slot, pins, client}
+use Rattle.pool.specs.Apply.{apply}
+use Rattle.pool.specs.Calls.{caller, moveOf, callOf}
+use Rattle.pool.specs.declared.Pool.{Pool}
+use Rattle.pool.specs.declared.Client.{Client}
+use Rattle.pool.specs.declared.Move.{Move}
+use Rattle.pool.specs.declared.Outcome.{Outcome}
+use Rattle.pool.specs.declared.Call.{Call}
+use Rattle.pool.specs.declared.Call.the-variants.{Step}
+use Rattle.invariant.proofs.Reached.{Reached}
+use Rattle.invariant.proofs.After.{client-same, all-clients, pins-in}
+use Rattle.invariant.proofs.Searches.{few-frames}
+use Rattle.invariant.proofs.Facts.{own-pins}
+use Rattle.invariant.proofs.Edges.{Edge, on, found1, found18, lost2, lost22, pins2, pins19, gets3, gets21, takes, fills, swaps, gives-up, drops, removes, admits, revives, evicts20, evicts23, begins, releases}
+use Rattle.invariant.proofs.Steps.{call-edge}
+use Rattle.invariant.proofs.Effects.{effect}
+use Rattle.invariant.proofs.Next.{slot-now, slot-or-out}
+use Rattle.invariant.proofs.Calls.{reached-call}
+use Rattle.guarantee.specs.Runs.{happens, events, At}
+use Rattle.guarantee.specs.Claims.{Evicts, Replaces, Takes, TakenOutOnce}
+use Rattle.guarantee.proofs.Turned.{Went, down, by-move, went, allowed, only-step}
+
+-- ---- only stage 4 gives a client another own frame
+
+abbrev OldOwn : Client → Client → Type 0
+OldOwn k n = (n .own ≡ k .own) ⊎ ((n .own ≡ none) ⊎ (k .stage ≡ 4))
+
+old-own : (p : Pool) (c : ℕ) {m : Move} → Edge p c m → OldOwn (client p c) (m .next)
+old-own p c (on n j w h) = inl (h .same .own)
+old-own p c (takes e _) = inr (inr e)
+old-own p c (found1 _ _) = inl refl
+old-own p c (found18 _ _) = inl refl
+old-own p c (lost2 _ _) = inl refl
+old-own p c (lost22 _) = inl refl
+old-own p c (pins2 _ _) = inl refl
+old-own p c (pins19 _ _) = inl refl
+old-own p c (fills _ _) = inl refl
+old-own p c (swaps _ _) = inl refl
+old-own p c (drops _ _) = inl refl
+old-own p c (removes _ _) = inl refl
+old-own p c (begins _ _ _) = inl refl
+old-own p c (releases _ _ _) = inl refl
+old-own p c (gets3 _) = inr (inl refl)
+old-own p c (gets21 _) = inr (inl refl)
+old-own p c (gives-up _) = inr (inl refl)
+old-own p c (admits _ _ _) = inr (inl refl)
+old-own p c (revives _ _) = inr (inl refl)
+old-own p c (evicts20 _) = inr (inl refl)
+old-own p c (evicts23 _) = inr (inl refl)
+
+-- ---- a frame that is out stays so until a stage 4 takes it
+
+record Out (p : Pool) (f : ℕ) : Type 0 where
+  no-slot : (i : ℕ) → slot p i ≢ f
+  no-own : (c : ℕ) → client p c .own ≢ f
+
+-- frame f is nobody's own, and the client that moves takes no frame
+module _ (p : Pool) (r : Reached p) (f : ℕ) (z : f ≢ none) (unowned : (c : ℕ) → client p c .own ≢ f) where
+  not-own : (c : ℕ) (m : Move) → client p c .stage ≢ 4 → OldOwn (client p c) (m .next) → m .next .own ≢ f
+  not-own c m s (inl w) e = unowned c (sym w ∙ e)
+  not-own c m s (inr (inl w)) e = z (sym e ∙ w)
+  not-own c m s (inr (inr w)) e = s w
+
+  -- then a move puts it into no slot, so it is out if every slot that named it does no more
+  out-move : (c : ℕ) (m : Move) → c < clientCount p → Edge p c m → m .next .own ≢ f → ((i : ℕ) → slot p i ≡ f → slot (apply p c m) i ≢ f) → Out (apply p c m) f
+  out-move c m here w u s =
+      record {
+        no-slot = λ i e. elim (slot-now p c here r m (effect p c here r w) i) [ inl q ↦ s i (sym q ∙ e) e | inr q ↦ unowned c (sym (q .0) ∙ e) ];
+        no-own = all-clients p c m (r .shape) (λ _ k. k .own ≢ f) here (λ d _. unowned d) u;
+      }
+
+out-call : (p : Pool) (x : Call) (f : ℕ) → Reached p → f ≢ none → Out p f → Out (callOf p x .pool) f ⊎ Takes f (happens p x)
+out-call p x f r z o = go (went p x)
+  where
+    c : ℕ
+    c = caller x
+
+    go : Went p x (callOf p x) → Out (callOf p x .pool) f ⊎ Takes f (happens p x)
+    go (down _ _ q) = inl (subst (λ (y : Outcome). Out (y .pool) f) (sym q) o)
+    go (by-move e _ q) = by (ℕ-discrete (client p c .stage) 4) (ℕ-discrete (moveOf p x .next .own) f)
+      where
+        w : (c < clientCount p) × Edge p c (moveOf p x)
+        w = call-edge p x r e
+
+        stays : moveOf p x .next .own ≢ f → Out (callOf p x .pool) f
+        stays u =
+            subst (λ (y : Outcome). Out (y .pool) f) (sym q) (out-move p r f z (o .no-own) c (moveOf p x) (w .0) (w .1) u (λ i s. absurd (o .no-slot i s)))
+
+        by : Dec (client p c .stage ≡ 4) → Dec (moveOf p x .next .own ≡ f) → Out (callOf p x .pool) f ⊎ Takes f (happens p x)
+        by (no s) _ = inl (stays (not-own p r f z (o .no-own) c (moveOf p x) s (old-own p c (w .1))))
+        by (yes s) (no u) = inl (stays u)
+        by (yes s) (yes u) =
+            inr (record {
+              client-of = c;
+              step-of = (only-step p x (allowed p x e) (λ y. let n : _≡_ {A = ℕ} 4 0 = sym s ∙ y in omega arith), s);
+              takes = ap (λ (y : Outcome). client (y .pool) c .own) q ∙ (ap (λ (k : Client). k .own) (client-same p c (moveOf p x) (r .shape) (w .0)) ∙ u);
+            })
+
+-- ---- a stage 15 that replaces it makes it so
+
+replaced-out : (p : Pool) (x : Call) (f : ℕ) → Reached p → f ≢ none → Replaces f (happens p x) → Out (callOf p x .pool) f
+unfolding caller
+replaced-out p x f r z h =
+    subst (λ (y : Call). slot (callOf p y .pool) i ≢ f → Out (callOf p y .pool) f) (sym (h .step-of .0)) (go (went p (Step c))) (h .names-no-more)
+  where
+    c : ℕ
+    c = h .client-of
+
+    i : ℕ
+    i = h .place
+
+    m : Move
+    m = moveOf p (Step c)
+
+    out : c < clientCount p → Edge p c m → slot (apply p c m) i ≢ f → Out (apply p c m) f
+    out here w n =
+        out-move p r f z unowned c m here w
+        (not-own p r f z unowned c m (λ s. let y : _≡_ {A = ℕ} 15 4 = sym (h .step-of .1) ∙ s in omega arith) (old-own p c w))
+        (λ j s e. n (ap (slot (apply p c m)) (sym (r .places .slots-apart j i (λ q. z (sym s ∙ q)) (s ∙ sym (h .named)))) ∙ e))
+      where
+        -- a frame that leaves its slot is evicted, and an own frame is not
+        dead : pins p f ≡ evicted
+        dead = elim (slot-or-out p c here r m (effect p c here r w) f i z (h .named)) [ inl q ↦ absurd (n q) | inr q ↦ q .0 ]
+
+        unowned : (d : ℕ) → client p d .own ≢ f
+        unowned d e = omega (arith, own-pins p r d (λ q. z (sym e ∙ q)), ap (pins p) e ∙ dead)
+
+    go : Went p (Step c) (callOf p (Step c)) → slot (callOf p (Step c) .pool) i ≢ f → Out (callOf p (Step c) .pool) f
+    go (down _ _ q) n = absurd (n (ap (λ (o : Outcome). slot (o .pool) i) q ∙ h .named))
+    go (by-move e _ q) n =
+        let w = call-edge p (Step c) r e in
+        subst (λ (o : Outcome). Out (o .pool) f) (sym q) (out (w .0) (w .1) (λ s. n (ap (λ (o : Outcome). slot (o .pool) i) q ∙ s)))
+
+-- ---- along a run
+
+-- a frame that is out is replaced only after it was taken
+taken-first : (p : Pool) (calls : List Call) (f : ℕ) → Reached p → f ≢ none → Out p f → (n : ℕ) → At (Replaces f) (events p calls) n
+    → (m : ℕ) × (m < n) × At (Takes f) (events p calls) m
+unfolding events At
+taken-first p [] f r z o n h = absurd h
+taken-first p (x ∷ calls) f r z o zero h = absurd (o .no-slot (h .place) (h .named))
+taken-first p (x ∷ calls) f r z o (suc n) h =
+    let ih = taken-first (callOf p x .pool) calls f (reached-call p x r) z in
+    elim (out-call p x f r z o) [ inl q ↦ (let w = ih q n h in (suc (w .0), omega (arith, w .1), w .2)) | inr t ↦ (0, omega arith, t) ]
+
+-- between two stages 15 that replace one frame, a stage 4 takes it
+taken-between : (p : Pool) (calls : List Call) (f : ℕ) → Reached p → f ≢ none → (k n : ℕ) → k < n → At (Replaces f) (events p calls) k
+    → At (Replaces f) (events p calls) n → (m : ℕ) × (k < m) × (m < n) × At (Takes f) (events p calls) m
+unfolding events At
+taken-between p [] f r z k n l a b = absurd a
+taken-between p (x ∷ calls) f r z k zero l a b = absurd (not-suc-le-zero l)
+taken-between p (x ∷ calls) f r z zero (suc n) l a b =
+    let w = taken-first (callOf p x .pool) calls f (reached-call p x r) z (replaced-out p x f r z a) n b in
+    (suc (w .0), omega arith, omega (arith, w .1), w .2)
+taken-between p (x ∷ calls) f r z (suc k) (suc n) l a b =
+    let w = taken-between (callOf p x .pool) calls f (reached-call p x r) z k n (le-of-suc-le-suc l) a b in
+    (suc (w .0), omega (arith, w .1), omega (arith, w .2), w .3)
+
+-- what is evicted is a frame
+evicts-frame : (p : Pool) (calls : List Call) (f : ℕ) → Reached p → (k : ℕ) → At (Evicts f) (events p calls) k → f ≢ none
+unfolding events At
+evicts-frame p [] f r k e = absurd e
+evicts-frame p (x ∷ calls) f r zero e = λ z. omega (arith, pins-in p f (e .puts-out .0), few-frames p (r .shape))
+evicts-frame p (x ∷ calls) f r (suc k) e = evicts-frame (callOf p x .pool) calls f (reached-call p x r) k e
+
+pub taken-out-once : (p : Pool) (calls : List Call) → Reached p → TakenOutOnce (events p calls)
+taken-out-once p calls r f k m n e a b = go (decLt m n) (decLt n m)
+  where
+    z : f ≢ none
+    z = evicts-frame p calls f r k e
+
+    go : Dec (m < n) → Dec (n < m) → m ≡ n
+    go (yes l) _ = let t = taken-between p calls f r z m n l (a .out) (b .out) in absurd (b .not-anew (t .0) (omega (arith, a .later, t .1)) (t .2) (t .3))
+    go (no _) (yes l) = let t = taken-between p calls f r z n m l (b .out) (a .out) in absurd (a .not-anew (t .0) (omega (arith, b .later, t .1)) (t .2) (t .3))
+    go (no x) (no y) = omega arith

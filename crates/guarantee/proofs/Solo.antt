@@ -1,0 +1,308 @@
+-- "Stepped alone, all others resting, a hit takes at most 3 steps, and an admission to an empty slot at most S + 7." The limits are put together
+-- from the last step back. At stages 7 and 8 the client has itself claimed an empty slot, so there is one, and stage 8 comes to it in d + 1 steps if
+-- it is d places on. Assumes nothing.
+use mathlib.Core.Path.{_≡_, refl, sym, ap, _∙_}
+use mathlib.Core.Logic.{_≢_, _⊎_, inl, inr}
+use mathlib.Core.Bool.{Bool, true, false}
+use mathlib.Core.List.{List, [], _∷_}
+use Prim.Native.Nat.{ℕ, zero, suc, _+_, _-_, _≤_, _<_, _%_}
+use native.Mathlib.Decide.{ℕ-discrete, decLt}
+use native.Mathlib.Nat.{mod-lt}
+use native.Mathlib.Omega.{arith}
+use lib.Dec.{T, eqb}
+use borrow.Author.Tests.{eqb-true, eqb-false, ltb-true, ltb-false, not-true, not-false}
+use Rattle.pool.specs.State.{none, evicted, clientCount, total, slot, pins, entryPage, entryFrame, client}
+use Rattle.pool.specs.Table.{maps, entryOf, lookup, resident}
+use Rattle.pool.specs.Moves.{works, withPlace}
+use Rattle.pool.specs.Apply.{slotsAfter, pinsAfter, freeAfter, entryPagesAfter, entryFramesAfter, apply}
+use Rattle.pool.specs.Stages.{around}
+use Rattle.pool.specs.Calls.{setupOf, beginMove, callOf, poolAfter}
+use Rattle.pool.specs.declared.Pool.{Pool}
+use Rattle.pool.specs.declared.Client.{Client}
+use Rattle.pool.specs.declared.Move.{Move}
+use Rattle.pool.specs.declared.Outcome.{Outcome}
+use Rattle.pool.specs.declared.Call.{Call}
+use Rattle.pool.specs.declared.Call.the-variants.{Begin, Step}
+use Rattle.pool.specs.declared.Answer.the-variants.{Done, Granted}
+use Rattle.pool.specs.declared.Write.{Write}
+use Rattle.pool.specs.declared.Write.the-variants.{Keep, PutSlot, PutPins, PutCount, TakeFrame, PutEntry, PutHand, PutFree}
+use Rattle.laws.specs.Choices.{by-test}
+use Rattle.invariant.proofs.Reached.{one, sumTo, filling, Leaves, Shape, Reached}
+use Rattle.invariant.proofs.After.{pins-kept, pins-past, slot-kept}
+use Rattle.invariant.proofs.Searches.{few-frames}
+use Rattle.invariant.proofs.Table.{suc-not, lookup-mapped}
+use Rattle.invariant.proofs.Sums.{sum-zero, sum-has, sum-some}
+use Rattle.invariant.proofs.Calls.{reached-calls}
+use Rattle.guarantee.specs.Runs.{events, At}
+use Rattle.guarantee.specs.Claims.{GrantedWithin, Claim-limits}
+use Rattle.guarantee.proofs.Start.{starts}
+use Rattle.guarantee.proofs.Turned.{other-answer, down, by-move, went}
+use Rattle.guarantee.proofs.Steps.{On, Goes, begun-is, begun-on, answer-is, onto, on-next, go1, go1-found, go2, go3, go4, go5, go6, go7, go8, go8-on, go9, go18}
+
+-- ---- what a write leaves of a look-up
+
+abbrev pub keepsTable : Write → Bool
+keepsTable Keep = true
+keepsTable (PutSlot i f) = true
+keepsTable (PutPins f x) = true
+keepsTable (PutCount f x) = true
+keepsTable (TakeFrame f g x y) = true
+keepsTable (PutEntry i g f) = false
+keepsTable (PutHand h) = true
+keepsTable (PutFree x) = true
+
+table-kept : (w : Write) → T (keepsTable w) → (n : ℕ) (l : List ℕ) → (entryPagesAfter n l w ≡ l) × (entryFramesAfter n l w ≡ l)
+unfolding entryPagesAfter entryFramesAfter
+table-kept Keep t n l = (refl, refl)
+table-kept (PutSlot i f) t n l = (refl, refl)
+table-kept (PutPins f x) t n l = (refl, refl)
+table-kept (PutCount f x) t n l = (refl, refl)
+table-kept (TakeFrame f g x y) t n l = (refl, refl)
+table-kept (PutEntry i g f) t n l = absurd t
+table-kept (PutHand h) t n l = (refl, refl)
+table-kept (PutFree x) t n l = (refl, refl)
+
+pub lookup-kept : (p : Pool) (c : ℕ) (m : Move) → T (keepsTable (m .write)) → (g : ℕ) → lookup (apply p c m) g ≡ lookup p g
+unfolding apply lookup entryOf maps entryPage entryFrame
+lookup-kept p c m t g = rw (table-kept (m .write) t (total p) (p .«table_pages») .0, table-kept (m .write) t (total p) (p .«table_frames») .1) refl
+
+module _ {p : Pool} {b g i : ℕ} {m : Move} (on : On p b g i) (w : Goes p b m) where
+  pub next-is : (P : Pool → Client → Type 0) → P (apply p b m) (m .next) → P (callOf p (Step b) .pool) (client (callOf p (Step b) .pool) b)
+  next-is = onto w (on .reached) (on .here)
+
+  pub absent-next : T (keepsTable (m .write)) → lookup p g ≡ none → lookup (callOf p (Step b) .pool) g ≡ none
+  absent-next t a = next-is (λ q _. lookup q g ≡ none) (lookup-kept p b m t g ∙ a)
+
+-- ---- putting limits together
+
+module _ (p : Pool) (b n : ℕ) where
+  within-now : (f : ℕ) → callOf p (Step b) .answer ≡ Granted f → GrantedWithin p b (suc n)
+  unfolding events At
+  within-now f e = (0, omega arith, (f, refl, e))
+
+  within-next : GrantedWithin (callOf p (Step b) .pool) b n → GrantedWithin p b (suc n)
+  unfolding events At
+  within-next h = (suc (h .0), omega (arith, h .1), h .2)
+
+  within-more : (m : ℕ) → m ≤ n → GrantedWithin p b m → GrantedWithin p b n
+  within-more m l h = (h .0, omega (arith, h .1), h .2)
+
+-- ---- a hit
+
+hit3 : (p : Pool) (b g : ℕ) → On p b g 3 → GrantedWithin p b 1
+hit3 p b g on = within-now p b 0 (client p b .found) (answer-is (go3 p b g on))
+
+hit2 : (p : Pool) (b g : ℕ) → On p b g 2 → pins p (client p b .found) ≢ evicted → GrantedWithin p b 2
+hit2 p b g on z = within-next p b 1 (hit3 _ b g (on-next (go2 p b g on z) 3 on refl refl))
+
+hit1 : (p : Pool) (b g : ℕ) → On p b g 1 → lookup p g ≢ none → pins p (lookup p g) ≢ evicted → GrantedWithin p b 3
+unfolding pinsAfter
+hit1 p b g on n z =
+    let w = go1-found p b g on n in
+    within-next p b 2 (hit2 _ b g (on-next w 2 on refl refl) (next-is on w (λ q k. pins q (k .found) ≢ evicted)
+    (λ e. z (ap (λ (x : ℕ). pins p (lookup p x)) (sym (on .page)) ∙ (sym (pins-kept p b _ (on .reached .shape) refl _) ∙ e)))))
+
+-- ---- an admission to an empty slot
+
+adm18 : (p : Pool) (b g : ℕ) → On p b g 18 → lookup p g ≡ none → GrantedWithin p b 1
+adm18 p b g on a = within-now p b 0 (client p b .own) (answer-is (go18 p b g on a))
+
+adm9 : (p : Pool) (b g : ℕ) → On p b g 9 → lookup p g ≡ none → GrantedWithin p b 2
+adm9 p b g on a = let w = go9 p b g on in within-next p b 1 (adm18 _ b g (on-next w 18 on refl refl) (absent-next on w tt a))
+
+fills : (p : Pool) (b g : ℕ) → On p b g 8 → lookup p g ≡ none → slot p (client p b .place) ≡ none → GrantedWithin p b 3
+fills p b g on a e = let w = go8 p b g on e in within-next p b 2 (adm9 _ b g (on-next w 9 on refl refl) (absent-next on w tt a))
+
+-- the slot after slot i
+pub around-is : (s i : ℕ) → i < s → ((suc i < s) × (around s i ≡ suc i)) ⊎ ((suc i ≡ s) × (around s i ≡ 0))
+unfolding around
+around-is s i h =
+    by-test (λ (n : ℕ). ((suc i < s) × (n ≡ suc i)) ⊎ ((suc i ≡ s) × (n ≡ 0)))
+    (λ t. inl (omega (arith, ltb-true (i + 1) s t), omega arith)) (λ t. inr (omega (arith, ltb-false (i + 1) s t), refl))
+
+-- the empty slot i is d places on from place j
+record Ahead (p : Pool) (j i d : ℕ) : Type 0 where
+  place : j < p .size
+  inside : i < p .size
+  empty : slot p i ≡ none
+  far : (j + d ≡ i) ⊎ (j + d ≡ i + p .size)
+
+closer : (p : Pool) (j i d : ℕ) → Ahead p j i (suc d) → Ahead p (around (p .size) j) i d
+closer p j i d h = go (around-is (p .size) j (h .place)) (h .far)
+  where
+    s : ℕ
+    s = p .size
+
+    x : ℕ
+    x = around s j
+
+    go : ((suc j < s) × (x ≡ suc j)) ⊎ ((suc j ≡ s) × (x ≡ 0)) → (j + suc d ≡ i) ⊎ (j + suc d ≡ i + s) → Ahead p x i d
+    go (inl n) (inl f) = record { place = omega (arith, n); inside = h .inside; empty = h .empty; far = inl (omega (arith, n)) }
+    go (inl n) (inr f) = record { place = omega (arith, n); inside = h .inside; empty = h .empty; far = inr (omega (arith, n)) }
+    go (inr n) (inl f) = absurd (omega (arith, n, h .inside))
+    go (inr n) (inr f) = record { place = omega (arith, n, h .inside); inside = h .inside; empty = h .empty; far = inl (omega (arith, n)) }
+
+ahead-next : (p : Pool) (b : ℕ) (m : Move) {j i d : ℕ} → Shape p → m .write ≡ Keep → Ahead p j i d → Ahead (apply p b m) j i d
+unfolding apply slotsAfter
+ahead-next p b m s e h =
+    record { place = h .place; inside = h .inside; empty = slot-kept p b m s (rw e refl) _ ∙ h .empty; far = h .far }
+
+adm8 : (d : ℕ) (p : Pool) (b g i : ℕ) → On p b g 8 → lookup p g ≡ none → Ahead p (client p b .place) i d → GrantedWithin p b (d + 3)
+adm8 zero p b g i on a h = fills p b g on a (go (h .far))
+  where
+    go : (client p b .place + 0 ≡ i) ⊎ (client p b .place + 0 ≡ i + p .size) → slot p (client p b .place) ≡ none
+    go (inl x) = let q : client p b .place ≡ i = omega arith in rw q (h .empty)
+    go (inr x) = absurd (omega (arith, h .place))
+adm8 (suc d) p b g i on a h =
+    let ih = adm8 d (callOf p (Step b) .pool) b g i in
+    elim (ℕ-discrete (slot p (client p b .place)) none) [
+      | yes e ↦ within-more p b (suc d + 3) 3 (omega arith) (fills p b g on a e)
+      | no e ↦
+          let w = go8-on p b g on e in
+          within-more p b (suc d + 3) (suc (d + 3)) (omega arith) (within-next p b (d + 3)
+          (ih (on-next w 8 on refl refl) (absent-next on w tt a)
+          (next-is on w (λ q k. Ahead q (k .place) i d) (ahead-next p b _ (on .reached .shape) refl (closer p _ i d h)))))
+    ]
+
+-- a sum of tests that is not 0 has one that passes
+pub some-one : (t : ℕ → Bool) (n : ℕ) → sumTo (λ i. one (t i)) n ≢ 0 → (i : ℕ) × (i < n) × (t i ≡ true)
+some-one t n z = let r = sum-some (λ i. one (t i)) n z in (r .0, r .1, passes (t (r .0)) (r .2))
+  where
+    passes : (b : Bool) → one b ≢ 0 → b ≡ true
+    passes true _ = refl
+    passes false n = absurd (n refl)
+
+-- some slot is empty where the empty slots are not none
+pub some-empty : (p : Pool) → sumTo (λ i. one (eqb (slot p i) none)) (p .size) ≢ 0 → (i : ℕ) × (i < p .size) × (slot p i ≡ none)
+some-empty p z = let r = some-one (λ i. eqb (slot p i) none) (p .size) z in (r .0, r .1, eqb-true _ none (r .2))
+
+adm7 : (p : Pool) (b g n : ℕ) → p .size ≡ n → On p b g 7 → lookup p g ≡ none → GrantedWithin p b (n + 3)
+unfolding slotsAfter
+adm7 p b g n sz on a =
+    within-more p b (n + 3) (suc (far .0 + 3)) (omega (arith, far .1)) (within-next p b (far .0 + 3)
+    (adm8 (far .0) _ b g (e .0) (on-next w 8 on refl refl) (absent-next on w tt a)
+    (next-is on w (λ q k. Ahead q (k .place) (e .0) (far .0))
+    (ahead-next p b _ (on .reached .shape) refl (record { place = place; inside = e .1; empty = e .2; far = far .2 })))))
+  where
+    w : Goes p b (works (withPlace (client p b) (p .hand % p .size)) 8 Keep)
+    w = go7 p b g on
+
+    j : ℕ
+    j = p .hand % p .size
+
+    place : j < p .size
+    place = mod-lt (p .hand) (on .reached .shape .size-low)
+
+    e : (i : ℕ) × (i < p .size) × (slot p i ≡ none)
+    e =
+        some-empty p (λ z. omega (
+          arith,
+          on .reached .calm .empties,
+          ap (λ (x : ℕ). one (filling x)) (on .stage),
+          sum-has (λ c. one (filling (client p c .stage))) (clientCount p) b (on .here),
+        ))
+
+    far : (d : ℕ) × (d < p .size) × ((j + d ≡ e .0) ⊎ (j + d ≡ e .0 + p .size))
+    far =
+        elim (decLt (e .0) j) [
+          | yes l ↦ (e .0 + p .size - j, omega (arith, place, e .1), inr (omega (arith, place)))
+          | no l ↦ (e .0 - j, omega (arith, e .1), inl (omega arith))
+        ]
+
+adm6 : (p : Pool) (b g n : ℕ) → p .size ≡ n → On p b g 6 → lookup p g ≡ none → p .free ≡ client p b .seen → GrantedWithin p b (n + 4)
+unfolding apply
+adm6 p b g n sz on a f =
+    let w = go6 p b g on f in
+    within-more p b (n + 4) (suc (n + 3)) (omega arith) (within-next p b (n + 3)
+    (adm7 _ b g n (next-is on w (λ q _. q .size ≡ n) sz) (on-next w 7 on refl refl) (absent-next on w tt a)))
+
+adm5 : (p : Pool) (b g n : ℕ) → p .size ≡ n → On p b g 5 → lookup p g ≡ none → p .free ≢ 0 → GrantedWithin p b (n + 5)
+unfolding apply freeAfter
+adm5 p b g n sz on a f =
+    let w = go5 p b g on f in
+    within-more p b (n + 5) (suc (n + 4)) (omega arith) (within-next p b (n + 4)
+    (adm6 _ b g n (next-is on w (λ q _. q .size ≡ n) sz) (on-next w 6 on refl refl) (absent-next on w tt a) (next-is on w (λ q k. q .free ≡ k .seen) refl)))
+
+adm4 : (p : Pool) (b g n : ℕ) → p .size ≡ n → On p b g 4 → lookup p g ≡ none → p .free ≢ 0 → GrantedWithin p b (n + 6)
+unfolding apply freeAfter
+adm4 p b g n sz on a f =
+    let w = go4 p b g on in
+    within-more p b (n + 6) (suc (n + 5)) (omega arith) (within-next p b (n + 5)
+    (adm5 _ b g n (next-is on w (λ q _. q .size ≡ n) sz) (on-next w 5 on refl refl) (absent-next on w tt a) (next-is on w (λ q _. q .free ≢ 0) f)))
+
+adm1 : (p : Pool) (b g n : ℕ) → p .size ≡ n → On p b g 1 → lookup p g ≡ none → p .free ≢ 0 → GrantedWithin p b (n + 7)
+unfolding apply freeAfter
+adm1 p b g n sz on a f =
+    let w = go1 p b g on a in
+    within-more p b (n + 7) (suc (n + 6)) (omega arith) (within-next p b (n + 6)
+    (adm4 _ b g n (next-is on w (λ q _. q .size ≡ n) sz) (on-next w 4 on refl refl) (absent-next on w tt a) (next-is on w (λ q _. q .free ≢ 0) f)))
+
+-- ---- from a pool where all rest
+
+module _ (p : Pool) (r : Reached p) (rest : (c : ℕ) → client p c .stage ≡ 0) where
+  -- nothing evicted is in the table
+  pub no-ghost : (g : ℕ) → lookup p g ≢ none → pins p (lookup p g) ≢ evicted
+  no-ghost g z d = go (r .calm .ghosts (lookup p g) z (suc-not (lookup-mapped p (r .shape) (r .outline .entries-apart) g z)) d)
+    where
+      go : (c : ℕ) × Leaves p (client p c) (lookup p g) → ⊥
+      go (c, (_, inl h)) = rw (rest c) at h
+      go (c, (_, inr h)) = let q : _≡_ {A = ℕ} 0 15 = sym (rest c) ∙ h .0 in omega arith
+
+  -- so a page is resident exactly if the look-up finds it
+  pub resident-found : (g : ℕ) → resident p g ≡ true → (lookup p g ≢ none) × (pins p (lookup p g) ≢ evicted)
+  unfolding resident
+  resident-found g e =
+      let live = eqb-false _ evicted (not-true _ e) in
+      ((λ z. live (ap (pins p) z ∙ pins-past p none (omega (arith, few-frames p (r .shape))))), live)
+
+  pub absent-found : (g : ℕ) → resident p g ≡ false → lookup p g ≡ none
+  unfolding resident
+  absent-found g e =
+      elim (ℕ-discrete (lookup p g) none) [ yes q ↦ q | no z ↦ absurd (no-ghost g z (eqb-true _ evicted (not-false _ e))) ]
+
+  -- an empty slot is one that nobody has claimed
+  free-some : (i : ℕ) → i < p .size → slot p i ≡ none → p .free ≢ 0
+  free-some i h e z =
+      omega (
+        arith,
+        r .calm .empties,
+        sum-has (λ i. one (eqb (slot p i) none)) (p .size) i h,
+        ap (λ (x : ℕ). one (eqb x none)) e,
+        sum-zero (λ c. one (filling (client p c .stage))) (clientCount p) (λ c _. ap (λ (x : ℕ). one (filling x)) (rest c)),
+      )
+
+  pub limits-from : (n b g : ℕ) → p .size ≡ n → callOf p (Begin b g) .answer ≡ Done g
+      → (resident p g ≡ true → GrantedWithin (callOf p (Begin b g) .pool) b 3)
+      × (resident p g ≡ false → (i : ℕ) → i < p .size → slot p i ≡ none → GrantedWithin (callOf p (Begin b g) .pool) b (n + 7))
+  unfolding apply pinsAfter freeAfter
+  limits-from n b g sz a = (
+    (λ e. let f = resident-found g e in
+        hit1 _ b g on (begun-is p b g a (λ q. lookup q g ≢ none) (rw (lookup-kept p b m tt g) (f .0)))
+        (begun-is p b g a (λ q. pins q (lookup q g) ≢ evicted) (rw (lookup-kept p b m tt g, pins-kept p b m (r .shape) refl (lookup p g)) (f .1)))),
+    (λ e i h s. adm1 _ b g n (begun-is p b g a (λ q. q .size ≡ n) sz) on
+        (begun-is p b g a (λ q. lookup q g ≡ none) (lookup-kept p b m tt g ∙ absent-found g e))
+        (begun-is p b g a (λ q. q .free ≢ 0) (free-some i h s))),
+  )
+    where
+      m : Move
+      m = beginMove (client p b) g
+
+      on : On (callOf p (Begin b g) .pool) b g 1
+      on = begun-on p b g a r (λ c _. rest c)
+
+-- ---- the claim
+
+size-call : (p : Pool) (x : Call) → callOf p x .pool .size ≡ p .size
+unfolding apply
+size-call p x = elim (went p x) [ down _ _ e ↦ ap (λ (o : Outcome). o .pool .size) e | by-move _ _ e ↦ ap (λ (o : Outcome). o .pool .size) e ]
+
+size-after : (p : Pool) (calls : List Call) → poolAfter p calls .size ≡ p .size
+unfolding poolAfter
+size-after p [] = refl
+size-after p (x ∷ calls) = size-after (callOf p x .pool) calls ∙ size-call p x
+
+pub limits : Claim-limits
+limits s t c h e calls b g rest a =
+    let first = starts s t c h e in
+    let size = ap (λ (p : Pool). p .size) (first .fresh-pool) in
+    limits-from (poolAfter (setupOf s t c h .pool) calls) (reached-calls _ calls (first .reached)) rest s b g (size-after (setupOf s t c h .pool) calls ∙ size) a

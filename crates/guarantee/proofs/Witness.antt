@@ -1,0 +1,93 @@
+-- The claims are not empty: in one run an eviction at 14 is taken out of its slot, and a request takes effect; in another a request alone is refused
+-- by 15. Both are short runs from a setup of one slot and one client, and are computed. Assumes nothing.
+use mathlib.Core.Path.{_≡_, refl, sym, ap, subst}
+use mathlib.Core.Logic.{_⊎_, inl, inr}
+use mathlib.Core.List.{List, _∷_, _++_}
+use Prim.Native.Nat.{ℕ, zero, suc, _-_, _<_}
+use native.Mathlib.Nat.{not-suc-le-zero, le-of-suc-le-suc}
+use native.Mathlib.Omega.{arith}
+use Rattle.pool.specs.Choose.{choose, both, either, scan, howMany}
+use Rattle.pool.specs.Answers.{refusalOf}
+use Rattle.pool.specs.State.{within, slot, page, pins, count, entryPage, entryFrame, client, ofClient, grantPage, grantFrame}
+use Rattle.pool.specs.Table.{maps, entryOf, lookup, unusedEntry}
+use Rattle.pool.specs.Grants.{grantOf, holds, held}
+use Rattle.pool.specs.Frames.{names, referenced, firstTried, freeFrame}
+use Rattle.pool.specs.Moves.{granted}
+use Rattle.pool.specs.Apply.{stored, slotsAfter, pagesAfter, pinsAfter, countsAfter, entryPagesAfter, entryFramesAfter, handAfter, freeAfter, lastAfter, grantPagesAfter, grantFramesAfter, apply}
+use Rattle.pool.specs.Stages.{around, advanced, growth, raised, busyVisit, evictOwn, stage1, stage2, stage3, stage4, stage5, stage6, stage7, stage8, stage9, stage10, stage11, stage12, stage13, stage14, stage15, stage16, stage17, stage18, stage19, stage20, stage21, stage22, stage23, stageMove}
+use Rattle.pool.specs.Valid.{numbersOk, frameOk, usedOk, stateOk, entryOk, grantOk, countsOk, namesOk, clientOk, valid}
+use Rattle.pool.specs.Calls.{setupOf, caller, refusalAt, refusal, releaseMove, moveOf, finished, callOf, poolAfter}
+use Rattle.pool.specs.Cases.{steps, admit, admitAndRelease}
+use Rattle.pool.specs.declared.Pool.{Pool}
+use Rattle.pool.specs.declared.Client.{Client}
+use Rattle.pool.specs.declared.Call.the-variants.{Begin, Step}
+use Rattle.invariant.proofs.After.{client-past}
+use Rattle.guarantee.specs.Runs.{Event, events, At, Begins}
+use Rattle.guarantee.specs.Claims.{Evicts, TakenOut, takesEffect, Effects, TurnedDown, Alone}
+use Rattle.guarantee.proofs.Turned.{other-call}
+
+-- all that a run computes
+unfoldable computing : ℕ
+unfolding choose both either scan howMany refusalOf within slot page pins count entryPage entryFrame client ofClient grantPage grantFrame maps entryOf lookup unusedEntry grantOf holds held names referenced firstTried freeFrame granted stored slotsAfter pagesAfter pinsAfter countsAfter entryPagesAfter entryFramesAfter handAfter freeAfter lastAfter grantPagesAfter grantFramesAfter apply around advanced growth raised busyVisit evictOwn stage1 stage2 stage3 stage4 stage5 stage6 stage7 stage8 stage9 stage10 stage11 stage12 stage13 stage14 stage15 stage16 stage17 stage18 stage19 stage20 stage21 stage22 stage23 stageMove numbersOk frameOk usedOk stateOk entryOk grantOk countsOk namesOk clientOk valid setupOf caller refusalAt refusal releaseMove moveOf finished callOf poolAfter events At takesEffect
+computing = 0
+
+-- page 9 is admitted and released, and page 5 takes its slot: event 18 is the stage 14, event 19 the stage 15, event 22 the answer
+abbrev pub swap : List Event
+swap = events (setupOf 1 1 3 0 .pool) (admitAndRelease 9 ++ Begin 0 5 ∷ steps 0 12)
+
+zero-one : _≡_ {A = ℕ} 0 1 → ⊥
+zero-one e = omega arith
+
+pub evicted : At (Evicts 0) swap 18
+unfolding computing
+evicted = record { client-of = 0; stage = 14; step-of = (refl, refl); one-of = tt; puts-out = ((λ z. zero-one (sym z)), refl) }
+
+pub taken-out : TakenOut swap 0 18 19
+unfolding computing
+taken-out =
+    record {
+      later = omega arith;
+      out = record { client-of = 0; step-of = (refl, refl); place = 0; named = refl; names-no-more = λ z. zero-one (sym z) };
+      not-anew = λ m a b _. let none : ⊥ = omega arith in none;
+    }
+
+-- the request that is begun at event 10 takes effect at event 22
+pub takes-effect : At (Effects 0) swap 22
+unfolding computing
+takes-effect = (refl, tt)
+
+-- page 9 is held in the one slot: the request for page 5 that is begun at event 9 is refused by 15 at event 15
+abbrev pub held-up : List Event
+held-up = events (setupOf 1 1 3 0 .pool) (admit 9 ++ Begin 0 5 ∷ steps 0 6)
+
+module _ (c : ℕ) where
+  -- among the client's own steps there is no begin
+  no-begin : (p : Pool) (n j : ℕ) → At (Begins c) (events p (steps c n)) j → ⊥
+  unfolding events At
+  no-begin p zero j b = b
+  no-begin p (suc n) zero b = other-call (b .1) tt
+  no-begin p (suc n) (suc j) b = no-begin (callOf p (Step c) .pool) n j b
+
+  own-calls : (p : Pool) (n j : ℕ) → j < n → At (λ e. (caller (e .asked) ≡ c) ⊎ TurnedDown e) (events p (steps c n)) j
+  unfolding events At caller
+  own-calls p zero j h = absurd (not-suc-le-zero h)
+  own-calls p (suc n) zero h = inl refl
+  own-calls p (suc n) (suc j) h = own-calls (callOf p (Step c) .pool) n j (le-of-suc-le-suc h)
+
+abbrev ten : ℕ → ℕ
+ten j = suc (suc (suc (suc (suc (suc (suc (suc (suc (suc j)))))))))
+
+pub alone-met : Alone held-up (poolAfter (setupOf 1 1 3 0 .pool) (admit 9)) 0 5 9 15
+unfolding computing
+alone-met =
+    record {
+      begun = (refl, refl, refl);
+      others-rest = λ d z. ap (λ (k : Client). k .stage) (client-past (poolAfter (setupOf 1 1 3 0 .pool) (admit 9)) d (omega arith));
+      later = omega arith;
+      answered = (refl, inr refl);
+      same = λ m a b. subst (λ (i : ℕ). At (Begins 0) held-up i → ⊥) (ten-is m a) (no-begin 0 _ 6 (m - 10));
+      no-others = λ m a b. subst (At (λ e. (caller (e .asked) ≡ 0) ⊎ TurnedDown e) held-up) (ten-is m a) (own-calls 0 _ 6 (m - 10) (omega arith));
+    }
+  where
+    ten-is : (m : ℕ) → 9 < m → ten (m - 10) ≡ m
+    ten-is m a = omega arith
