@@ -18,7 +18,7 @@ use Rattle.pool.specs.declared.Move.{Move}
 use Rattle.pool.specs.declared.Call.{Call}
 use Rattle.pool.specs.declared.Call.the-variants.{Begin, Step, Release}
 use Rattle.invariant.proofs.Reached.{pinsFound, Reached}
-use Rattle.invariant.proofs.Facts.{T-false}
+use Rattle.invariant.proofs.Flags.{T-false}
 use Rattle.invariant.proofs.Calls.{reached-call}
 use Rattle.guarantee.specs.Runs.{Event, happens, events, At, Begins, GrantedTo}
 use Rattle.guarantee.specs.Sequential.{adding, admitting}

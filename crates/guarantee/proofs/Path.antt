@@ -30,7 +30,7 @@ use Rattle.invariant.proofs.After.{slot-kept, pins-else, pins-past}
 use Rattle.invariant.proofs.Sums.{sum-zero, sum-has}
 use Rattle.invariant.proofs.Searches.{few-frames, free-found, Fresh, fresh-means}
 use Rattle.invariant.proofs.Never.{finds-some}
-use Rattle.invariant.proofs.Facts.{T-false}
+use Rattle.invariant.proofs.Flags.{T-false}
 use Rattle.guarantee.specs.Claims.{AllHeld}
 use Rattle.guarantee.proofs.Steps.{On, Goes, answer-is, on-next, go1, go1-found, go2, go3, go4, go5, go5-none, go6, go7, go8, go8-on, go9, go10, go11, go12-dead, go12-idle, go12-busy, go12-full, go13-zero, go13-more, go14, go15, go16, go17-out, go17-not, go18}
 use Rattle.guarantee.proofs.Base.{Base, still, is-still, slot-still, pins-still, base-still, emptied}

@@ -17,7 +17,7 @@ use Rattle.pool.specs.declared.Counted.the-variants.{Refusal}
 use Rattle.pool.specs.declared.GrantChange.{GrantChange}
 use Rattle.pool.specs.declared.GrantChange.the-variants.{Same, Open}
 use Rattle.invariant.proofs.Reached.{one, pinsFound}
-use Rattle.invariant.proofs.Facts.{T-true}
+use Rattle.invariant.proofs.Flags.{T-true}
 use Rattle.guarantee.specs.Sequential.{Taker, resting, adding, dropping}
 use Rattle.guarantee.proofs.Mirror.{times, Taken, open-many, open-grants}
 

@@ -120,6 +120,46 @@ shape-next p c m s =
       grant-frames = grant-frames-length _ c _ (m .grants) ∙ s .grant-frames;
     }
 
+-- ---- a write leaves a list, or puts one element
+
+module _ (p : Pool) (w : Write) where
+  abbrev pub SlotsStay : Type 0
+  SlotsStay = slotsAfter (p .size) (p .slots) w ≡ p .slots
+
+  abbrev pub PagesStay : Type 0
+  PagesStay = pagesAfter (total p) (p .pages) w ≡ p .pages
+
+  abbrev pub PinsStay : Type 0
+  PinsStay = pinsAfter (total p) (p .pins) w ≡ p .pins
+
+  abbrev pub CountsStay : Type 0
+  CountsStay = countsAfter (total p) (p .counts) w ≡ p .counts
+
+  abbrev pub EntryPagesStay : Type 0
+  EntryPagesStay = entryPagesAfter (total p) (p .«table_pages») w ≡ p .«table_pages»
+
+  abbrev pub EntryFramesStay : Type 0
+  EntryFramesStay = entryFramesAfter (total p) (p .«table_frames») w ≡ p .«table_frames»
+
+  module _ (i v : ℕ) where
+    abbrev pub SlotsPut : Type 0
+    SlotsPut = slotsAfter (p .size) (p .slots) w ≡ stored (p .slots) (p .size) i v
+
+    abbrev pub PagesPut : Type 0
+    PagesPut = pagesAfter (total p) (p .pages) w ≡ stored (p .pages) (total p) i v
+
+    abbrev pub PinsPut : Type 0
+    PinsPut = pinsAfter (total p) (p .pins) w ≡ stored (p .pins) (total p) i v
+
+    abbrev pub CountsPut : Type 0
+    CountsPut = countsAfter (total p) (p .counts) w ≡ stored (p .counts) (total p) i v
+
+    abbrev pub EntryPagesPut : Type 0
+    EntryPagesPut = entryPagesAfter (total p) (p .«table_pages») w ≡ stored (p .«table_pages») (total p) i v
+
+    abbrev pub EntryFramesPut : Type 0
+    EntryFramesPut = entryFramesAfter (total p) (p .«table_frames») w ≡ stored (p .«table_frames») (total p) i v
+
 -- ---- clients
 
 pub client-past : (p : Pool) (c : ℕ) → clientCount p ≤ c → client p c ≡ resting 0
@@ -146,7 +186,8 @@ module _ (p : Pool) (c : ℕ) (m : Move) (shape : Shape p) where
   client-other d q = ap (λ (k : Client). choose (ltb d (clientCount p)) k (resting 0)) (getD-set-other (p .clients) c d (m .next) no-client q)
 
   -- what holds of the other clients as they were, and of the acting one as it is now, holds of all
-  pub all-clients : (P : ℕ → Client → Type 0) → c < clientCount p → ((d : ℕ) → d ≢ c → P d (client p d)) → P c (m .next) → (d : ℕ) → P d (client (apply p c m) d)
+  pub all-clients : (P : ℕ → Client → Type 0) → c < clientCount p → ((d : ℕ) → d ≢ c → P d (client p d)) → P c (m .next)
+      → (d : ℕ) → P d (client (apply p c m) d)
   all-clients P h old new d = go (ℕ-discrete d c)
     where
       go : Dec (d ≡ c) → P d (client (apply p c m) d)
@@ -155,90 +196,90 @@ module _ (p : Pool) (c : ℕ) (m : Move) (shape : Shape p) where
 
   -- ---- what the clients share
 
-  pub slot-kept : slotsAfter (p .size) (p .slots) (m .write) ≡ p .slots → (i : ℕ) → slot (apply p c m) i ≡ slot p i
+  pub slot-kept : SlotsStay p (m .write) → (i : ℕ) → slot (apply p c m) i ≡ slot p i
   unfolding apply slot
   slot-kept e i = ap (λ (l : List ℕ). within l (p .size) none i) e
 
-  pub pins-kept : pinsAfter (total p) (p .pins) (m .write) ≡ p .pins → (f : ℕ) → pins (apply p c m) f ≡ pins p f
+  pub pins-kept : PinsStay p (m .write) → (f : ℕ) → pins (apply p c m) f ≡ pins p f
   unfolding apply pins
   pins-kept e f = ap (λ (l : List ℕ). within l (total p) evicted f) e
 
-  pub page-kept : pagesAfter (total p) (p .pages) (m .write) ≡ p .pages → (f : ℕ) → page (apply p c m) f ≡ page p f
+  pub page-kept : PagesStay p (m .write) → (f : ℕ) → page (apply p c m) f ≡ page p f
   unfolding apply page
   page-kept e f = ap (λ (l : List ℕ). within l (total p) 0 f) e
 
-  pub count-kept : countsAfter (total p) (p .counts) (m .write) ≡ p .counts → (f : ℕ) → count (apply p c m) f ≡ count p f
+  pub count-kept : CountsStay p (m .write) → (f : ℕ) → count (apply p c m) f ≡ count p f
   unfolding apply count
   count-kept e f = ap (λ (l : List ℕ). within l (total p) 0 f) e
 
-  pub entryPage-kept : entryPagesAfter (total p) (p .«table_pages») (m .write) ≡ p .«table_pages» → (i : ℕ) → entryPage (apply p c m) i ≡ entryPage p i
+  pub entryPage-kept : EntryPagesStay p (m .write) → (i : ℕ) → entryPage (apply p c m) i ≡ entryPage p i
   unfolding apply entryPage
   entryPage-kept e i = ap (λ (l : List ℕ). within l (total p) 0 i) e
 
-  pub entryFrame-kept : entryFramesAfter (total p) (p .«table_frames») (m .write) ≡ p .«table_frames» → (i : ℕ) → entryFrame (apply p c m) i ≡ entryFrame p i
+  pub entryFrame-kept : EntryFramesStay p (m .write) → (i : ℕ) → entryFrame (apply p c m) i ≡ entryFrame p i
   unfolding apply entryFrame
   entryFrame-kept e i = ap (λ (l : List ℕ). within l (total p) none i) e
 
   -- one place is written
   module _ (j v : ℕ) where
-    pub slot-here : slotsAfter (p .size) (p .slots) (m .write) ≡ stored (p .slots) (p .size) j v → j < p .size → slot (apply p c m) j ≡ v
+    pub slot-here : SlotsPut p (m .write) j v → j < p .size → slot (apply p c m) j ≡ v
     unfolding apply slot
     slot-here e h = let a = shape .slots in let b = shape .size-high in within-here (p .slots) _ (p .size) j v e none h (omega arith)
 
-    pub slot-else : slotsAfter (p .size) (p .slots) (m .write) ≡ stored (p .slots) (p .size) j v → (i : ℕ) → i ≢ j → slot (apply p c m) i ≡ slot p i
+    pub slot-else : SlotsPut p (m .write) j v → (i : ℕ) → i ≢ j → slot (apply p c m) i ≡ slot p i
     unfolding apply slot
     slot-else e i = within-else (p .slots) _ (p .size) j v e none i
 
-    pub pins-here : pinsAfter (total p) (p .pins) (m .write) ≡ stored (p .pins) (total p) j v → j < total p → pins (apply p c m) j ≡ v
+    pub pins-here : PinsPut p (m .write) j v → j < total p → pins (apply p c m) j ≡ v
     unfolding apply pins
     pins-here e h =
         let a = shape .pins in let b = shape .size-high in let d = shape .clients-high in
         within-here (p .pins) _ (total p) j v e evicted h (omega arith)
 
-    pub pins-else : pinsAfter (total p) (p .pins) (m .write) ≡ stored (p .pins) (total p) j v → (i : ℕ) → i ≢ j → pins (apply p c m) i ≡ pins p i
+    pub pins-else : PinsPut p (m .write) j v → (i : ℕ) → i ≢ j → pins (apply p c m) i ≡ pins p i
     unfolding apply pins
     pins-else e i = within-else (p .pins) _ (total p) j v e evicted i
 
-    pub page-here : pagesAfter (total p) (p .pages) (m .write) ≡ stored (p .pages) (total p) j v → j < total p → page (apply p c m) j ≡ v
+    pub page-here : PagesPut p (m .write) j v → j < total p → page (apply p c m) j ≡ v
     unfolding apply page
     page-here e h =
         let a = shape .pages in let b = shape .size-high in let d = shape .clients-high in
         within-here (p .pages) _ (total p) j v e 0 h (omega arith)
 
-    pub page-else : pagesAfter (total p) (p .pages) (m .write) ≡ stored (p .pages) (total p) j v → (i : ℕ) → i ≢ j → page (apply p c m) i ≡ page p i
+    pub page-else : PagesPut p (m .write) j v → (i : ℕ) → i ≢ j → page (apply p c m) i ≡ page p i
     unfolding apply page
     page-else e i = within-else (p .pages) _ (total p) j v e 0 i
 
-    pub count-here : countsAfter (total p) (p .counts) (m .write) ≡ stored (p .counts) (total p) j v → j < total p → count (apply p c m) j ≡ v
+    pub count-here : CountsPut p (m .write) j v → j < total p → count (apply p c m) j ≡ v
     unfolding apply count
     count-here e h =
         let a = shape .counts in let b = shape .size-high in let d = shape .clients-high in
         within-here (p .counts) _ (total p) j v e 0 h (omega arith)
 
-    pub count-else : countsAfter (total p) (p .counts) (m .write) ≡ stored (p .counts) (total p) j v → (i : ℕ) → i ≢ j → count (apply p c m) i ≡ count p i
+    pub count-else : CountsPut p (m .write) j v → (i : ℕ) → i ≢ j → count (apply p c m) i ≡ count p i
     unfolding apply count
     count-else e i = within-else (p .counts) _ (total p) j v e 0 i
 
-    pub entryPage-here : entryPagesAfter (total p) (p .«table_pages») (m .write) ≡ stored (p .«table_pages») (total p) j v → j < total p
+    pub entryPage-here : EntryPagesPut p (m .write) j v → j < total p
         → entryPage (apply p c m) j ≡ v
     unfolding apply entryPage
     entryPage-here e h =
         let a = shape .entry-pages in let b = shape .size-high in let d = shape .clients-high in
         within-here (p .«table_pages») _ (total p) j v e 0 h (omega arith)
 
-    pub entryPage-else : entryPagesAfter (total p) (p .«table_pages») (m .write) ≡ stored (p .«table_pages») (total p) j v → (i : ℕ) → i ≢ j
+    pub entryPage-else : EntryPagesPut p (m .write) j v → (i : ℕ) → i ≢ j
         → entryPage (apply p c m) i ≡ entryPage p i
     unfolding apply entryPage
     entryPage-else e i = within-else (p .«table_pages») _ (total p) j v e 0 i
 
-    pub entryFrame-here : entryFramesAfter (total p) (p .«table_frames») (m .write) ≡ stored (p .«table_frames») (total p) j v → j < total p
+    pub entryFrame-here : EntryFramesPut p (m .write) j v → j < total p
         → entryFrame (apply p c m) j ≡ v
     unfolding apply entryFrame
     entryFrame-here e h =
         let a = shape .entry-frames in let b = shape .size-high in let d = shape .clients-high in
         within-here (p .«table_frames») _ (total p) j v e none h (omega arith)
 
-    pub entryFrame-else : entryFramesAfter (total p) (p .«table_frames») (m .write) ≡ stored (p .«table_frames») (total p) j v → (i : ℕ) → i ≢ j
+    pub entryFrame-else : EntryFramesPut p (m .write) j v → (i : ℕ) → i ≢ j
         → entryFrame (apply p c m) i ≡ entryFrame p i
     unfolding apply entryFrame
     entryFrame-else e i = within-else (p .«table_frames») _ (total p) j v e none i

@@ -5,7 +5,6 @@ use mathlib.Core.Logic.{_≢_}
 use mathlib.Core.Bool.{true}
 use mathlib.Core.List.{List, [], _∷_}
 use Prim.Native.Nat.{ℕ, _<_}
-use native.Mathlib.Omega.{arith}
 use native.Mathlib.Decide.{ℕ-discrete}
 use lib.Dec.{ltb}
 use borrow.Author.Tests.{eq-eqb, ne-eqb}
@@ -26,6 +25,7 @@ use Rattle.laws.specs.Choices.{by-test, chosen, passed}
 use Rattle.laws.specs.Scans.{both-yes}
 use Rattle.invariant.proofs.Reached.{Reached}
 use Rattle.invariant.proofs.After.{shape-next}
+use Rattle.invariant.proofs.Flags.{differ}
 use Rattle.invariant.proofs.Edges.{Edge, on, found1, found18, lost2, lost22, pins2, pins19, gets3, gets21, takes, fills, swaps, gives-up, drops, removes, admits, revives, evicts20, evicts23, begins, releases}
 use Rattle.invariant.proofs.Steps.{call-edge}
 use Rattle.invariant.proofs.Effects.{Effect, effect}
@@ -56,42 +56,38 @@ reached-move p c m h r e =
 -- no such move is stuck
 edge-answer : (p : Pool) (c : ℕ) {m : Move} → Edge p c m → refusalOf (m .answer) ≢ 8
 unfolding refusalOf
-edge-answer p c (on _ _ _ _) = λ w. let z : ⊥ = omega arith in z
-edge-answer p c (found1 _ _) = λ w. let z : ⊥ = omega arith in z
-edge-answer p c (found18 _ _) = λ w. let z : ⊥ = omega arith in z
-edge-answer p c (lost2 _ _) = λ w. let z : ⊥ = omega arith in z
-edge-answer p c (lost22 _) = λ w. let z : ⊥ = omega arith in z
-edge-answer p c (pins2 _ _) = λ w. let z : ⊥ = omega arith in z
-edge-answer p c (pins19 _ _) = λ w. let z : ⊥ = omega arith in z
-edge-answer p c (gets3 _) = λ w. let z : ⊥ = omega arith in z
-edge-answer p c (gets21 _) = λ w. let z : ⊥ = omega arith in z
-edge-answer p c (takes _ _) = λ w. let z : ⊥ = omega arith in z
-edge-answer p c (fills _ _) = λ w. let z : ⊥ = omega arith in z
-edge-answer p c (swaps _ _) = λ w. let z : ⊥ = omega arith in z
-edge-answer p c (gives-up _) = λ w. let z : ⊥ = omega arith in z
-edge-answer p c (drops _ _) = λ w. let z : ⊥ = omega arith in z
-edge-answer p c (removes _ _) = λ w. let z : ⊥ = omega arith in z
-edge-answer p c (admits _ _ _) = λ w. let z : ⊥ = omega arith in z
-edge-answer p c (revives _ _) = λ w. let z : ⊥ = omega arith in z
-edge-answer p c (evicts20 _) = λ w. let z : ⊥ = omega arith in z
-edge-answer p c (evicts23 _) = λ w. let z : ⊥ = omega arith in z
-edge-answer p c (begins _ _ _) = λ w. let z : ⊥ = omega arith in z
-edge-answer p c (releases _ _ _) = λ w. let z : ⊥ = omega arith in z
+edge-answer p c (on _ _ _ _) = differ 0 8 tt
+edge-answer p c (found1 _ _) = differ 0 8 tt
+edge-answer p c (found18 _ _) = differ 0 8 tt
+edge-answer p c (lost2 _ _) = differ 0 8 tt
+edge-answer p c (lost22 _ _) = differ 0 8 tt
+edge-answer p c (pins2 _ _) = differ 0 8 tt
+edge-answer p c (pins19 _ _) = differ 0 8 tt
+edge-answer p c (gets3 _) = differ 0 8 tt
+edge-answer p c (gets21 _) = differ 0 8 tt
+edge-answer p c (takes _ _) = differ 0 8 tt
+edge-answer p c (fills _ _) = differ 0 8 tt
+edge-answer p c (swaps _ _) = differ 0 8 tt
+edge-answer p c (gives-up _ _) = differ 15 8 tt
+edge-answer p c (drops _ _) = differ 0 8 tt
+edge-answer p c (removes _ _) = differ 0 8 tt
+edge-answer p c (admits _ _ _) = differ 0 8 tt
+edge-answer p c (revives _ _) = differ 0 8 tt
+edge-answer p c (evicts20 _) = differ 0 8 tt
+edge-answer p c (evicts23 _) = differ 0 8 tt
+edge-answer p c (begins _ _ _) = differ 0 8 tt
+edge-answer p c (releases _ _ _) = differ 0 8 tt
 
 -- ---- a call
 
+-- none of the checks after 8 is 8
 refused-at : (p : Pool) (k : Client) (x : Call) → refusalAt p k x ≢ 8
 unfolding refusalAt
-refused-at p k (Begin c g) =
-    by-test (λ (n : ℕ). n ≢ 8) (λ _. by-test (λ (n : ℕ). n ≢ 8) (λ _ w. let z : ⊥ = omega arith in z) (λ _ w. let z : ⊥ = omega arith in z)) (λ _ w. let z : ⊥ = omega arith in z)
-refused-at p k (Step c) = by-test (λ (n : ℕ). n ≢ 8) (λ _ w. let z : ⊥ = omega arith in z) (λ _ w. let z : ⊥ = omega arith in z)
-refused-at p k (Release c g) =
-    by-test (λ (n : ℕ). n ≢ 8) (λ _. by-test (λ (n : ℕ). n ≢ 8) (λ _ w. let z : ⊥ = omega arith in z) (λ _ w. let z : ⊥ = omega arith in z)) (λ _ w. let z : ⊥ = omega arith in z)
+refused-at p k (Begin c g) = by-test (λ (n : ℕ). n ≢ 8) (λ _. by-test (λ (n : ℕ). n ≢ 8) (λ _. differ 0 8 tt) (λ _. differ 12 8 tt)) (λ _. differ 10 8 tt)
+refused-at p k (Step c) = by-test (λ (n : ℕ). n ≢ 8) (λ _. differ 11 8 tt) (λ _. differ 0 8 tt)
+refused-at p k (Release c g) = by-test (λ (n : ℕ). n ≢ 8) (λ _. by-test (λ (n : ℕ). n ≢ 8) (λ _. differ 13 8 tt) (λ _. differ 0 8 tt)) (λ _. differ 10 8 tt)
 
 module _ (p : Pool) (x : Call) where
-  abbrev m : Move
-  m = moveOf p x
-
   pub never-stuck : Reached p → refusal p x ≡ 0 → refusalOf (moveOf p x .answer) ≢ 8
   never-stuck r e = edge-answer p (caller x) (call-edge p x r e .1)
 
@@ -124,7 +120,7 @@ module _ (p : Pool) (x : Call) where
   refusal-not-8 r e = go x (sym (chosen _ _ 8 (valid-reached p r)) ∙ e)
     where
       go : (x : Call) → choose (ltb (caller x) (clientCount p)) (refusalAt p (client p (caller x)) x) 9 ≡ 8 → ⊥
-      go x = by-test (λ (n : ℕ). n ≡ 8 → ⊥) (λ _. refused-at p (client p (caller x)) x) (λ _ w. let z : ⊥ = omega arith in z)
+      go x = by-test (λ (n : ℕ). n ≡ 8 → ⊥) (λ _. refused-at p (client p (caller x)) x) (λ _. differ 9 8 tt)
 
   pub never-8 : Reached p → callOf p x .answer ≢ Refused 8
   unfolding refusalOf

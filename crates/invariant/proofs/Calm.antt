@@ -9,20 +9,22 @@ use native.Mathlib.Decide.{ℕ-discrete}
 use lib.Dec.{T, eqb}
 use Rattle.pool.specs.State.{none, evicted, clientCount, slot, page, pins, entryFrame, client}
 use Rattle.pool.specs.Table.{entryOf}
-use Rattle.pool.specs.Apply.{stored, slotsAfter, freeAfter, apply}
+use Rattle.pool.specs.Apply.{slotsAfter, freeAfter, apply}
 use Rattle.pool.specs.declared.Pool.{Pool}
 use Rattle.pool.specs.declared.Client.{Client}
 use Rattle.pool.specs.declared.Move.{Move}
 use Rattle.invariant.proofs.Reached.{Reached, Calm, Knows, one, sumTo, mapped, unplaced, leaving, filling, hunting, Leaves}
-use Rattle.invariant.proofs.After.{client-same, client-other, all-clients, slot-kept, slot-here, slot-else, pins-kept, pins-here, pins-else}
+use Rattle.invariant.proofs.After.{SlotsStay, SlotsPut, client-same, client-other, all-clients, slot-kept, slot-here, slot-else, pins-kept, pins-here, pins-else}
 use Rattle.invariant.proofs.Sums.{one-not, sum-same, sum-put}
 use Rattle.invariant.proofs.Searches.{lookup-found}
 use Rattle.invariant.proofs.Table.{put-gone}
 use Rattle.invariant.proofs.Never.{know}
-use Rattle.invariant.proofs.Facts.{T-not, own-pins, hunt-cases, own-not-victim, never}
-use Rattle.invariant.proofs.Edges.{Edge, on, found1, found18, lost2, lost22, pins2, pins19, gets3, gets21, takes, fills, swaps, gives-up, drops, removes, admits, revives, evicts20, evicts23, begins, releases}
+use Rattle.invariant.proofs.Flags.{T-not, never, differ, leavesNone, hunt-unplaced}
+use Rattle.invariant.proofs.Steps.{no-leaves}
+use Rattle.invariant.proofs.Facts.{own-live, own-not-victim}
+use Rattle.invariant.proofs.Edges.{Hunts, Edge, on, found1, found18, lost2, lost22, pins2, pins19, gets3, gets21, takes, fills, swaps, gives-up, drops, removes, admits, revives, evicts20, evicts23, begins, releases}
 use Rattle.invariant.proofs.Effects.{PinChange, adds, lowers, drops-victim, drops-own, takes-one, PinsOk, pins-stay, pins-put, untouched, Effect}
-use Rattle.invariant.proofs.Next.{slot-now, slot-or-out}
+use Rattle.invariant.proofs.Next.{SlotNow, TakenOut, slot-now, slot-or-out}
 use Rattle.invariant.proofs.Outline.{new-entry}
 
 -- how many slots are empty
@@ -34,18 +36,8 @@ empty p = sumTo (λ i. one (eqb (slot p i) none)) (p .size)
 record Settles (p : Pool) (c : ℕ) (m : Move) : Type 0 where
   level : empty (apply p c m) + p .free + one (filling (client p c .stage)) ≡ empty p + freeAfter (p .free) (m .write) + one (filling (m .next .stage))
   six : m .next .stage ≡ 6 → m .next .seen ≢ 0
-  hunts : T (hunting (m .next .stage))
-      → ((m .next .victim ≡ client p c .victim) × (m .next .place ≡ client p c .place) × T (hunting (client p c .stage))) ⊎ (m .next .victim ≡ slot p (m .next .place))
+  hunts : T (hunting (m .next .stage)) → Hunts p (client p c) (m .next)
   leaves : (f : ℕ) → f ≢ none → mapped p f ≢ 0 → mapped (apply p c m) f ≢ 0 → Leaves p (client p c) f → Leaves (apply p c m) (m .next) f
-
-hunt-unplaced : (p : Pool) → Reached p → (s : ℕ) → T (hunting s) → T (unplaced s)
-hunt-unplaced p r s h = go (hunt-cases p r s h)
-  where
-    go : (s ≡ 12) ⊎ ((s ≡ 13) ⊎ ((s ≡ 14) ⊎ (s ≡ 15))) → T (unplaced s)
-    go (inl e) = rw e tt
-    go (inr (inl e)) = rw e tt
-    go (inr (inr (inl e))) = rw e tt
-    go (inr (inr (inr e))) = rw e tt
 
 -- ---- a settling move keeps the layer
 
@@ -66,23 +58,22 @@ module _ (p : Pool) (c : ℕ) (here : c < clientCount p) (r : Reached p) (m : Mo
       omega (arith, r .calm .empties, s .level, n, ap (λ (n : Client). one (filling (n .stage))) at-c)
 
   only-next : (d i : ℕ) → T (hunting (client q d .stage)) → client q d .victim ≢ none → slot q i ≡ client q d .victim → i ≡ client q d .place
-  only-next d i = all-clients p c m (r .shape) (λ _ n. T (hunting (n .stage)) → n .victim ≢ none → slot q i ≡ n .victim → i ≡ n .place) here others (mine (slot-now p c here r m x i)) d
+  only-next d i =
+      all-clients p c m (r .shape) (λ _ n. T (hunting (n .stage)) → n .victim ≢ none → slot q i ≡ n .victim → i ≡ n .place) here others
+      (mine (slot-now p c here r m x i)) d
     where
-      Now : Type 0
-      Now = (slot q i ≡ slot p i) ⊎ ((slot q i ≡ k .own) × T (unplaced (k .stage)) × T (not (unplaced (m .next .stage))) × (k .own ≢ none))
-
       others : (d : ℕ) → d ≢ c → T (hunting (client p d .stage)) → client p d .victim ≢ none → slot q i ≡ client p d .victim → i ≡ client p d .place
       others d _ t z h = go (slot-now p c here r m x i)
         where
-          go : Now → i ≡ client p d .place
+          go : SlotNow p c here r m x i → i ≡ client p d .place
           go (inl e) = r .calm .only d i t z (sym e ∙ h)
           go (inr e) = absurd (own-not-victim p r c d (e .1) (e .3) t (sym h ∙ e .0))
 
-      mine : Now → T (hunting (m .next .stage)) → m .next .victim ≢ none → slot q i ≡ m .next .victim → i ≡ m .next .place
-      mine (inr e) t z h = absurd (T-not (unplaced (m .next .stage)) (e .2) (hunt-unplaced p r (m .next .stage) t))
+      mine : SlotNow p c here r m x i → T (hunting (m .next .stage)) → m .next .victim ≢ none → slot q i ≡ m .next .victim → i ≡ m .next .place
+      mine (inr e) t z h = absurd (T-not (unplaced (m .next .stage)) (e .2) (hunt-unplaced (m .next .stage) t))
       mine (inl e) t z h = go (s .hunts t)
         where
-          go : ((m .next .victim ≡ k .victim) × (m .next .place ≡ k .place) × T (hunting (k .stage))) ⊎ (m .next .victim ≡ slot p (m .next .place)) → i ≡ m .next .place
+          go : Hunts p k (m .next) → i ≡ m .next .place
           go (inl w) = r .calm .only c i (w .2) (λ n. z (w .0 ∙ n)) (sym e ∙ h ∙ w .0) ∙ sym (w .1)
           go (inr w) = r .places .slots-apart i (m .next .place) (λ n. z (sym h ∙ e ∙ n)) (sym e ∙ h ∙ w)
 
@@ -115,7 +106,7 @@ module _ (p : Pool) (c : ℕ) (here : c < clientCount p) (r : Reached p) (m : Mo
                 stands : slot p (k .place) ≡ f
                 stands = ap (slot p) (sym (r .calm .only c (seat .0) (rw a tt) (kn .1 .0) (seat .1))) ∙ seat .1 ∙ sym (w ∙ v)
 
-                out : (slot q (k .place) ≡ f) ⊎ ((pins p f ≡ evicted) × T (leaving (m .next .stage)) × (m .next .victim ≡ f)) → slot q (m .next .place) ≡ f
+                out : (slot q (k .place) ≡ f) ⊎ TakenOut p c here r m x f → slot q (m .next .place) ≡ f
                 out (inl u) = ap (slot q) pl ∙ u
                 out (inr u) = absurd (let e : pins p g ≡ evicted = ap (pins p) (sym w) ∙ u .0 in let y : ⊥ = omega arith in y)
 
@@ -126,11 +117,13 @@ module _ (p : Pool) (c : ℕ) (here : c < clientCount p) (r : Reached p) (m : Mo
         who : (d : ℕ) × Leaves p (client p d) f → (d : ℕ) × Leaves q (client q d) f
         who w = by (ℕ-discrete (w .0) c)
           where
-            still : client q (w .0) ≡ client p (w .0) → T (leaving (client p (w .0) .stage)) ⊎ ((client p (w .0) .stage ≡ 15) × (slot p (client p (w .0) .place) ≡ f)) → (d : ℕ) × Leaves q (client q d) f
+            still : client q (w .0) ≡ client p (w .0)
+                → T (leaving (client p (w .0) .stage)) ⊎ ((client p (w .0) .stage ≡ 15) × (slot p (client p (w .0) .place) ≡ f))
+                → (d : ℕ) × Leaves q (client q d) f
             still e (inl l) = (w .0, rw e (w .1 .0, inl l))
             still e (inr l) = go (slot-or-out p c here r m x f (client p (w .0) .place) z (l .1))
               where
-                go : (slot q (client p (w .0) .place) ≡ f) ⊎ ((pins p f ≡ evicted) × T (leaving (m .next .stage)) × (m .next .victim ≡ f)) → (d : ℕ) × Leaves q (client q d) f
+                go : (slot q (client p (w .0) .place) ≡ f) ⊎ TakenOut p c here r m x f → (d : ℕ) × Leaves q (client q d) f
                 go (inl u) = (w .0, rw e (w .1 .0, inr (l .0, u)))
                 go (inr u) = (c, rw at-c (u .2, inl (u .1)))
 
@@ -145,9 +138,7 @@ module _ (p : Pool) (c : ℕ) (here : c < clientCount p) (r : Reached p) (m : Mo
       go (no e) = left f z e d n (evicted-now f z e d)
       go (yes e) =
           let w = new-entry p c here r m x f z e n in
-          let two = own-pins p r c (λ y. z (w .0 ∙ y)) in
-          let dead : pins p (k .own) ≡ evicted = ap (pins p) (sym (w .0)) ∙ sym (w .3) ∙ d in
-          absurd (let y : ⊥ = omega arith in y)
+          absurd (own-live p r c (λ y. z (w .0 ∙ y)) (ap (pins p) (sym (w .0)) ∙ sym (w .3) ∙ d))
 
   calm-of : Calm q
   unfolding apply
@@ -169,28 +160,24 @@ module _ (p : Pool) (c : ℕ) (here : c < clientCount p) (r : Reached p) where
   kn = know p r c
 
   -- the slots and free stay
-  same-empty : (m : Move) → slotsAfter (p .size) (p .slots) (m .write) ≡ p .slots → empty (apply p c m) ≡ empty p
+  same-empty : (m : Move) → SlotsStay p (m .write) → empty (apply p c m) ≡ empty p
   unfolding apply
   same-empty m e = sum-same _ _ (p .size) (λ i _. ap (λ (f : ℕ). one (eqb f none)) (slot-kept p c m (r .shape) e i))
 
-  -- nothing is left behind at stage i, unless it is 15, 16 or 17
-  not-leaving : {A : Type 0} (i : ℕ) → client p c .stage ≡ i → (T (leaving i) → ⊥) → i ≢ 15 → (f : ℕ) → Leaves p me f → A
-  not-leaving i e a b f (_, inl l) = absurd (a (rw e at l))
-  not-leaving i e a b f (_, inr l) = absurd (b (sym e ∙ l .0))
-
-  settled : {m : Move} (i : ℕ) → client p c .stage ≡ i → slotsAfter (p .size) (p .slots) (m .write) ≡ p .slots → freeAfter (p .free) (m .write) ≡ p .free → filling i ≡ filling (m .next .stage)
-      → m .next .stage ≢ 6 → (T (hunting (m .next .stage)) → ((m .next .victim ≡ me .victim) × (m .next .place ≡ me .place) × T (hunting (me .stage))) ⊎ (m .next .victim ≡ slot p (m .next .place)))
+  settled : {m : Move} (i : ℕ) → client p c .stage ≡ i → SlotsStay p (m .write) → freeAfter (p .free) (m .write) ≡ p .free
+      → filling i ≡ filling (m .next .stage) → T (not (eqb (m .next .stage) 6)) → (T (hunting (m .next .stage)) → Hunts p me (m .next))
       → ((f : ℕ) → f ≢ none → mapped p f ≢ 0 → mapped (apply p c m) f ≢ 0 → Leaves p me f → Leaves (apply p c m) (m .next) f) → Settles p c m
   settled {m} i e sl fr fi no-six hu lv =
-      record { level = rw (e, fr, fi) (omega (arith, same-empty m sl)); six = λ w. absurd (no-six w); hunts = hu; leaves = lv }
+      record { level = rw (e, fr, fi) (omega (arith, same-empty m sl)); six = λ w. absurd (differ (m .next .stage) 6 no-six w); hunts = hu; leaves = lv }
 
   -- and nothing is hunted or left
-  calmly : {m : Move} (i : ℕ) → client p c .stage ≡ i → slotsAfter (p .size) (p .slots) (m .write) ≡ p .slots → freeAfter (p .free) (m .write) ≡ p .free → filling i ≡ filling (m .next .stage)
-      → m .next .stage ≢ 6 → (T (hunting (m .next .stage)) → ⊥) → (T (leaving i) → ⊥) → i ≢ 15 → Settles p c m
-  calmly i e sl fr fi no-six hu lv n15 = settled i e sl fr fi no-six (λ t. absurd (hu t)) (λ f _ _ _ w. not-leaving i e lv n15 f w)
+  calmly : {m : Move} (i : ℕ) → client p c .stage ≡ i → SlotsStay p (m .write) → freeAfter (p .free) (m .write) ≡ p .free
+      → filling i ≡ filling (m .next .stage) → T (not (eqb (m .next .stage) 6)) → T (not (hunting (m .next .stage))) → T (leavesNone i) → Settles p c m
+  calmly {m} i e sl fr fi no-six hu lv =
+      settled i e sl fr fi no-six (λ t. absurd (T-not (hunting (m .next .stage)) hu t)) (λ f _ _ _ w. absurd (no-leaves p me i e lv f w))
 
   -- the own frame is put into the slot at the client's place: what stood there counted b as empty
-  placing : (m : Move) (b : ℕ) → slotsAfter (p .size) (p .slots) (m .write) ≡ stored (p .slots) (p .size) (me .place) (me .own) → me .own ≢ none → one (eqb (slot p (me .place)) none) ≡ b
+  placing : (m : Move) (b : ℕ) → SlotsPut p (m .write) (me .place) (me .own) → me .own ≢ none → one (eqb (slot p (me .place)) none) ≡ b
       → empty (apply p c m) + b ≡ empty p
   unfolding apply
   placing m b e z w =
@@ -218,35 +205,35 @@ module _ (p : Pool) (c : ℕ) (here : c < clientCount p) (r : Reached p) where
       shifted : {f : ℕ} → Leaves p (m .next) f → Leaves (apply p c m) (m .next) f
       shifted (v, inl l) = (v, inl l)
       shifted (v, inr l) = (v, inr (l .0, at (n .place) ∙ l .1))
-  settles (found1 e _) x = calmly 1 e refl refl refl (λ w. let y : ⊥ = omega arith in y) never never (λ w. let y : ⊥ = omega arith in y)
-  settles (found18 e _) x = calmly 18 e refl refl refl (λ w. let y : ⊥ = omega arith in y) never never (λ w. let y : ⊥ = omega arith in y)
-  settles (lost2 e _) x = calmly 2 e refl refl refl (λ w. let y : ⊥ = omega arith in y) never never (λ w. let y : ⊥ = omega arith in y)
-  settles (lost22 e) x = calmly 22 e refl refl refl (λ w. let y : ⊥ = omega arith in y) never never (λ w. let y : ⊥ = omega arith in y)
-  settles (pins2 e _) x = calmly 2 e refl refl refl (λ w. let y : ⊥ = omega arith in y) never never (λ w. let y : ⊥ = omega arith in y)
-  settles (pins19 e _) x = calmly 19 e refl refl refl (λ w. let y : ⊥ = omega arith in y) never never (λ w. let y : ⊥ = omega arith in y)
-  settles (gets3 e) x = calmly 3 e refl refl refl (λ w. let y : ⊥ = omega arith in y) never never (λ w. let y : ⊥ = omega arith in y)
-  settles (gets21 e) x = calmly 21 e refl refl refl (λ w. let y : ⊥ = omega arith in y) never never (λ w. let y : ⊥ = omega arith in y)
-  settles (takes e _) x = calmly 4 e refl refl refl (λ w. let y : ⊥ = omega arith in y) never never (λ w. let y : ⊥ = omega arith in y)
+  settles (found1 e _) x = calmly 1 e refl refl refl tt tt tt
+  settles (found18 e _) x = calmly 18 e refl refl refl tt tt tt
+  settles (lost2 e _) x = calmly 2 e refl refl refl tt tt tt
+  settles (lost22 e _) x = calmly 22 e refl refl refl tt tt tt
+  settles (pins2 e _) x = calmly 2 e refl refl refl tt tt tt
+  settles (pins19 e _) x = calmly 19 e refl refl refl tt tt tt
+  settles (gets3 e) x = calmly 3 e refl refl refl tt tt tt
+  settles (gets21 e) x = calmly 21 e refl refl refl tt tt tt
+  settles (takes e _) x = calmly 4 e refl refl refl tt tt tt
   settles {m} (fills e h) x =
       record {
         level = rw e (omega (arith, placing m 1 refl (kn 8 e) (ap (λ (f : ℕ). one (eqb f none)) h)));
-        six = λ w. let y : ⊥ = omega arith in absurd y;
+        six = λ w. absurd (differ 9 6 tt w);
         hunts = never;
-        leaves = λ f _ _ _ w. not-leaving 8 e never (λ w. let y : ⊥ = omega arith in y) f w;
+        leaves = λ f _ _ _ w. absurd (no-leaves p me 8 e tt f w);
       }
   settles {m} (swaps e h) x =
       let z : slot p (me .place) ≢ none = λ w. kn 15 e .1 .0 (sym h ∙ w) in
       record {
         level = rw e (omega (arith, placing m 0 refl (kn 15 e .0) (one-not _ _ z)));
-        six = λ w. let y : ⊥ = omega arith in absurd y;
+        six = λ w. absurd (differ 16 6 tt w);
         hunts = never;
         leaves = λ f _ _ _ w. (w .0, inl tt);
       }
-  settles (gives-up v) x = calmly (me .stage) refl refl refl (v .no-fill) (λ w. let y : ⊥ = omega arith in y) never (v .no-leave) (v .not-15)
+  settles (gives-up v _) x = calmly (me .stage) refl refl refl (v .no-fill) tt tt (v .no-leave)
   settles (drops e _) x =
-      settled 14 e refl refl refl (λ w. let y : ⊥ = omega arith in y) (λ _. inl (refl, refl, rw e tt)) (λ f _ _ _ w. not-leaving 14 e never (λ w. let y : ⊥ = omega arith in y) f w)
+      settled 14 e refl refl refl tt (λ _. inl (refl, refl, rw e tt)) (λ f _ _ _ w. absurd (no-leaves p me 14 e tt f w))
   settles {m} (removes e h) x =
-      settled 17 e refl refl refl (λ w. let y : ⊥ = omega arith in y) never (λ f _ _ n w. absurd (n (ap (mapped (apply p c m)) (sym (w .0)) ∙ gone)))
+      settled 17 e refl refl refl tt never (λ f _ _ n w. absurd (n (ap (mapped (apply p c m)) (sym (w .0)) ∙ gone)))
     where
       z : me .victim ≢ none
       z = kn 17 e .1 .0
@@ -263,13 +250,14 @@ module _ (p : Pool) (c : ℕ) (here : c < clientCount p) (r : Reached p) where
       gone : mapped (apply p c m) (me .victim) ≡ 0
       gone =
           ap (mapped (apply p c m)) (sym there) ∙
-          put-gone p c m (r .shape) i g none refl (lookup-found p (r .shape) g (λ w. z (sym h ∙ w)) .place) (r .outline .entries-apart) (λ w. absurd (w refl)) (λ w. z (sym there ∙ w)) (λ w. z (sym there ∙ w))
-  settles (admits e _ _) x = calmly 18 e refl refl refl (λ w. let y : ⊥ = omega arith in y) never never (λ w. let y : ⊥ = omega arith in y)
-  settles (revives e _) x = calmly 22 e refl refl refl (λ w. let y : ⊥ = omega arith in y) never never (λ w. let y : ⊥ = omega arith in y)
-  settles (evicts20 e) x = calmly 20 e refl refl refl (λ w. let y : ⊥ = omega arith in y) never never (λ w. let y : ⊥ = omega arith in y)
-  settles (evicts23 e) x = calmly 23 e refl refl refl (λ w. let y : ⊥ = omega arith in y) never never (λ w. let y : ⊥ = omega arith in y)
-  settles (begins g e _) x = calmly 0 e refl refl refl (λ w. let y : ⊥ = omega arith in y) never never (λ w. let y : ⊥ = omega arith in y)
-  settles (releases g e _) x = calmly 0 e refl refl (rw e refl) (λ w. let y : ⊥ = omega arith in y) (λ t. rw e at t) never (λ w. let y : ⊥ = omega arith in y)
+          put-gone p c m (r .shape) i g none refl (lookup-found p (r .shape) g (λ w. z (sym h ∙ w)) .place) (r .outline .entries-apart)
+          (λ w. absurd (w refl)) (λ w. z (sym there ∙ w)) (λ w. z (sym there ∙ w))
+  settles (admits e _ _) x = calmly 18 e refl refl refl tt tt tt
+  settles (revives e _) x = calmly 22 e refl refl refl tt tt tt
+  settles (evicts20 e) x = calmly 20 e refl refl refl tt tt tt
+  settles (evicts23 e) x = calmly 23 e refl refl refl tt tt tt
+  settles (begins g e _) x = calmly 0 e refl refl refl tt tt tt
+  settles (releases g e _) x = calmly 0 e refl refl (rw e refl) (rw e tt) (rw e tt) tt
 
   pub calm-next : {m : Move} → Edge p c m → Effect p c m → Calm (apply p c m)
   calm-next {m} e x = calm-of p c here r m x (settles e x)

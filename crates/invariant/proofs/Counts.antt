@@ -12,20 +12,20 @@ use Rattle.pool.specs.State.{none, evicted, pinned, clientCount, total, pins, c
 use Rattle.pool.specs.Frames.{referenced, freeFrame}
 use Rattle.pool.specs.Grants.{grantOf}
 use Rattle.pool.specs.Moves.{refused15}
-use Rattle.pool.specs.Apply.{stored, slotsAfter, pinsAfter, entryPagesAfter, entryFramesAfter, apply}
+use Rattle.pool.specs.Apply.{slotsAfter, pinsAfter, entryPagesAfter, entryFramesAfter, apply}
 use Rattle.pool.specs.declared.Pool.{Pool}
 use Rattle.pool.specs.declared.Client.{Client}
 use Rattle.pool.specs.declared.Move.{Move}
 use Rattle.pool.specs.declared.GrantChange.the-variants.{Same, Open}
 use Rattle.invariant.proofs.Reached.{Reached, Counts, Knows, one, grantsOn, claims, claimed, pinsFound, unplaced, ownless, Orphan, Balance, gone, held, orphan}
-use Rattle.invariant.proofs.After.{client-same, client-other, all-clients, slot-kept, pins-kept, pins-here, pins-else}
+use Rattle.invariant.proofs.After.{PinsStay, PinsPut, client-same, client-other, all-clients, slot-kept, pins-kept, pins-here, pins-else}
 use Rattle.invariant.proofs.Sums.{one-is, one-not, sum-zero, sum-put, sum-has}
 use Rattle.invariant.proofs.Searches.{Fresh, fresh-means, free-found, grantOf-found, grant-in}
 use Rattle.invariant.proofs.Table.{mapped-kept}
 use Rattle.invariant.proofs.Grants.{grantsOn-none, grantsOn-other, grantsOn-keeps, grantsOn-opens, grantsOn-ends}
 use Rattle.invariant.proofs.Never.{know}
-use Rattle.invariant.proofs.Facts.{none-own, foreign-claims, orphan-claims, own-pins, grant-live, never, T-false}
-use Rattle.invariant.proofs.Steps.{imp-mp}
+use Rattle.invariant.proofs.Facts.{none-own, foreign-claims, orphan-claims, own-pins, grant-live}
+use Rattle.invariant.proofs.Flags.{T-false, never, differ, imp-mp}
 use Rattle.invariant.proofs.Edges.{Edge, on, found1, found18, lost2, lost22, pins2, pins19, gets3, gets21, takes, fills, swaps, gives-up, drops, removes, admits, revives, evicts20, evicts23, begins, releases}
 use Rattle.invariant.proofs.Effects.{no-open, untouched, Effect}
 use Rattle.invariant.proofs.Next.{slot-now, all-grants}
@@ -69,8 +69,13 @@ module _ (p : Pool) (c : ℕ) (here : c < clientCount p) (r : Reached p) (m : Mo
 
   -- ---- the claims after a move
 
-  claims-next : (f : ℕ) → claims q c f ≡ grantsOn q c f + one (pinsFound (m .next .stage) && eqb (m .next .found) f) + one (eqb (m .next .own) f)
-  claims-next f = ap (λ (n : Client). grantsOn q c f + one (pinsFound (n .stage) && eqb (n .found) f) + one (eqb (n .own) f)) (client-same p c m (r .shape) here)
+  -- what the next record claims besides grants
+  abbrev besides : ℕ → ℕ
+  besides f = one (pinsFound (m .next .stage) && eqb (m .next .found) f) + one (eqb (m .next .own) f)
+
+  claims-next : (f : ℕ) → claims q c f ≡ grantsOn q c f + besides f
+  claims-next f =
+      omega (arith, ap (λ (n : Client). one (pinsFound (n .stage) && eqb (n .found) f) + one (eqb (n .own) f)) (client-same p c m (r .shape) here))
 
   claims-other : (d f : ℕ) → d ≢ c → claims q d f ≡ claims p d f
   claims-other d f o =
@@ -85,7 +90,7 @@ module _ (p : Pool) (c : ℕ) (here : c < clientCount p) (r : Reached p) (m : Mo
   claimed-next f = sum-put (λ d. claims p d f) (λ d. claims q d f) (clientCount p) c here (λ d _ o. claims-other d f o)
 
   -- the grants stay, and what else is claimed
-  claims-kept : m .grants ≡ Same → m .next .held ≡ k .held → (f : ℕ) → claims q c f ≡ grantsOn p c f + one (pinsFound (m .next .stage) && eqb (m .next .found) f) + one (eqb (m .next .own) f)
+  claims-kept : m .grants ≡ Same → m .next .held ≡ k .held → (f : ℕ) → claims q c f ≡ grantsOn p c f + besides f
   claims-kept g h f = omega (arith, claims-next f, grantsOn-keeps p c m (r .shape) here few (x .grants) g h f)
 
   -- one more grant, and nothing else is claimed
@@ -125,8 +130,11 @@ module _ (p : Pool) (c : ℕ) (here : c < clientCount p) (r : Reached p) (m : Mo
 
   -- ---- the layer, from the changes
 
+  abbrev Ownless : Type 0
+  Ownless = T (ownless (m .next .stage)) → m .next .own ≡ none
+
   record Tallies : Type 0 where
-    owns : T (ownless (m .next .stage)) → m .next .own ≡ none
+    owns : Ownless
     change : (f : ℕ) → f ≢ none → Change p q f (pins p f) (pins q f) (claims p c f) (claims q c f)
 
   counts-of : Tallies → Counts q
@@ -134,16 +142,16 @@ module _ (p : Pool) (c : ℕ) (here : c < clientCount p) (r : Reached p) (m : Mo
   counts-of t =
       record {
         owns-none = all-clients p c m (r .shape) (λ _ n. T (ownless (n .stage)) → n .own ≡ none) here (λ d _. r .counts .owns-none d) (t .owns);
-        balance = λ f z. balance-next p q f (pins p f) (pins q f) (claims p c f) (claims q c f) (claimed p f) (claimed q f) refl (r .counts .balance f z) (t .change f z)
-            (claimed-next f) (sum-has (λ d. claims p d f) (clientCount p) c here) (orphan-next f z);
+        balance = λ f z. balance-next p q f (pins p f) (pins q f) (claims p c f) (claims q c f) (claimed p f) (claimed q f) refl
+            (r .counts .balance f z) (t .change f z) (claimed-next f) (sum-has (λ d. claims p d f) (clientCount p) c here) (orphan-next f z);
       }
 
   -- no pins change, and no claims
-  quiet : (T (ownless (m .next .stage)) → m .next .own ≡ none) → pinsAfter (total p) (p .pins) (m .write) ≡ p .pins → ((f : ℕ) → f ≢ none → claims q c f ≡ claims p c f) → Tallies
+  quiet : Ownless → PinsStay p (m .write) → ((f : ℕ) → f ≢ none → claims q c f ≡ claims p c f) → Tallies
   quiet o w e = record { owns = o; change = λ f z. idle (pins-kept p c m (r .shape) w f) (e f z) }
 
   -- the pins of one frame change
-  touch : (g y : ℕ) → (T (ownless (m .next .stage)) → m .next .own ≡ none) → pinsAfter (total p) (p .pins) (m .write) ≡ stored (p .pins) (total p) g y → g < total p
+  touch : (g y : ℕ) → Ownless → PinsPut p (m .write) g y → g < total p
       → (g ≢ none → Change p q g (pins p g) y (claims p c g) (claims q c g)) → ((f : ℕ) → f ≢ none → f ≢ g → claims q c f ≡ claims p c f) → Tallies
   touch g y o w h ch e = record { owns = o; change = λ f z. go f z (ℕ-discrete f g) }
     where
@@ -174,14 +182,17 @@ module _ (p : Pool) (c : ℕ) (here : c < clientCount p) (r : Reached p) where
     abbrev Good : Type 0
     Good = Tallies p c here r m x
 
+    abbrev NoOwn : Type 0
+    NoOwn = T (ownless (m .next .stage)) → m .next .own ≡ none
+
     -- the grants stay, no pins change, and the client claims what it did
-    still : (T (ownless (m .next .stage)) → m .next .own ≡ none) → pinsAfter (total p) (p .pins) (m .write) ≡ p .pins → m .grants ≡ Same → m .next .held ≡ me .held
-        → ((f : ℕ) → one (pinsFound (m .next .stage) && eqb (m .next .found) f) + one (eqb (m .next .own) f) ≡ one (pinsFound (me .stage) && eqb (me .found) f) + one (eqb (me .own) f)) → Good
+    still : NoOwn → PinsStay p (m .write) → m .grants ≡ Same → m .next .held ≡ me .held
+        → ((f : ℕ) → besides p c here r m x f ≡ one (pinsFound (me .stage) && eqb (me .found) f) + one (eqb (me .own) f)) → Good
     still o w g h e = quiet p c here r m x o w (λ f _. omega (arith, claims-kept p c here r m x g h f, e f))
 
     -- the found frame has one claim more, and one pin
-    pins-found : (i : ℕ) → client p c .stage ≡ i → T (not (pinsFound i)) → pinsFound (m .next .stage) ≡ true → (T (ownless (m .next .stage)) → m .next .own ≡ none)
-        → pinsAfter (total p) (p .pins) (m .write) ≡ stored (p .pins) (total p) (me .found) (pins p (me .found) + 1) → m .grants ≡ Same → m .next .held ≡ me .held → m .next .found ≡ me .found
+    pins-found : (i : ℕ) → client p c .stage ≡ i → T (not (pinsFound i)) → pinsFound (m .next .stage) ≡ true → NoOwn
+        → PinsPut p (m .write) (me .found) (pins p (me .found) + 1) → m .grants ≡ Same → m .next .held ≡ me .held → m .next .found ≡ me .found
         → m .next .own ≡ me .own → me .found ≢ none → pins p (me .found) ≢ evicted → Good
     pins-found i e t u o w g h fo ow z l =
         touch p c here r m x (me .found) _ o w (r .ranges .found-ok c z)
@@ -195,14 +206,15 @@ module _ (p : Pool) (c : ℕ) (here : c < clientCount p) (r : Reached p) where
             omega (arith, claims-kept p c here r m x g h f, ap (λ (o : ℕ). one (eqb o f)) ow)
 
     -- a claim becomes a grant: that of the found frame, or that of the own one
-    becomes : (y : ℕ) → pinsAfter (total p) (p .pins) (m .write) ≡ p .pins → m .grants ≡ Open (me .held) (me .page) y → m .next .held ≡ me .held + 1 → me .stage ≢ 0 → m .next .stage ≡ 0 → m .next .own ≡ none
+    becomes : (i y : ℕ) → me .stage ≡ i → T (not (eqb i 0)) → PinsStay p (m .write) → m .grants ≡ Open (me .held) (me .page) y
+        → m .next .held ≡ me .held + 1 → m .next .stage ≡ 0 → m .next .own ≡ none
         → ((f : ℕ) → f ≢ none → one (pinsFound (me .stage) && eqb (me .found) f) + one (eqb (me .own) f) ≡ one (eqb y f)) → Good
-    becomes y w g h n s o e =
-        quiet p c here r m x (λ _. o) w
-        (λ f z. omega (arith, claims-open p c here r m x (me .page) y g h (omega (arith, r .ranges .working-held c n)) s o f z, e f z))
+    becomes i y st n w g h s o e =
+        let few : me .held < 8 = omega (arith, r .ranges .working-held c (λ z. differ i 0 n (sym st ∙ z))) in
+        quiet p c here r m x (λ _. o) w (λ f z. omega (arith, claims-open p c here r m x (me .page) y g h few s o f z, e f z))
 
     -- the own frame is evicted and forgotten
-    evicts : (j : ℕ) → m .next .own ≡ none → pinsAfter (total p) (p .pins) (m .write) ≡ stored (p .pins) (total p) (me .own) evicted → m .grants ≡ Same → m .next .held ≡ me .held
+    evicts : (j : ℕ) → m .next .own ≡ none → PinsPut p (m .write) (me .own) evicted → m .grants ≡ Same → m .next .held ≡ me .held
         → pinsFound (m .next .stage) ≡ pinsFound (me .stage) → m .next .found ≡ me .found → me .own ≢ none → Good
     evicts j o w g h s fo z =
         touch p c here r m x (me .own) evicted (λ _. o) w (r .ranges .own-ok c z)
@@ -227,24 +239,26 @@ module _ (p : Pool) (c : ℕ) (here : c < clientCount p) (r : Reached p) where
         unmapped = mapped-kept p c m (r .shape) refl refl (me .own) ∙ r .private .own-unmapped c z;
         unowned = all-clients p c m (r .shape) (λ _ n. n .own ≢ me .own) here (λ d o w. o (sym (r .places .owns-apart c d z (sym w)))) (λ w. z (sym w));
         unfound = all-clients p c m (r .shape) (λ _ n. n .found ≢ me .own) here (λ d _. r .private .own-unfound c d z) (λ w. z (sym w));
-        ungranted = λ d i w. all-grants p c here r m x (λ _ f. f ≢ me .own) (λ d i _. r .private .own-ungranted c d i z) (λ g f e. no-open e) d i (grant-in (apply p c m) d i (λ n. z (sym w ∙ n))) w;
+        ungranted = λ d i w. all-grants p c here r m x (λ _ f. f ≢ me .own) (λ d i _. r .private .own-ungranted c d i z) (λ g f e. no-open e) d i
+            (grant-in (apply p c m) d i (λ n. z (sym w ∙ n))) w;
       }
 
   tallies : {m : Move} → Edge p c m → (x : Effect p c m) → Tallies p c here r m x
   unfolding pinsAfter claimed
   tallies (on n j w h) x =
-      still x (λ t. h .same .own ∙ r .counts .owns-none c (imp-mp (ownless j) (ownless (me .stage)) (h .stages .from-ownless) t)) (untouched _ _ (h .quiet) .pins) refl (h .same .held)
+      still x (λ t. h .same .own ∙ r .counts .owns-none c (imp-mp (ownless j) (ownless (me .stage)) (h .stages .from-ownless) t))
+      (untouched _ _ (h .quiet) .pins) refl (h .same .held)
       (λ f. rw (h .stages .pins-alike, h .same .found, h .same .own) refl)
   tallies (found1 e _) x = still x (λ _. r .counts .owns-none c (rw e tt)) refl refl refl (λ f. rw e refl)
   tallies (found18 e _) x = still x never refl refl refl (λ f. rw e refl)
   tallies (lost2 e _) x = still x (λ _. r .counts .owns-none c (rw e tt)) refl refl refl (λ f. rw e refl)
-  tallies (lost22 e) x = still x never refl refl refl (λ f. rw e refl)
+  tallies (lost22 e _) x = still x never refl refl refl (λ f. rw e refl)
   tallies (pins2 e l) x = pins-found x 2 e tt refl (λ _. r .counts .owns-none c (rw e tt)) refl refl refl refl refl (kn 2 e .0) l
   tallies (pins19 e l) x = pins-found x 19 e tt refl never refl refl refl refl refl (kn 19 e .1 .0) l
   tallies (gets3 e) x =
-      becomes x (me .found) refl refl refl (λ w. let z : ⊥ = omega arith in z) refl refl (λ f z. omega (arith, by-found 3 f e, by-none f z (rw e tt)))
+      becomes x 3 (me .found) e tt refl refl refl refl refl (λ f z. omega (arith, by-found 3 f e, by-none f z (rw e tt)))
   tallies (gets21 e) x =
-      becomes x (me .found) refl refl refl (λ w. let z : ⊥ = omega arith in z) refl refl (λ f z. omega (arith, by-found 21 f e, by-none f z (rw e tt)))
+      becomes x 21 (me .found) e tt refl refl refl refl refl (λ f z. omega (arith, by-found 21 f e, by-none f z (rw e tt)))
   tallies {m} (takes e z) x =
       touch p c here r m x (freeFrame p) (pinned 1) never refl (free .0)
       (λ _. revive (sum-zero (λ d. claims p d (freeFrame p)) (clientCount p) (λ d _. none-of d)) refl
@@ -261,11 +275,12 @@ module _ (p : Pool) (c : ℕ) (here : c < clientCount p) (r : Reached p) where
       none-of d = foreign-claims p d (freeFrame p) (fresh .no-found d) (fresh .no-grant d) ∙ one-not _ _ (fresh .no-own d)
   tallies (fills e _) x = still x never refl refl refl (λ f. rw e refl)
   tallies (swaps e _) x = still x never refl refl refl (λ f. rw e refl)
-  tallies {m} (gives-up v) x = record { owns = λ _. refl; change = λ f z. go f z (ℕ-discrete (me .own) f) }
+  tallies {m} (gives-up v _) x = record { owns = λ _. refl; change = λ f z. go f z (ℕ-discrete (me .own) f) }
     where
       go : (f : ℕ) → f ≢ none → Dec (me .own ≡ f) → Change p (apply p c m) f (pins p f) (pins (apply p c m) f) (claims p c f) (claims (apply p c m) c f)
       go f z (yes h) =
-          subst (λ (f : ℕ). Change p (apply p c m) f (pins p f) (pins (apply p c m) f) (claims p c f) (claims (apply p c m) c f)) h (strand (stranded x (v .is-unplaced) (λ w. z (sym h ∙ w))))
+          subst (λ (f : ℕ). Change p (apply p c m) f (pins p f) (pins (apply p c m) f) (claims p c f) (claims (apply p c m) c f)) h
+          (strand (stranded x (v .is-unplaced) (λ w. z (sym h ∙ w))))
       go f z (no h) =
           idle (pins-kept p c m (r .shape) refl f)
           (omega (arith, claims-kept p c here r m x refl refl f, none-own f z, one-not _ _ h, ap (λ (b : Bool). one (b && eqb (me .found) f)) (v .no-pin)))
@@ -274,14 +289,15 @@ module _ (p : Pool) (c : ℕ) (here : c < clientCount p) (r : Reached p) where
       (λ _. evict (λ n. let y : ⊥ = omega arith in y) refl (omega (arith, claims-kept p c here r m x refl refl (me .victim), by-found 14 (me .victim) e)))
       (λ f _ _. omega (arith, claims-kept p c here r m x refl refl f, by-found 14 f e))
   tallies (removes e _) x = still x never refl refl refl (λ f. rw e refl)
-  tallies (admits e _ _) x = becomes x (me .own) refl refl refl (λ w. let z : ⊥ = omega arith in z) refl refl (λ f _. omega (arith, by-found 18 f e))
-  tallies (revives e _) x = becomes x (me .own) refl refl refl (λ w. let z : ⊥ = omega arith in z) refl refl (λ f _. omega (arith, by-found 22 f e))
+  tallies (admits e _ _) x = becomes x 18 (me .own) e tt refl refl refl refl refl (λ f _. omega (arith, by-found 18 f e))
+  tallies (revives e _) x = becomes x 22 (me .own) e tt refl refl refl refl refl (λ f _. omega (arith, by-found 22 f e))
   tallies (evicts20 e) x = evicts x 21 refl refl refl refl (rw e refl) refl (kn 20 e .0 .0)
   tallies (evicts23 e) x = evicts x 4 refl refl refl refl (rw e refl) refl (kn 23 e .0)
   tallies (begins g e _) x = still x (λ _. r .counts .owns-none c (rw e tt)) refl refl refl (λ f. rw e refl)
   tallies {m} (releases g e z) x =
       touch p c here r m x gf (pins p gf - 1) (λ t. r .counts .owns-none c t) refl (r .ranges .grant-ok c i named)
-      (λ _. shift (λ o. o .ungranted c i refl) (λ n. let y : ⊥ = omega (arith, two) in y) (λ n. let y : ⊥ = omega (arith, two) in y) (omega (arith, less gf, one-is gf, two)))
+      (λ _. shift (λ o. o .ungranted c i refl) (λ n. let y : ⊥ = omega (arith, two) in y) (λ n. let y : ⊥ = omega (arith, two) in y)
+      (omega (arith, less gf, one-is gf, two)))
       (λ f _ n. omega (arith, less f, one-not gf f (λ w. n (sym w))))
     where
       i : ℕ
@@ -298,7 +314,8 @@ module _ (p : Pool) (c : ℕ) (here : c < clientCount p) (r : Reached p) where
 
       less : (f : ℕ) → claims (apply p c m) c f + one (eqb gf f) ≡ claims p c f
       less f =
-          omega (arith, claims-next p c here r m x f, grantsOn-ends p c m (r .shape) here (r .ranges .held-ok) (x .grants) i refl refl (grantOf-found p c g z .0) f)
+          let h = grantsOn-ends p c m (r .shape) here (r .ranges .held-ok) (x .grants) i refl refl (grantOf-found p c g z .0) f in
+          omega (arith, claims-next p c here r m x f)
 
   pub counts-next : {m : Move} → Edge p c m → Effect p c m → Counts (apply p c m)
   counts-next {m} e x = counts-of p c here r m x (tallies e x)

@@ -3,7 +3,6 @@
 -- Definitions only. Assumes nothing.
 use mathlib.Core.Path.{_≡_}
 use mathlib.Core.Logic.{_≢_, _⊎_}
-use mathlib.Core.Bool.{Bool, true, false}
 use Prim.Native.Nat.{ℕ, _+_, _-_, _≤_, _<_}
 use lib.Dec.{T}
 use Rattle.pool.specs.State.{none, evicted, pinned, total, resting, slot, page, pins, count, client, grantFrame}
@@ -23,29 +22,8 @@ use Rattle.pool.specs.declared.Counted.the-variants.{Hit, Join, Admitted, Reviv
 use Rattle.pool.specs.declared.GrantChange.the-variants.{Open, End}
 use Rattle.pool.specs.declared.Write.{Write}
 use Rattle.pool.specs.declared.Write.the-variants.{Keep, PutSlot, PutPins, PutCount, TakeFrame, PutEntry, PutHand, PutFree}
-use Rattle.invariant.proofs.Reached.{one, mapped, unplaced, ownless, foundless, victimless, pinsFound, leaving, filling, hunting, Knows, Leaves}
-
-abbrev pub imp : Bool → Bool → Bool
-imp true b = b
-imp false b = true
-
--- Stages i and j such that a client may go from the one to the other with its own frame, its found frame and its claims as they are.
-pub record Onward (i j : ℕ) : Type 0 where
-  pub from-unplaced : T (imp (unplaced j) (unplaced i))
-  pub from-ownless : T (imp (ownless j) (ownless i))
-  pub from-foundless : T (imp (foundless j) (foundless i))
-  pub pins-alike : pinsFound j ≡ pinsFound i
-  pub stage-ok : j ≤ 23
-  pub working : i ≢ 0
-
--- a stage of the sweep at which a busy visit may end it
-pub record Visits (i : ℕ) : Type 0 where
-  pub is-unplaced : T (unplaced i)
-  pub is-foundless : T (foundless i)
-  pub no-pin : pinsFound i ≡ false
-  pub no-fill : filling i ≡ false
-  pub no-leave : T (leaving i) → ⊥
-  pub not-15 : i ≢ 15
+use Rattle.invariant.proofs.Reached.{one, mapped, victimless, filling, hunting, Knows, Leaves}
+use Rattle.invariant.proofs.Flags.{Onward, Visits}
 
 -- a write that the slots, the frames' pages and pins, and the table do not see
 pub data Quiet (p : Pool) : Write → Type 0 where
@@ -60,6 +38,10 @@ pub record Alike (k n : Client) : Type 0 where
   pub found : n .found ≡ k .found
   pub held : n .held ≡ k .held
 
+-- a hunting client n that was k hunts the frame that it hunted at that place, or the one that stands at its place now
+abbrev pub Hunts : Pool → Client → Client → Type 0
+Hunts p k n = ((n .victim ≡ k .victim) × (n .place ≡ k .place) × T (hunting (k .stage))) ⊎ (n .victim ≡ slot p (n .place))
+
 -- client k goes on to stage j as n
 pub record Passes (p : Pool) (k n : Client) (j : ℕ) (w : Write) : Type 0 where
   pub same : Alike k n
@@ -72,7 +54,7 @@ pub record Passes (p : Pool) (k n : Client) (j : ℕ) (w : Write) : Type 0 where
   pub knows : Knows j p (standing n j)
   pub no-victim : T (victimless j) → n .victim ≡ none
   pub six : j ≡ 6 → n .seen ≢ 0
-  pub hunts : T (hunting j) → ((n .victim ≡ k .victim) × (n .place ≡ k .place) × T (hunting (k .stage))) ⊎ (n .victim ≡ slot p (n .place))
+  pub hunts : T (hunting j) → Hunts p k n
   pub leaves : (f : ℕ) → f ≢ none → mapped p f ≢ 0 → Leaves p k f → Leaves p (standing n j) f
   pub fills : p .free + one (filling (k .stage)) ≡ freeAfter (p .free) w + one (filling j)
 
@@ -84,6 +66,13 @@ module _ (p : Pool) (c : ℕ) where
   abbrev pub k : Client
   k = client p c
 
+  -- its first grant on page g ends, and its last takes that place
+  abbrev pub released : ℕ → Move
+  released g =
+      let i = grantOf p c g in
+      let f = grantFrame p c i in
+      completes g (holding k (k .held - 1)) (End i (k .held - 1)) (PutPins f (pins p f - 1))
+
   pub data Edge : Move → Type 0 where
     on : (n : Client) (j : ℕ) (w : Write) → Passes p k n j w → Edge (works n j w)
     -- 1, 18: the look-up found a frame
@@ -91,7 +80,7 @@ module _ (p : Pool) (c : ℕ) where
     found18 : k .stage ≡ 18 → lookup p (k .page) ≢ none → Edge (works (withFound k (lookup p (k .page))) 19 Keep)
     -- 2: the found frame is evicted. 22: the page is mapped to another
     lost2 : k .stage ≡ 2 → pins p (k .found) ≡ evicted → Edge (works (withFound k none) 4 Keep)
-    lost22 : k .stage ≡ 22 → Edge (works (withFound k none) 23 Keep)
+    lost22 : k .stage ≡ 22 → lookup p (k .page) ≢ k .found → Edge (works (withFound k none) 23 Keep)
     -- 2, 19: the found frame is pinned
     pins2 : k .stage ≡ 2 → pins p (k .found) ≢ evicted → Edge (works k 3 (PutPins (k .found) (pins p (k .found) + 1)))
     pins19 : k .stage ≡ 19 → pins p (k .found) ≢ evicted → Edge (works k 20 (PutPins (k .found) (pins p (k .found) + 1)))
@@ -103,7 +92,7 @@ module _ (p : Pool) (c : ℕ) where
     fills : k .stage ≡ 8 → slot p (k .place) ≡ none → Edge (works k 9 (PutSlot (k .place) (k .own)))
     swaps : k .stage ≡ 15 → slot p (k .place) ≡ k .victim → Edge (works k 16 (PutSlot (k .place) (k .own)))
     -- 11, 12: the S-th busy visit
-    gives-up : Visits (k .stage) → Edge (refused15 k)
+    gives-up : Visits (k .stage) → k .busy + 1 ≡ p .size → Edge (refused15 k)
     drops : k .stage ≡ 14 → pins p (k .victim) ≡ pinned 0 → Edge (worksAs k Drop 15 (PutPins (k .victim) evicted))
     removes : k .stage ≡ 17 → lookup p (page p (k .victim)) ≡ k .victim
         → Edge (works (withVictim k none) 18 (PutEntry (entryOf p (page p (k .victim))) (page p (k .victim)) none))
@@ -114,5 +103,4 @@ module _ (p : Pool) (c : ℕ) where
     evicts20 : k .stage ≡ 20 → Edge (works (withOwn k none) 21 (PutPins (k .own) evicted))
     evicts23 : k .stage ≡ 23 → Edge (works (withOwn k none) 4 (PutPins (k .own) evicted))
     begins : (g : ℕ) → k .stage ≡ 0 → k .held < 8 → Edge (beginMove k g)
-    releases : (g : ℕ) → k .stage ≡ 0 → grantOf p c g ≢ none
-        → Edge (completes g (holding k (k .held - 1)) (End (grantOf p c g) (k .held - 1)) (PutPins (grantFrame p c (grantOf p c g)) (pins p (grantFrame p c (grantOf p c g)) - 1)))
+    releases : (g : ℕ) → k .stage ≡ 0 → grantOf p c g ≢ none → Edge (released g)

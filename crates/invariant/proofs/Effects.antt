@@ -6,14 +6,14 @@ use mathlib.Core.Bool.{false, not}
 use mathlib.Core.List.{List}
 use Prim.Native.Nat.{ℕ, suc, _+_, _-_, _≤_, _<_}
 use native.Mathlib.Omega.{arith}
-use lib.Dec.{T}
+use lib.Dec.{T, eqb}
 use Rattle.pool.specs.State.{none, evicted, pinned, clientCount, total, slot, page, pins, count, entryPage, entryFrame, client, grantFrame}
 use Rattle.pool.specs.Table.{entryOf, lookup}
 use Rattle.pool.specs.Frames.{referenced, freeFrame}
 use Rattle.pool.specs.Grants.{grantOf}
 use Rattle.pool.specs.Moves.{withOwn, works}
 use Rattle.pool.specs.Stages.{raised}
-use Rattle.pool.specs.Apply.{stored, slotsAfter, pagesAfter, pinsAfter, entryPagesAfter, entryFramesAfter}
+use Rattle.pool.specs.Apply.{slotsAfter, pagesAfter, pinsAfter, entryPagesAfter, entryFramesAfter}
 use Rattle.pool.specs.declared.Pool.{Pool}
 use Rattle.pool.specs.declared.Client.{Client}
 use Rattle.pool.specs.declared.Move.{Move}
@@ -22,13 +22,15 @@ use Rattle.pool.specs.declared.Counted.the-variants.{Hit, Join, Admitted, Reviv
 use Rattle.pool.specs.declared.GrantChange.the-variants.{Same, Open, End}
 use Rattle.pool.specs.declared.Write.{Write}
 use Rattle.pool.specs.declared.Write.the-variants.{PutSlot, PutPins, PutCount, TakeFrame, PutEntry}
+use Rattle.invariant.proofs.After.{SlotsStay, PinsStay, PinsPut, PagesStay, PagesPut, EntryPagesStay, EntryFramesStay}
 use Rattle.invariant.proofs.Reached.{Reached, mapped, Seated, Knows, unplaced, pinsFound, leaving}
 use Rattle.invariant.proofs.Searches.{lookup-found, lookup-none, unused-found, grantOf-found, free-found}
 use Rattle.invariant.proofs.Table.{suc-not, lookup-mapped}
 use Rattle.invariant.proofs.Grants.{Granting, keeps, opens, ends}
 use Rattle.invariant.proofs.Never.{know}
+use Rattle.invariant.proofs.Flags.{differ, imp}
 use Rattle.invariant.proofs.Facts.{own-pins, grant-live, found-live, one-more}
-use Rattle.invariant.proofs.Edges.{imp, Quiet, keep, hand, counts, free, Edge, on, grants, found1, found18, lost2, lost22, pins2, pins19, gets3, gets21, takes, fills, swaps, gives-up, drops, removes, admits, revives, evicts20, evicts23, begins, releases}
+use Rattle.invariant.proofs.Edges.{Quiet, keep, hand, counts, free, Edge, on, grants, found1, found18, lost2, lost22, pins2, pins19, gets3, gets21, takes, fills, swaps, gives-up, drops, removes, admits, revives, evicts20, evicts23, begins, releases}
 
 module _ (p : Pool) (c : ℕ) (m : Move) where
   abbrev k : Client
@@ -41,23 +43,28 @@ module _ (p : Pool) (c : ℕ) (m : Move) where
     taken : k .own ≡ none → m .next .own ≢ none → m .next .own < total p → referenced p (m .next .own) ≡ false
         → m .write ≡ TakeFrame (m .next .own) (m .next .page) (pinned 1) 1 → OwnOk
 
-  -- the own frame is put into an empty slot, or into that of the victim, which is on its way out then
+  -- the slot at i is empty, or the client takes its evicted victim out of it
+  abbrev pub Vacant : ℕ → Type 0
+  Vacant i = (slot p i ≡ none) ⊎ ((slot p i ≡ k .victim) × (pins p (k .victim) ≡ evicted) × T (leaving (m .next .stage)) × (m .next .victim ≡ k .victim))
+
+  -- the own frame is put into a slot
   pub data SlotOk : Type 0 where
-    slots-stay : slotsAfter (p .size) (p .slots) (m .write) ≡ p .slots → SlotOk
-    puts : (i : ℕ) → m .write ≡ PutSlot i (k .own) → i < p .size → T (unplaced (k .stage)) → T (not (unplaced (m .next .stage))) → m .next .own ≡ k .own → k .own ≢ none
-        → (slot p i ≡ none) ⊎ ((slot p i ≡ k .victim) × (pins p (k .victim) ≡ evicted) × T (leaving (m .next .stage)) × (m .next .victim ≡ k .victim)) → SlotOk
+    slots-stay : SlotsStay p (m .write) → SlotOk
+    puts : (i : ℕ) → m .write ≡ PutSlot i (k .own) → i < p .size → T (unplaced (k .stage)) → T (not (unplaced (m .next .stage)))
+        → m .next .own ≡ k .own → k .own ≢ none → Vacant i → SlotOk
 
   -- frame f gets pins x
   pub data PinChange (f x : ℕ) : Type 0 where
     adds : f ≡ k .found → pins p f ≢ evicted → x ≡ pins p f + 1 → x ≤ pinned 128 → PinChange f x
     lowers : (i : ℕ) → f ≡ grantFrame p c i → pinned 1 ≤ pins p f → x ≡ pins p f - 1 → PinChange f x
-    drops-victim : f ≡ k .victim → pins p f ≡ pinned 0 → x ≡ evicted → k .stage ≡ 14 → m .next .stage ≡ 15 → m .next .victim ≡ k .victim → m .next .place ≡ k .place → PinChange f x
+    drops-victim : f ≡ k .victim → pins p f ≡ pinned 0 → x ≡ evicted → k .stage ≡ 14 → m .next .stage ≡ 15 → m .next .victim ≡ k .victim
+        → m .next .place ≡ k .place → PinChange f x
     drops-own : f ≡ k .own → pins p f ≡ pinned 1 → x ≡ evicted → m .next .own ≡ none → PinChange f x
     takes-one : f ≡ m .next .own → referenced p f ≡ false → x ≡ pinned 1 → PinChange f x
 
   pub data PinsOk : Type 0 where
-    pins-stay : pinsAfter (total p) (p .pins) (m .write) ≡ p .pins → PinsOk
-    pins-put : (f x : ℕ) → pinsAfter (total p) (p .pins) (m .write) ≡ stored (p .pins) (total p) f x → f < total p → f ≢ none → PinChange f x → PinsOk
+    pins-stay : PinsStay p (m .write) → PinsOk
+    pins-put : (f x : ℕ) → PinsPut p (m .write) f x → f < total p → f ≢ none → PinChange f x → PinsOk
 
   pub data FoundOk : Type 0 where
     found-stays : m .next .found ≡ k .found → FoundOk
@@ -71,14 +78,14 @@ module _ (p : Pool) (c : ℕ) (m : Move) where
 
   -- a page is mapped to the own frame, at a place that is unused or whose frame is evicted; or the evicted victim's entry is removed
   pub data EntryOk : Type 0 where
-    entries-stay : entryPagesAfter (total p) (p .«table_pages») (m .write) ≡ p .«table_pages» → entryFramesAfter (total p) (p .«table_frames») (m .write) ≡ p .«table_frames» → EntryOk
+    entries-stay : EntryPagesStay p (m .write) → EntryFramesStay p (m .write) → EntryOk
     maps : (i : ℕ) → m .write ≡ PutEntry i (k .page) (k .own) → i < total p → k .own ≢ none → m .next .own ≡ none → Seated p (k .own)
         → (entryFrame p i ≡ none) ⊎ (pins p (entryFrame p i) ≡ evicted) → ((j : ℕ) → j ≢ i → entryFrame p j ≢ none → entryPage p j ≢ k .page) → EntryOk
     unmaps : (i g : ℕ) → m .write ≡ PutEntry i g none → i < total p → k .victim ≢ none → entryFrame p i ≡ k .victim → pins p (k .victim) ≡ evicted → EntryOk
 
   pub data PageOk : Type 0 where
-    pages-stay : pagesAfter (total p) (p .pages) (m .write) ≡ p .pages → PageOk
-    paged : (f : ℕ) → referenced p f ≡ false → f < total p → pagesAfter (total p) (p .pages) (m .write) ≡ stored (p .pages) (total p) f (m .next .page) → f ≡ m .next .own → PageOk
+    pages-stay : PagesStay p (m .write) → PageOk
+    paged : (f : ℕ) → referenced p f ≡ false → f < total p → PagesPut p (m .write) f (m .next .page) → f ≡ m .next .own → PageOk
 
   pub record Effect : Type 0 where
     pub own : OwnOk
@@ -152,7 +159,8 @@ module _ (p : Pool) (c : ℕ) (here : c < clientCount p) (r : Reached p) where
       }
 
   -- the own frame goes into a slot
-  placing : {m : Move} (i : ℕ) → m .write ≡ PutSlot i (me .own) → SlotOk p c m → OwnOk p c m → m .next .found ≡ me .found → m .grants ≡ Same → m .next .held ≡ me .held → Effect p c m
+  placing : {m : Move} (i : ℕ) → m .write ≡ PutSlot i (me .own) → SlotOk p c m → OwnOk p c m → m .next .found ≡ me .found
+      → m .grants ≡ Same → m .next .held ≡ me .held → Effect p c m
   unfolding slotsAfter pinsAfter entryPagesAfter entryFramesAfter pagesAfter
   placing i e s o f g h =
       record {
@@ -171,7 +179,16 @@ module _ (p : Pool) (c : ℕ) (here : c < clientCount p) (r : Reached p) where
       → ((g y : ℕ) → m .grants ≡ Open (me .held) g y → Opened p c m g y) → Effect p c m
   unfolding slotsAfter pinsAfter pagesAfter
   entering i g f e en o fo gr op =
-      record { own = o; slot = slots-stay (rw e refl); pins = pins-stay (rw e refl); found = fo; grants = gr; opened = op; entries = en; pages = pages-stay (rw e refl) }
+      record {
+        own = o;
+        slot = slots-stay (rw e refl);
+        pins = pins-stay (rw e refl);
+        found = fo;
+        grants = gr;
+        opened = op;
+        entries = en;
+        pages = pages-stay (rw e refl);
+      }
 
   -- what a look-up finds
   looking : (g : ℕ) → lookup p g ≢ none → (lookup p g < total p) × (mapped p (lookup p g) ≢ 0)
@@ -182,17 +199,19 @@ module _ (p : Pool) (c : ℕ) (here : c < clientCount p) (r : Reached p) where
       )
 
   -- one more pin for the found frame
-  pins-found : (i j : ℕ) → client p c .stage ≡ i → i ≢ 0 → T (not (pinsFound i)) → T (imp (unplaced j) (unplaced i)) → me .found ≢ none → pins p (me .found) ≢ evicted
-      → Effect p c (works me j (PutPins (me .found) (pins p (me .found) + 1)))
+  pins-found : (i j : ℕ) → client p c .stage ≡ i → T (not (eqb i 0)) → T (not (pinsFound i)) → T (imp (unplaced j) (unplaced i))
+      → me .found ≢ none → pins p (me .found) ≢ evicted → Effect p c (works me j (PutPins (me .found) (pins p (me .found) + 1)))
   pins-found i j e w t u z l =
-      pinning (me .found) _ refl (r .ranges .found-ok c z) z (adds refl l refl (omega (arith, one-more p r c here (λ s. w (sym e ∙ s)) (rw e t) z l))) (kept refl (rw e u)) refl (keeps refl refl)
+      let few : pins p (me .found) < pinned 128 = one-more p r c here (λ s. differ i 0 w (sym e ∙ s)) (rw e t) z l in
+      pinning (me .found) _ refl (r .ranges .found-ok c z) z (adds refl l refl (omega arith)) (kept refl (rw e u)) refl (keeps refl refl)
       (λ _ _ x. no-open x)
 
   -- a working client holds fewer than 8
-  few : (i : ℕ) → client p c .stage ≡ i → i ≢ 0 → me .held < 8
-  few i e z = omega (arith, r .ranges .working-held c (λ w. z (sym e ∙ w)))
+  few : (i : ℕ) → client p c .stage ≡ i → T (not (eqb i 0)) → me .held < 8
+  few i e z = omega (arith, r .ranges .working-held c (λ w. differ i 0 z (sym e ∙ w)))
 
-  gets-found : (i : ℕ) (u : Counted) → client p c .stage ≡ i → i ≢ 0 → T (pinsFound i) → me .found ≢ none → (pins p (me .found) ≢ evicted → mapped p (me .found) ≡ suc (me .page))
+  gets-found : (i : ℕ) (u : Counted) → client p c .stage ≡ i → T (not (eqb i 0)) → T (pinsFound i) → me .found ≢ none
+      → (pins p (me .found) ≢ evicted → mapped p (me .found) ≡ suc (me .page))
       → Effect p c (grants me (me .found) (PutCount (me .found) (raised (p .cap) (count p (me .found)))) u)
   unfolding slotsAfter pinsAfter entryPagesAfter entryFramesAfter pagesAfter
   gets-found i u e w t z live =
@@ -210,14 +229,16 @@ module _ (p : Pool) (c : ℕ) (here : c < clientCount p) (r : Reached p) where
       }
 
   -- the page is mapped to the own frame, which is granted
-  gets-own : (i n : ℕ) (u : Counted) → client p c .stage ≡ i → i ≢ 0 → n < total p → me .own ≢ none → EntryOk p c (grants me (me .own) (PutEntry n (me .page) (me .own)) u)
-      → Effect p c (grants me (me .own) (PutEntry n (me .page) (me .own)) u)
+  gets-own : (i n : ℕ) (u : Counted) → client p c .stage ≡ i → T (not (eqb i 0)) → n < total p → me .own ≢ none
+      → EntryOk p c (grants me (me .own) (PutEntry n (me .page) (me .own)) u) → Effect p c (grants me (me .own) (PutEntry n (me .page) (me .own)) u)
   gets-own i n u e w h z en =
       entering n (me .page) (me .own) refl en (forgot refl) (lost refl) (opens (me .page) (me .own) refl refl (few i e w))
       (λ g f x. let a : g ≡ me .page = cc in let b : f ≡ me .own = cc in of-own n b (λ y. z (sym b ∙ y)) a refl (rw (a, b) refl) h)
 
   evicts-own : (j : ℕ) → me .own ≢ none → Effect p c (works (withOwn me none) j (PutPins (me .own) evicted))
-  evicts-own j z = pinning (me .own) evicted refl (r .ranges .own-ok c z) z (drops-own refl (own-pins p r c z) refl refl) (forgot refl) refl (keeps refl refl) (λ _ _ x. no-open x)
+  evicts-own j z =
+      pinning (me .own) evicted refl (r .ranges .own-ok c z) z (drops-own refl (own-pins p r c z) refl refl) (forgot refl) refl (keeps refl refl)
+      (λ _ _ x. no-open x)
 
   pub effect : {m : Move} → Edge p c m → Effect p c m
   unfolding slotsAfter pinsAfter entryPagesAfter entryFramesAfter pagesAfter
@@ -225,11 +246,11 @@ module _ (p : Pool) (c : ℕ) (here : c < clientCount p) (r : Reached p) where
   effect (found1 e z) = let l = looking (me .page) z in quietly keep (kept refl tt) (looked z (l .0) (l .1)) refl refl
   effect (found18 e z) = let l = looking (me .page) z in quietly keep (kept refl tt) (looked z (l .0) (l .1)) refl refl
   effect (lost2 e d) = quietly keep (kept refl tt) (lost refl) refl refl
-  effect (lost22 e) = quietly keep (kept refl tt) (lost refl) refl refl
-  effect (pins2 e l) = pins-found 2 3 e (λ w. let z : ⊥ = omega arith in z) tt tt (kn 2 e .0) l
-  effect (pins19 e l) = pins-found 19 20 e (λ w. let z : ⊥ = omega arith in z) tt tt (kn 19 e .1 .0) l
-  effect (gets3 e) = gets-found 3 Hit e (λ w. let z : ⊥ = omega arith in z) tt (kn 3 e .0) (kn 3 e .1)
-  effect (gets21 e) = gets-found 21 Join e (λ w. let z : ⊥ = omega arith in z) tt (kn 21 e .0) (kn 21 e .1)
+  effect (lost22 e _) = quietly keep (kept refl tt) (lost refl) refl refl
+  effect (pins2 e l) = pins-found 2 3 e tt tt tt (kn 2 e .0) l
+  effect (pins19 e l) = pins-found 19 20 e tt tt tt (kn 19 e .1 .0) l
+  effect (gets3 e) = gets-found 3 Hit e tt tt (kn 3 e .0) (kn 3 e .1)
+  effect (gets21 e) = gets-found 21 Join e tt tt (kn 21 e .0) (kn 21 e .1)
   effect (takes e z) =
       let f = free-found p (r .shape) z in
       record {
@@ -244,31 +265,35 @@ module _ (p : Pool) (c : ℕ) (here : c < clientCount p) (r : Reached p) where
       }
   effect (fills e s) = placing (me .place) refl (puts (me .place) refl (r .ranges .place-ok c) (rw e tt) tt refl (kn 8 e) (inl s)) (kept refl tt) refl refl refl
   effect (swaps e s) =
-      placing (me .place) refl (puts (me .place) refl (r .ranges .place-ok c) (rw e tt) tt refl (kn 15 e .0) (inr (s, kn 15 e .1 .1, tt, refl))) (kept refl tt) refl refl refl
-  effect (gives-up v) = quietly keep (forgot refl) (lost refl) refl refl
+      placing (me .place) refl (puts (me .place) refl (r .ranges .place-ok c) (rw e tt) tt refl (kn 15 e .0) (inr (s, kn 15 e .1 .1, tt, refl)))
+      (kept refl tt) refl refl refl
+  effect (gives-up v _) = quietly keep (forgot refl) (lost refl) refl refl
   effect (drops e h) =
       let z = kn 14 e .1 .0 in
-      pinning (me .victim) evicted refl (r .ranges .victim-ok c z) z (drops-victim refl h refl e refl refl refl) (kept refl (rw e tt)) refl (keeps refl refl) (λ _ _ x. no-open x)
+      pinning (me .victim) evicted refl (r .ranges .victim-ok c z) z (drops-victim refl h refl e refl refl refl) (kept refl (rw e tt)) refl
+      (keeps refl refl) (λ _ _ x. no-open x)
   effect (removes e h) =
       let z = kn 17 e .1 .0 in
       let f = lookup-found p (r .shape) (page p (me .victim)) (λ w. z (sym h ∙ w)) in
-      entering _ _ none refl (unmaps _ _ refl (f .place) z (f .entry-frame ∙ h) (kn 17 e .1 .1)) (kept refl tt) (found-stays refl) (keeps refl refl) (λ _ _ x. no-open x)
+      entering _ _ none refl (unmaps _ _ refl (f .place) z (f .entry-frame ∙ h) (kn 17 e .1 .1)) (kept refl tt) (found-stays refl) (keeps refl refl)
+      (λ _ _ x. no-open x)
   effect (admits e l u) =
       let f = unused-found p (r .shape) u in
-      gets-own 18 _ Admitted e (λ w. let z : ⊥ = omega arith in z) (f .0) (kn 18 e .0)
+      gets-own 18 _ Admitted e tt (f .0) (kn 18 e .0)
       (maps _ refl (f .0) (kn 18 e .0) refl (kn 18 e .1) (inl (f .1)) (λ j _ z. lookup-none p (r .shape) (me .page) l j z))
   effect (revives e l) =
       let z = kn 22 e .1 .0 in
       let f = lookup-found p (r .shape) (me .page) (λ w. z (sym l ∙ w)) in
       let n : entryFrame p (entryOf p (me .page)) ≡ me .found = f .entry-frame ∙ l in
-      gets-own 22 _ Revived e (λ w. let z : ⊥ = omega arith in z) (f .place) (kn 22 e .0 .0)
+      gets-own 22 _ Revived e tt (f .place) (kn 22 e .0 .0)
       (maps _ refl (f .place) (kn 22 e .0 .0) refl (kn 22 e .0 .1) (inr (ap (pins p) n ∙ kn 22 e .1 .1))
       (λ j q y w. q (r .outline .pages-apart j (entryOf p (me .page)) y (λ x. z (sym n ∙ x)) (w ∙ sym (f .entry-page)))))
   effect (evicts20 e) = evicts-own 21 (kn 20 e .0 .0)
   effect (evicts23 e) = evicts-own 4 (kn 23 e .0)
   effect (begins g e h) = quietly keep (kept refl tt) (found-stays refl) refl refl
   effect (releases g e z) =
-      let i = grantOf-found p c g z .0 in
-      let n = r .outline .grant-named c (grantOf p c g) i in
-      pinning _ _ refl (r .ranges .grant-ok c (grantOf p c g) n) n (lowers (grantOf p c g) refl (grant-live p r c (grantOf p c g) n) refl) (kept refl (rw e tt)) refl (ends (grantOf p c g) refl refl i)
+      let i : ℕ = grantOf p c g in
+      let h = grantOf-found p c g z .0 in
+      let n = r .outline .grant-named c i h in
+      pinning _ _ refl (r .ranges .grant-ok c i n) n (lowers i refl (grant-live p r c i n) refl) (kept refl (rw e tt)) refl (ends i refl refl h)
       (λ _ _ x. ends-no-open x)

@@ -1,12 +1,12 @@
 -- What a reached pool says of one frame: how its pins and the claims on it go together. Assumes nothing.
 use mathlib.Core.Path.{_≡_, refl, sym, ap, _∙_}
 use mathlib.Core.Logic.{_≢_, _⊎_, inl, inr}
-use mathlib.Core.Bool.{Bool, true, false, not, _&&_}
+use mathlib.Core.Bool.{not, _&&_}
 use Prim.Native.Nat.{ℕ, _+_, _*_, _≤_, _<_}
 use native.Mathlib.Omega.{arith}
 use native.Mathlib.Decide.{ℕ-discrete}
-use lib.Dec.{T, eqb, leb}
-use borrow.Author.Tests.{ne-eqb, leb-true, ltb-true}
+use lib.Dec.{T, eqb}
+use borrow.Author.Tests.{ne-eqb, ltb-true}
 use Rattle.pool.specs.State.{none, evicted, pinned, clientCount, resting, page, pins, client, grantFrame}
 use Rattle.pool.specs.Table.{lookup}
 use Rattle.pool.specs.Stages.{raised}
@@ -14,33 +14,13 @@ use Rattle.pool.specs.declared.Pool.{Pool}
 use Rattle.pool.specs.declared.Client.{Client}
 use Rattle.laws.specs.Choices.{by-test}
 use Rattle.invariant.proofs.Reached.{one, mapped, Seated, grantsOn, claims, claimed, pinsFound, unplaced, hunting, Orphan, Balance, gone, held, orphan, Reached}
+use Rattle.invariant.proofs.Flags.{T-true, T-false, and-false, hunt-cases}
 use Rattle.invariant.proofs.After.{client-here}
 use Rattle.invariant.proofs.Sums.{one-is, one-not, one-least, sum-zero, sum-one, sum-has, sum-gap, sum-least}
-use Rattle.invariant.proofs.Searches.{grant-in}
+use Rattle.invariant.proofs.Searches.{grantFrame-past, grant-in}
 use Rattle.invariant.proofs.Table.{some-suc, mapped-lookup}
 use Rattle.invariant.proofs.Grants.{grantsOn-none}
 use Rattle.invariant.proofs.Never.{know}
-
--- ---- flags
-
-pub T-true : (a : Bool) → T a → a ≡ true
-T-true true h = refl
-T-true false h = absurd h
-
-pub T-false : (a : Bool) → T (not a) → a ≡ false
-T-false true h = absurd h
-T-false false h = refl
-
-pub T-not : (a : Bool) → T (not a) → T a → ⊥
-T-not true h t = h
-T-not false h t = t
-
-pub and-false : (a : Bool) → a && false ≡ false
-and-false true = refl
-and-false false = refl
-
-pub never : {A : Type 0} → ⊥ → A
-never x = absurd x
 
 -- a raised count
 pub raised-ok : (cap n : ℕ) → n ≤ cap → raised cap n ≤ cap
@@ -55,6 +35,13 @@ none-own f z = one-not none f (λ q. z (sym q))
 -- a client that has a frame neither found nor granted claims it as its own or not at all
 pub foreign-claims : (p : Pool) (c f : ℕ) → client p c .found ≢ f → ((i : ℕ) → grantFrame p c i ≢ f) → claims p c f ≡ one (eqb (client p c .own) f)
 foreign-claims p c f a b = rw (ne-eqb _ _ a, and-false, grantsOn-none p c f b) (omega arith)
+
+-- a client at rest without grants claims nothing
+pub rest-claims : (p : Pool) (c f : ℕ) → f ≢ none → client p c ≡ resting 0 → claims p c f ≡ 0
+rest-claims p c f z e =
+    foreign-claims p c f (λ w. z (sym w ∙ ap (λ (k : Client). k .found) e))
+    (λ i w. z (sym w ∙ grantFrame-past p c i (omega (arith, ap (λ (k : Client). k .held) e)))) ∙
+    (ap (λ (k : Client). one (eqb (k .own) f)) e ∙ none-own f z)
 
 pub orphan-claims : (p : Pool) (f : ℕ) → Orphan p f → claimed p f ≡ 0
 unfolding claimed
@@ -94,22 +81,17 @@ module _ (p : Pool) (r : Reached p) where
         go (held x) = omega (arith, own-claimed)
         go (orphan o) = absurd (o .unowned c refl)
 
+    -- so it is not evicted
+    pub own-live : pins p (client p c .own) ≢ evicted
+    own-live e = let y : ⊥ = omega (arith, own-pins) in y
+
   -- a claimed frame is pinned
   pub claimed-live : (c f : ℕ) → f ≢ none → 1 ≤ claims p c f → pinned 1 ≤ pins p f
   unfolding claimed
   claimed-live c f z h = go (r .counts .balance f z)
     where
       here : c < clientCount p
-      here = client-here p (λ k. Known k) c known rests
-        where
-          Known : Client → Type 0
-          Known k = (1 ≤ claims p c f) × (client p c ≡ k)
-
-          known : Known (client p c)
-          known = (h, refl)
-
-          rests : Known (resting 0) → ⊥
-          rests w = let n = none-own f z in let e : claims p c f ≡ 0 = foreign-claims p c f (λ q. z (sym q ∙ ap (λ (k : Client). k .found) (w .1))) (λ i q. let l = grant-in p c i (λ n. z (sym q ∙ n)) in let s = ap (λ (k : Client). k .held) (w .1) in let x : ⊥ = omega arith in x) ∙ rw (w .1) n in let x : ⊥ = omega arith in x
+      here = client-here p (λ k. client p c ≡ k) c refl (λ e. let y : ⊥ = omega (arith, rest-claims p c f z e) in y)
 
       all : 1 ≤ claimed p f
       all = omega (arith, sum-has (λ d. claims p d f) (clientCount p) c here)
@@ -143,7 +125,8 @@ module _ (p : Pool) (r : Reached p) where
       go : Dec (k .own ≡ f) → Dec (k .stage ≡ 0) → claims p c f ≤ 8
       go (yes e) _ =
           let o : k .own ≢ none = λ w. z (sym e ∙ w) in
-          omega (arith, foreign-claims p c f (λ w. r .private .own-unfound c c o (w ∙ sym e)) (λ i w. r .private .own-ungranted c c i o (w ∙ sym e)), one-least (eqb (k .own) f))
+          let only = foreign-claims p c f (λ w. r .private .own-unfound c c o (w ∙ sym e)) (λ i w. r .private .own-ungranted c c i o (w ∙ sym e)) in
+          omega (arith, one-least (eqb (k .own) f))
       go (no e) (yes s) =
           omega (arith, one-not _ _ e, ap (λ (x : ℕ). one (pinsFound x && eqb (k .found) f)) s, grants-least c f, r .ranges .held-ok c)
       go (no e) (no s) =
@@ -187,22 +170,9 @@ module _ (p : Pool) (r : Reached p) where
           let s = some-suc (mapped p v) w in
           absurd (n (ap (lookup p) (r .outline .page-true v (s .0) z (s .1)) ∙ mapped-lookup p (r .shape) (r .outline .pages-apart) v (s .0) z (s .1) .1))
 
-  pub hunt-cases : (s : ℕ) → T (hunting s) → (s ≡ 12) ⊎ ((s ≡ 13) ⊎ ((s ≡ 14) ⊎ (s ≡ 15)))
-  hunt-cases s h = go (leb 12 s) (leb s 15) refl refl h
-    where
-      go : (a b : Bool) → leb 12 s ≡ a → leb s 15 ≡ b → T (a && b) → (s ≡ 12) ⊎ ((s ≡ 13) ⊎ ((s ≡ 14) ⊎ (s ≡ 15)))
-      go true true a b t = by (ℕ-discrete s 12) (ℕ-discrete s 13) (ℕ-discrete s 14)
-        where
-          by : Dec (s ≡ 12) → Dec (s ≡ 13) → Dec (s ≡ 14) → (s ≡ 12) ⊎ ((s ≡ 13) ⊎ ((s ≡ 14) ⊎ (s ≡ 15)))
-          by (yes e) _ _ = inl e
-          by (no _) (yes e) _ = inr (inl e)
-          by (no _) (no _) (yes e) = inr (inr (inl e))
-          by (no x) (no y) (no w) = inr (inr (inr (omega (arith, leb-true 12 s a, leb-true s 15 b))))
-      go true false a b t = absurd t
-      go false b x y t = absurd t
-
   -- an own frame that has no slot yet is nobody's victim while that hunts
-  pub own-not-victim : (c d : ℕ) → T (unplaced (client p c .stage)) → client p c .own ≢ none → T (hunting (client p d .stage)) → client p d .victim ≢ client p c .own
+  pub own-not-victim : (c d : ℕ) → T (unplaced (client p c .stage)) → client p c .own ≢ none → T (hunting (client p d .stage))
+      → client p d .victim ≢ client p c .own
   own-not-victim c d u z h e = go (hunt-cases (client p d .stage) h)
     where
       two : pins p (client p d .victim) ≡ pinned 1

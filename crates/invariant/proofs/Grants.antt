@@ -97,7 +97,10 @@ module _ (p : Pool) (c : ℕ) (m : Move) (shape : Shape p) (here : c < clientCou
     new : (g f : ℕ) → m .grants ≡ Open (client p c .held) g f → grantPage q c j ≡ g → grantFrame q c j ≡ f → Comes j
     past : m .next .held ≤ j → grantFrame q c j ≡ none → Comes j
 
-  -- a grant of the acting client, read in the list
+  -- the acting client's grant at j reads as the one at i did
+  abbrev Reads : ℕ → ℕ → Type 0
+  Reads j i = (grantPage q c j ≡ grantPage p c i) × (grantFrame q c j ≡ grantFrame p c i)
+
   frame-in : (j : ℕ) → j < m .next .held → grantFrame q c j ≡ getD (q .«grant_frames») (grantPlace c j) 0
   unfolding grantFrame
   frame-in j h = of-in _ c _ none j (omega (arith, held-next))
@@ -106,49 +109,91 @@ module _ (p : Pool) (c : ℕ) (m : Move) (shape : Shape p) (here : c < clientCou
   unfolding grantPage
   page-in j h = of-in _ c _ 0 j (omega (arith, held-next))
 
-  from-old : (j i : ℕ) → j < m .next .held → i < client p c .held → getD (q .«grant_pages») (grantPlace c j) 0 ≡ getD (p .«grant_pages») (grantPlace c i) 0
-      → getD (q .«grant_frames») (grantPlace c j) 0 ≡ getD (p .«grant_frames») (grantPlace c i) 0 → Comes j
+  reads : (j i : ℕ) → j < m .next .held → i < client p c .held → getD (q .«grant_pages») (grantPlace c j) 0 ≡ getD (p .«grant_pages») (grantPlace c i) 0
+      → getD (q .«grant_frames») (grantPlace c j) 0 ≡ getD (p .«grant_frames») (grantPlace c i) 0 → Reads j i
   unfolding grantPage grantFrame
-  from-old j i h r a b = old i r (page-in j h ∙ a ∙ sym (of-in _ c _ 0 i r)) (frame-in j h ∙ b ∙ sym (of-in _ c _ none i r))
+  reads j i h r a b = (page-in j h ∙ a ∙ sym (of-in _ c _ 0 i r), frame-in j h ∙ b ∙ sym (of-in _ c _ none i r))
 
-  room-pages : (c * 8 + 8 ≤ 8 * clientCount p) × (8 * clientCount p ≤ length (p .«grant_pages»)) × (8 * clientCount p ≤ length (p .«grant_frames»))
-  room-pages = let a = shape .grant-pages in let b = shape .grant-frames in let d = shape .clients-high in (omega arith, omega arith, omega arith)
+  -- how many places there are for grants, and that the client's are among them
+  abbrev places : ℕ
+  places = 8 * clientCount p
+
+  mine : c * 8 + 8 ≤ places
+  mine = omega arith
+
+  pages-long : places ≤ length (p .«grant_pages»)
+  pages-long = let a = shape .grant-pages in let b = shape .clients-high in omega arith
+
+  frames-long : places ≤ length (p .«grant_frames»)
+  frames-long = let a = shape .grant-frames in let b = shape .clients-high in omega arith
+
+  keep-old : m .grants ≡ Same → m .next .held ≡ client p c .held → (j : ℕ) → j < client p c .held → Reads j j
+  unfolding apply grantPagesAfter grantFramesAfter
+  keep-old e s j h = reads j j (omega arith) h (rw e refl) (rw e refl)
+
+  -- one more grant
+  module _ (g f : ℕ) (e : m .grants ≡ Open (client p c .held) g f) (s : m .next .held ≡ client p c .held + 1) (r : client p c .held < 8) where
+    abbrev end : ℕ
+    end = client p c .held
+
+    open-old : (j : ℕ) → j < end → Reads j j
+    unfolding apply grantPagesAfter grantFramesAfter
+    open-old j h =
+        let o : (c ≡ c → j ≢ end) = λ _ w. let z : ⊥ = omega arith in z in
+        reads j j (omega arith) h
+        (rw e (elsewhere c places _ _ end g refl r c j (omega arith) o)) (rw e (elsewhere c places _ _ end f refl r c j (omega arith) o))
+
+    open-page : grantPage q c end ≡ g
+    unfolding apply grantPagesAfter
+    open-page = page-in end (omega arith) ∙ rw e (there c places _ _ end g refl r mine pages-long)
+
+    open-frame : grantFrame q c end ≡ f
+    unfolding apply grantFramesAfter
+    open-frame = frame-in end (omega arith) ∙ rw e (there c places _ _ end f refl r mine frames-long)
+
+  -- the grant at a ends, and the last one moves there
+  module _ (a : ℕ) (e : m .grants ≡ End a (client p c .held - 1)) (s : m .next .held ≡ client p c .held - 1) (r : a < client p c .held) where
+    abbrev last : ℕ
+    last = client p c .held - 1
+
+    small : a < 8
+    small = omega (arith, few c)
+
+    end-old : (j : ℕ) → j < last → j ≢ a → Reads j j
+    unfolding apply grantPagesAfter grantFramesAfter
+    end-old j h o =
+        let l : j < 8 = omega (arith, few c) in
+        reads j j (omega arith) (omega arith)
+        (rw e (elsewhere c places _ _ a _ refl small c j l (λ _. o))) (rw e (elsewhere c places _ _ a _ refl small c j l (λ _. o)))
+
+    end-moved : a < last → Reads a last
+    unfolding apply grantPagesAfter grantFramesAfter
+    end-moved h =
+        let l : grantPlace c last < places = omega (arith, few c, mine) in
+        reads a last (omega arith) (omega arith)
+        (rw e (there c places _ _ a _ refl small mine pages-long ∙ within-in _ places 0 (grantPlace c last) l))
+        (rw e (there c places _ _ a _ refl small mine frames-long ∙ within-in _ places 0 (grantPlace c last) l))
 
   pub comes : (j : ℕ) → Comes j
-  unfolding apply grantPagesAfter grantFramesAfter
   comes j = by (decLt j (m .next .held))
     where
-      N : ℕ
-      N = 8 * clientCount p
+      from : (i : ℕ) → i < client p c .held → Reads j i → Comes j
+      from i h w = old i h (w .0) (w .1)
 
-      n : ℕ
-      n = client p c .held
+      opening : (g f : ℕ) (e : m .grants ≡ Open (client p c .held) g f) (s : m .next .held ≡ client p c .held + 1) (r : client p c .held < 8)
+          → j < m .next .held → Dec (j ≡ client p c .held) → Comes j
+      opening g f e s r h (yes w) = rw w (new g f e (open-page g f e s r) (open-frame g f e s r))
+      opening g f e s r h (no w) = from j (omega arith) (open-old g f e s r j (omega arith))
 
-      keeping : j < m .next .held → m .grants ≡ Same → m .next .held ≡ n → Comes j
-      keeping h e s = from-old j j h (omega arith) (rw e refl) (rw e refl)
-
-      opening : j < m .next .held → (g f : ℕ) → m .grants ≡ Open n g f → m .next .held ≡ n + 1 → n < 8 → Dec (j ≡ n) → Comes j
-      opening h g f e s r (yes w) =
-          new g f e
-          (page-in j h ∙ rw (w, e) (there c N _ _ n g refl r (room-pages .0) (room-pages .1)))
-          (frame-in j h ∙ rw (w, e) (there c N _ _ n f refl r (room-pages .0) (room-pages .2)))
-      opening h g f e s r (no w) =
-          from-old j j h (omega arith) (rw e (elsewhere c N _ _ n g refl r c j (omega arith) (λ _. w))) (rw e (elsewhere c N _ _ n f refl r c j (omega arith) (λ _. w)))
-
-      ending : j < m .next .held → (a : ℕ) → m .grants ≡ End a (n - 1) → m .next .held ≡ n - 1 → a < n → Dec (j ≡ a) → Comes j
-      ending h a e s r (yes w) =
-          from-old j (n - 1) h (omega arith)
-          (rw (w, e) (there c N _ _ a _ refl (omega (arith, few c)) (room-pages .0) (room-pages .1) ∙ within-in _ N 0 (grantPlace c (n - 1)) (omega (arith, few c, room-pages .0))))
-          (rw (w, e) (there c N _ _ a _ refl (omega (arith, few c)) (room-pages .0) (room-pages .2) ∙ within-in _ N 0 (grantPlace c (n - 1)) (omega (arith, few c, room-pages .0))))
-      ending h a e s r (no w) =
-          from-old j j h (omega arith)
-          (rw e (elsewhere c N _ _ a _ refl (omega (arith, few c)) c j (omega (arith, few c)) (λ _. w)))
-          (rw e (elsewhere c N _ _ a _ refl (omega (arith, few c)) c j (omega (arith, few c)) (λ _. w)))
+      ending : (a : ℕ) (e : m .grants ≡ End a (client p c .held - 1)) (s : m .next .held ≡ client p c .held - 1) (r : a < client p c .held)
+          → j < m .next .held → Dec (j ≡ a) → Comes j
+      ending a e s r h (no w) = from j (omega arith) (end-old a e s r j (omega arith) w)
+      ending a e s r h (yes w) = let t = end-moved a e s r (omega arith) in from (client p c .held - 1) (omega arith) (rw w t)
 
       how-to : j < m .next .held → Granting p c m → Comes j
-      how-to h (keeps e s) = keeping h e s
-      how-to h (opens g f e s r) = opening h g f e s r (ℕ-discrete j n)
-      how-to h (ends a e s r) = ending h a e s r (ℕ-discrete j a)
+      how-to h (keeps e s) = from j (omega arith) (keep-old e s j (omega arith))
+      how-to h (opens g f e s r) = opening g f e s r h (ℕ-discrete j (client p c .held))
+      how-to h (ends a e s r) = ending a e s r h (ℕ-discrete j a)
 
       by : Dec (j < m .next .held) → Comes j
       by (yes h) = how-to h how
@@ -156,35 +201,28 @@ module _ (p : Pool) (c : ℕ) (m : Move) (shape : Shape p) (here : c < clientCou
 
   -- ---- how many grants on a frame the acting client has now
 
-  read-old : (j i : ℕ) → j < m .next .held → i < client p c .held → getD (q .«grant_frames») (grantPlace c j) 0 ≡ getD (p .«grant_frames») (grantPlace c i) 0
-      → grantFrame q c j ≡ grantFrame p c i
-  unfolding grantFrame
-  read-old j i h r b = frame-in j h ∙ b ∙ sym (of-in _ c _ none i r)
+  same-one : (f j i : ℕ) → Reads j i → one (eqb (grantFrame q c j) f) ≡ one (eqb (grantFrame p c i) f)
+  same-one f j i w = ap (λ (y : ℕ). one (eqb y f)) (w .1)
 
   pub grantsOn-keeps : m .grants ≡ Same → m .next .held ≡ client p c .held → (f : ℕ) → grantsOn q c f ≡ grantsOn p c f
-  unfolding grantsOn apply grantFramesAfter
-  grantsOn-keeps e s f = rw (held-next ∙ s) (sum-same _ _ (client p c .held) (λ i h. ap (λ (x : ℕ). one (eqb x f)) (read-old i i (omega arith) h (rw e refl))))
+  unfolding grantsOn
+  grantsOn-keeps e s f = rw (held-next ∙ s) (sum-same _ _ (client p c .held) (λ i h. same-one f i i (keep-old e s i h)))
 
   pub grantsOn-opens : (g x : ℕ) → m .grants ≡ Open (client p c .held) g x → m .next .held ≡ client p c .held + 1 → client p c .held < 8
       → (f : ℕ) → grantsOn q c f ≡ grantsOn p c f + one (eqb x f)
-  unfolding grantsOn sumTo apply grantFramesAfter
+  unfolding grantsOn sumTo
   grantsOn-opens g x e s r f =
       let n : ℕ = client p c .held in
-      let last : grantFrame q c n ≡ x = frame-in n (omega arith) ∙ rw e (there c (8 * clientCount p) _ _ n x refl r (room-pages .0) (room-pages .2)) in
-      let rest = sum-same (λ i. one (eqb (grantFrame p c i) f)) (λ i. one (eqb (grantFrame q c i) f)) n
-      (λ i h. ap (λ (y : ℕ). one (eqb y f)) (read-old i i (omega arith) h (rw e (elsewhere c (8 * clientCount p) _ _ n x refl r c i (omega arith) (λ _ w. let z : ⊥ = omega arith in z))))) in
-      rw (held-next ∙ s ∙ add-one n) (omega (arith, rest, ap (λ (y : ℕ). one (eqb y f)) last))
+      let rest = sum-same (λ i. one (eqb (grantFrame p c i) f)) (λ i. one (eqb (grantFrame q c i) f)) n (λ i h. same-one f i i (open-old g x e s r i h)) in
+      rw (held-next ∙ s ∙ add-one n) (omega (arith, rest, ap (λ (y : ℕ). one (eqb y f)) (open-frame g x e s r)))
 
   pub grantsOn-ends : (a : ℕ) → m .grants ≡ End a (client p c .held - 1) → m .next .held ≡ client p c .held - 1 → a < client p c .held
       → (f : ℕ) → grantsOn q c f + one (eqb (grantFrame p c a) f) ≡ grantsOn p c f
-  unfolding grantsOn sumTo apply grantFramesAfter
+  unfolding grantsOn sumTo
   grantsOn-ends a e s r f = rw (held-next ∙ s) (go (ℕ-discrete a n))
     where
       n : ℕ
       n = client p c .held - 1
-
-      N : ℕ
-      N = 8 * clientCount p
 
       g : ℕ → ℕ
       g j = one (eqb (grantFrame p c j) f)
@@ -193,9 +231,7 @@ module _ (p : Pool) (c : ℕ) (m : Move) (shape : Shape p) (here : c < clientCou
       h j = one (eqb (grantFrame q c j) f)
 
       other : (j : ℕ) → j < n → j ≢ a → h j ≡ g j
-      other j l w =
-          ap (λ (y : ℕ). one (eqb y f)) (read-old j j (omega arith) (omega arith)
-          (rw e (elsewhere c N _ _ a _ refl (omega (arith, few c)) c j (omega (arith, few c)) (λ _. w))))
+      other j l w = same-one f j j (end-old a e s r j l w)
 
       whole : sumTo g (client p c .held) ≡ sumTo g n + g n
       whole = let e : client p c .held ≡ suc n = omega arith in ap (sumTo g) e
@@ -203,8 +239,7 @@ module _ (p : Pool) (c : ℕ) (m : Move) (shape : Shape p) (here : c < clientCou
       go : Dec (a ≡ n) → sumTo h n + g a ≡ sumTo g (client p c .held)
       go (yes w) = omega (arith, whole, ap g w, sum-same g h n (λ j l. other j l (λ v. let z : ⊥ = omega arith in z)))
       go (no w) =
-          let moved : h a ≡ g n = ap (λ (y : ℕ). one (eqb y f)) (read-old a n (omega arith) (omega arith)
-          (rw e (there c N _ _ a _ refl (omega (arith, few c)) (room-pages .0) (room-pages .2) ∙ within-in _ N 0 (grantPlace c n) (omega (arith, few c, room-pages .0))))) in
+          let moved : h a ≡ g n = same-one f a n (end-moved a e s r (omega arith)) in
           omega (arith, whole, moved, sum-put g h n a (omega arith) (λ j l w. other j l w))
 
 -- a client that has no grant on a frame

@@ -4,19 +4,19 @@ use mathlib.Core.Path.{_≡_, refl, sym, ap, subst, _∙_}
 use mathlib.Core.Logic.{_≢_}
 use mathlib.Core.Bool.{false}
 use Prim.Native.Nat.{ℕ, suc, _<_}
-use native.Mathlib.Omega.{arith}
 use Rattle.pool.specs.State.{none, evicted, clientCount, slot, pins, client}
+use Rattle.pool.specs.Table.{lookup}
 use Rattle.pool.specs.Frames.{referenced}
 use Rattle.pool.specs.Apply.{slotsAfter, pinsAfter, entryPagesAfter, entryFramesAfter, apply}
 use Rattle.pool.specs.declared.Pool.{Pool}
 use Rattle.pool.specs.declared.Client.{Client}
 use Rattle.pool.specs.declared.Move.{Move}
 use Rattle.invariant.proofs.Reached.{Reached, mapped, Seated, Know, Owns, Placed, Live, DeadFound, Seat, DeadVictim, Nothing, _and_, knows, Knows}
-use Rattle.invariant.proofs.After.{slot-kept, slot-here, pins-kept, pins-here}
+use Rattle.invariant.proofs.After.{EntryPagesStay, EntryFramesStay, slot-kept, slot-here, pins-kept, pins-here}
 use Rattle.invariant.proofs.Each.{Each, fin, _also_, each-at}
 use Rattle.invariant.proofs.Table.{mapped-kept, lookup-mapped}
 use Rattle.invariant.proofs.Never.{know}
-use Rattle.invariant.proofs.Facts.{own-pins}
+use Rattle.invariant.proofs.Facts.{own-live}
 use Rattle.invariant.proofs.Edges.{Quiet, Edge, on, found1, found18, lost2, lost22, pins2, pins19, gets3, gets21, takes, fills, swaps, gives-up, drops, removes, admits, revives, evicts20, evicts23, begins, releases}
 use Rattle.invariant.proofs.Effects.{untouched, Effect}
 use Rattle.invariant.proofs.Next.{dead-next, seats-next, maps-next, by-own, by-found, by-victim}
@@ -65,10 +65,13 @@ module _ (p q : Pool) where
 
   stable-knows : Each (λ _ x. Stable x) 0 knows
   stable-knows =
-      stable-nothing also stable-nothing also stable-live also stable-live also stable-nothing also stable-owns also stable-owns also stable-owns also stable-owns also
+      stable-nothing also stable-nothing also stable-live also stable-live also stable-nothing also stable-owns also stable-owns also
+      stable-owns also stable-owns also
       stable-placed also stable-owns also stable-owns also both Owns Seat stable-owns stable-seat also both Owns Seat stable-owns stable-seat also
-      both Owns Seat stable-owns stable-seat also both Owns DeadVictim stable-owns stable-dead-victim also both Placed DeadVictim stable-placed stable-dead-victim also
-      both Placed DeadVictim stable-placed stable-dead-victim also stable-placed also both Placed Live stable-placed stable-live also both Placed Live stable-placed stable-live also
+      both Owns Seat stable-owns stable-seat also both Owns DeadVictim stable-owns stable-dead-victim also
+      both Placed DeadVictim stable-placed stable-dead-victim also
+      both Placed DeadVictim stable-placed stable-dead-victim also stable-placed also both Placed Live stable-placed stable-live also
+      both Placed Live stable-placed stable-live also
       stable-live also both Placed DeadFound stable-placed stable-dead-found also stable-placed also fin
 
   pub stable : (s : ℕ) → Stable (Knows s)
@@ -87,7 +90,7 @@ module _ (p : Pool) (c : ℕ) (here : c < clientCount p) (r : Reached p) (m : Mo
   safe d =
       record {
         own = λ z. steady (client p d .own) z (by-own p c here r m x (client p d .own) z d refl);
-        own-live = λ z e. let two = own-pins p r d z in let y : ⊥ = omega arith in y;
+        own-live = own-live p r d;
         found = λ z. steady (client p d .found) z (by-found p c here r m x (client p d .found) z d refl);
         victim = λ z. steady (client p d .victim) z (by-victim p c here r m x (client p d .victim) z d refl);
       }
@@ -114,30 +117,39 @@ module _ (p : Pool) (c : ℕ) (here : c < clientCount p) (r : Reached p) where
   kn : (i : ℕ) → client p c .stage ≡ i → Knows i p k
   kn = know p r c
 
+  -- the frame that a look-up found is the page's
+  looked : (m : Move) → EntryPagesStay p (m .write) → EntryFramesStay p (m .write) → (z : lookup p (k .page) ≢ none)
+      → (lookup p (k .page) ≢ none) × (pins (apply p c m) (lookup p (k .page)) ≢ evicted → mapped (apply p c m) (lookup p (k .page)) ≡ suc (k .page))
+  looked m a b z = (z, λ _. mapped-kept p c m (r .shape) a b _ ∙ lookup-mapped p (r .shape) (r .outline .entries-apart) (k .page) z)
+
+  -- the found frame, not evicted, is still the page's
+  pinned-now : (m : Move) → Effect p c m → Live p k → pins p (k .found) ≢ evicted → Live (apply p c m) k
+  pinned-now m x h l = (h .0, λ _. maps-next p c here r m x (k .found) (h .0) l (k .page) (h .1 l))
+
   pub learns : {m : Move} → Edge p c m → Effect p c m → Knows (m .next .stage) (apply p c m) (m .next)
   unfolding slotsAfter pinsAfter entryPagesAfter entryFramesAfter
   learns {m} (on n j w h) x =
       stable p (apply p c m) j (m .next)
       (record {
         own = λ _. quiet-steady p c r m (h .quiet) (n .own);
-        own-live = λ z e. let o : k .own ≢ none = λ y. z (h .same .own ∙ y) in let two = own-pins p r c o in let d : pins p (k .own) ≡ evicted = ap (pins p) (sym (h .same .own)) ∙ e in let y : ⊥ = omega arith in y;
+        own-live = λ z e. own-live p r c (λ y. z (h .same .own ∙ y)) (ap (pins p) (sym (h .same .own)) ∙ e);
         found = λ _. quiet-steady p c r m (h .quiet) (n .found);
         victim = λ _. quiet-steady p c r m (h .quiet) (n .victim);
       })
       (h .knows)
-  learns {m} (found1 e z) x = (z, λ _. mapped-kept p c m (r .shape) refl refl _ ∙ lookup-mapped p (r .shape) (r .outline .entries-apart) (k .page) z)
-  learns {m} (found18 e z) x = (carry p c here r m x c 18 e, (z, λ _. mapped-kept p c m (r .shape) refl refl _ ∙ lookup-mapped p (r .shape) (r .outline .entries-apart) (k .page) z))
+  learns {m} (found1 e z) x = looked m refl refl z
+  learns {m} (found18 e z) x = (carry p c here r m x c 18 e, looked m refl refl z)
   learns (lost2 e _) x = tt
-  learns {m} (lost22 e) x = carry p c here r m x c 22 e .0
-  learns {m} (pins2 e l) x = let h = kn 2 e in (h .0, λ _. maps-next p c here r m x (k .found) (h .0) l (k .page) (h .1 l))
-  learns {m} (pins19 e l) x = let h = kn 19 e in (carry p c here r m x c 19 e .0, (h .1 .0, λ _. maps-next p c here r m x (k .found) (h .1 .0) l (k .page) (h .1 .1 l)))
+  learns {m} (lost22 e _) x = carry p c here r m x c 22 e .0
+  learns {m} (pins2 e l) x = pinned-now m x (kn 2 e) l
+  learns {m} (pins19 e l) x = (carry p c here r m x c 19 e .0, pinned-now m x (kn 19 e .1) l)
   learns (gets3 e) x = tt
   learns (gets21 e) x = tt
   learns (takes e z) x = z
   learns {m} (fills e _) x = (kn 8 e, (k .place, slot-here p c m (r .shape) (k .place) (k .own) refl (r .ranges .place-ok c)))
   learns {m} (swaps e _) x =
       ((kn 15 e .0, (k .place, slot-here p c m (r .shape) (k .place) (k .own) refl (r .ranges .place-ok c))), carry p c here r m x c 15 e .1)
-  learns (gives-up _) x = tt
+  learns (gives-up _ _) x = tt
   learns {m} (drops e _) x = let h = kn 14 e in (h .0, (h .1 .0, pins-here p c m (r .shape) (k .victim) evicted refl (r .ranges .victim-ok c (h .1 .0))))
   learns {m} (removes e _) x = carry p c here r m x c 17 e .0
   learns (admits e _ _) x = tt

@@ -7,6 +7,7 @@ pub mod Grants
 pub mod Table
 pub mod Pigeon
 pub mod Never
+pub mod Flags
 pub mod Facts
 pub mod Edges
 pub mod Steps

@@ -124,7 +124,8 @@ module _ (p : Pool) (r : Reached p) where
         shared (inl t) = let s = some-true (λ i. eqb (entryFrame p i) f) (total p) t in as-entry (s .0) (eqb-true _ _ (s .2))
         shared (inr t) = let s = some-true (names p f) (clientCount p) t in name2 (s .0) (either-true _ _ (s .2))
 
-        go : (some (λ i. eqb (slot p i) f) (p .size) ≡ true) ⊎ (either (some (λ i. eqb (entryFrame p i) f) (total p)) (some (names p f) (clientCount p)) ≡ true) → 1 ≤ times f
+        go : (some (λ i. eqb (slot p i) f) (p .size) ≡ true)
+            ⊎ (either (some (λ i. eqb (entryFrame p i) f) (total p)) (some (names p f) (clientCount p)) ≡ true) → 1 ≤ times f
         go (inl t) = let s = some-true (λ i. eqb (slot p i) f) (p .size) t in in-slot (s .0, eqb-true _ _ (s .2))
         go (inr t) = shared (either-true _ _ t)
 

@@ -19,7 +19,7 @@ use Rattle.invariant.proofs.After.{client-same, client-other, slot-kept
 use Rattle.invariant.proofs.Searches.{fresh-means}
 use Rattle.invariant.proofs.Table.{suc-not, mapped-entry, mapped-kept, put-other, put-cases}
 use Rattle.invariant.proofs.Grants.{grantPage-other, grantFrame-other, Comes, old, new, past, comes}
-use Rattle.invariant.proofs.Effects.{SlotOk, slots-stay, puts, PinChange, adds, lowers, drops-victim, drops-own, takes-one, PinsOk, pins-stay, pins-put, EntryOk, entries-stay, maps, unmaps, PageOk, pages-stay, paged, Effect}
+use Rattle.invariant.proofs.Effects.{Vacant, SlotOk, slots-stay, puts, PinChange, adds, lowers, drops-victim, drops-own, takes-one, PinsOk, pins-stay, pins-put, EntryOk, entries-stay, maps, unmaps, PageOk, pages-stay, paged, Effect}
 
 module _ (p : Pool) (c : ℕ) (here : c < clientCount p) (r : Reached p) (m : Move) (x : Effect p c m) where
   abbrev k : Client
@@ -30,29 +30,36 @@ module _ (p : Pool) (c : ℕ) (here : c < clientCount p) (r : Reached p) (m : Mo
 
   -- ---- slots
 
-  pub slot-now : (i : ℕ) → (slot q i ≡ slot p i) ⊎ ((slot q i ≡ k .own) × T (unplaced (k .stage)) × T (not (unplaced (m .next .stage))) × (k .own ≢ none))
+  -- a slot keeps its frame, or gets the own frame, which is placed by it
+  abbrev pub SlotNow : ℕ → Type 0
+  SlotNow i = (slot q i ≡ slot p i) ⊎ ((slot q i ≡ k .own) × T (unplaced (k .stage)) × T (not (unplaced (m .next .stage))) × (k .own ≢ none))
+
+  -- frame f is evicted and the mover takes it out
+  abbrev pub TakenOut : ℕ → Type 0
+  TakenOut f = (pins p f ≡ evicted) × T (leaving (m .next .stage)) × (m .next .victim ≡ f)
+
+  pub slot-now : (i : ℕ) → SlotNow i
   unfolding slotsAfter
   slot-now i = go (x .slot)
     where
-      go : SlotOk p c m → (slot q i ≡ slot p i) ⊎ ((slot q i ≡ k .own) × T (unplaced (k .stage)) × T (not (unplaced (m .next .stage))) × (k .own ≢ none))
+      go : SlotOk p c m → SlotNow i
       go (slots-stay e) = inl (slot-kept p c m (r .shape) e i)
       go (puts j e h u v _ z _) = by (ℕ-discrete i j)
         where
-          by : Dec (i ≡ j) → (slot q i ≡ slot p i) ⊎ ((slot q i ≡ k .own) × T (unplaced (k .stage)) × T (not (unplaced (m .next .stage))) × (k .own ≢ none))
+          by : Dec (i ≡ j) → SlotNow i
           by (yes w) = inr (ap (slot q) w ∙ slot-here p c m (r .shape) j (k .own) (rw e refl) h, u, v, z)
           by (no w) = inl (slot-else p c m (r .shape) j (k .own) (rw e refl) i w)
 
-  -- a slot keeps its frame, or that is the mover's victim, on its way out
-  pub slot-or-out : (f i : ℕ) → f ≢ none → slot p i ≡ f → (slot q i ≡ f) ⊎ ((pins p f ≡ evicted) × T (leaving (m .next .stage)) × (m .next .victim ≡ f))
+  pub slot-or-out : (f i : ℕ) → f ≢ none → slot p i ≡ f → (slot q i ≡ f) ⊎ TakenOut f
   unfolding slotsAfter
   slot-or-out f i z s = go (x .slot)
     where
-      go : SlotOk p c m → (slot q i ≡ f) ⊎ ((pins p f ≡ evicted) × T (leaving (m .next .stage)) × (m .next .victim ≡ f))
+      go : SlotOk p c m → (slot q i ≡ f) ⊎ TakenOut f
       go (slots-stay e) = inl (slot-kept p c m (r .shape) e i ∙ s)
       go (puts j e h _ _ _ _ v) = by (ℕ-discrete i j) v
         where
-          by : Dec (i ≡ j) → (slot p j ≡ none) ⊎ ((slot p j ≡ k .victim) × (pins p (k .victim) ≡ evicted) × T (leaving (m .next .stage)) × (m .next .victim ≡ k .victim))
-              → (slot q i ≡ f) ⊎ ((pins p f ≡ evicted) × T (leaving (m .next .stage)) × (m .next .victim ≡ f))
+          by : Dec (i ≡ j) → Vacant p c m j
+              → (slot q i ≡ f) ⊎ TakenOut f
           by (no w) _ = inl (slot-else p c m (r .shape) j (k .own) (rw e refl) i w ∙ s)
           by (yes w) (inl o) = absurd (z (sym s ∙ ap (slot p) w ∙ o))
           by (yes w) (inr o) =
@@ -84,7 +91,7 @@ module _ (p : Pool) (c : ℕ) (here : c < clientCount p) (r : Reached p) (m : Mo
     pub seats-next : pins p f ≢ evicted → Seated p f → Seated q f
     seats-next l s = go (slot-or-out f (s .0) z (s .1))
       where
-        go : (slot q (s .0) ≡ f) ⊎ ((pins p f ≡ evicted) × T (leaving (m .next .stage)) × (m .next .victim ≡ f)) → Seated q f
+        go : (slot q (s .0) ≡ f) ⊎ TakenOut f → Seated q f
         go (inl e) = (s .0, e)
         go (inr e) = absurd (l (e .0))
 
@@ -137,8 +144,8 @@ module _ (p : Pool) (c : ℕ) (here : c < clientCount p) (r : Reached p) (m : Mo
 
   -- ---- grants: each was there, or is the one opened
 
-  pub all-grants : (P : ℕ → ℕ → Type 0) → ((d i : ℕ) → i < client p d .held → P (grantPage p d i) (grantFrame p d i)) → ((g f : ℕ) → m .grants ≡ Open (k .held) g f → P g f)
-      → (d i : ℕ) → i < client q d .held → P (grantPage q d i) (grantFrame q d i)
+  pub all-grants : (P : ℕ → ℕ → Type 0) → ((d i : ℕ) → i < client p d .held → P (grantPage p d i) (grantFrame p d i))
+      → ((g f : ℕ) → m .grants ≡ Open (k .held) g f → P g f) → (d i : ℕ) → i < client q d .held → P (grantPage q d i) (grantFrame q d i)
   all-grants P olds opened d i h = go (ℕ-discrete d c)
     where
       few : (d : ℕ) → client p d .held ≤ 8

@@ -19,8 +19,8 @@ use Rattle.invariant.proofs.After.{client-same, client-other, all-clien
 use Rattle.invariant.proofs.Searches.{Fresh, fresh-means, grant-in, lookup-found, unused-found}
 use Rattle.invariant.proofs.Table.{suc-not, some-suc, mapped-none, mapped-zero, mapped-kept, put-frame, put-page, else-frame, else-page, put-other, put-apart, put-new, put-gone, put-cases}
 use Rattle.invariant.proofs.Never.{know}
-use Rattle.invariant.proofs.Facts.{grant-live, never}
-use Rattle.invariant.proofs.Steps.{imp-mp}
+use Rattle.invariant.proofs.Facts.{grant-live}
+use Rattle.invariant.proofs.Flags.{never, imp-mp}
 use Rattle.invariant.proofs.Edges.{Edge, on, found1, found18, lost2, lost22, pins2, pins19, gets3, gets21, takes, fills, swaps, gives-up, drops, removes, admits, revives, evicts20, evicts23, begins, releases}
 use Rattle.invariant.proofs.Effects.{OwnOk, forgot, kept, taken, Opened, of-found, of-own, EntryOk, entries-stay, maps, unmaps, Effect}
 use Rattle.invariant.proofs.Next.{dead-next, seats-next, maps-next, page-next, by-own, by-mapped, all-grants}
@@ -29,9 +29,15 @@ use Rattle.invariant.proofs.Knowing.{carry, learns}
 
 -- ---- what a move has to show of its client
 
+abbrev NoFound : Client → Type 0
+NoFound n = T (foundless (n .stage)) → n .found ≡ none
+
+abbrev NoVictim : Client → Type 0
+NoVictim n = T (victimless (n .stage)) → n .victim ≡ none
+
 record Tells (p : Pool) (c : ℕ) (m : Move) : Type 0 where
-  no-found : T (foundless (m .next .stage)) → m .next .found ≡ none
-  no-victim : T (victimless (m .next .stage)) → m .next .victim ≡ none
+  no-found : NoFound (m .next)
+  no-victim : NoVictim (m .next)
   wants : client p c .own ≢ none → m .next .own ≡ client p c .own → m .next .page ≡ client p c .page
   own-end : client p c .own ≢ none → m .next .own ≢ client p c .own
       → (mapped (apply p c m) (client p c .own) ≢ 0) ⊎ ((pins (apply p c m) (client p c .own) ≡ evicted) ⊎ Orphan (apply p c m) (client p c .own))
@@ -139,7 +145,8 @@ module _ (p : Pool) (c : ℕ) (here : c < clientCount p) (r : Reached p) (m : Mo
             by : Dec (f ≡ entryFrame p i) → mapped q f ≡ mapped p f
             by (no v) = put-other p c m (r .shape) i g none w h f z v
             by (yes v) =
-                absurd (n (ap (mapped q) v ∙ put-gone p c m (r .shape) i g none w h (r .outline .entries-apart) (λ y. absurd (y refl)) (λ y. z (v ∙ y)) (λ y. z (v ∙ y))))
+                absurd (n (ap (mapped q) v ∙ put-gone p c m (r .shape) i g none w h (r .outline .entries-apart) (λ y. absurd (y refl))
+                (λ y. z (v ∙ y)) (λ y. z (v ∙ y))))
 
     fresh-or : Fresh p f ⊎ (referenced p f ≡ false → ⊥)
     fresh-or = go (referenced p f) refl
@@ -198,14 +205,16 @@ module _ (p : Pool) (c : ℕ) (here : c < clientCount p) (r : Reached p) (m : Mo
         go (yes n) =
             let w = new-entry n (suc-not e) in
             let s : suc (k .page) ≡ suc g = sym (w .2) ∙ e in
-            page-next p c here r m x f z (by-own p c here r m x f z c (sym (w .0))) ∙ ap (page p) (w .0) ∙ r .outline .own-page c (λ y. z (w .0 ∙ y)) ∙ omega arith
+            page-next p c here r m x f z (by-own p c here r m x f z c (sym (w .0))) ∙ ap (page p) (w .0) ∙ r .outline .own-page c (λ y. z (w .0 ∙ y)) ∙
+            omega arith
 
   -- ---- grants and own frames
 
   granted-next : (d i : ℕ) → grantFrame q d i ≢ none → mapped q (grantFrame q d i) ≡ suc (grantPage q d i)
   granted-next d i z =
       all-grants p c here r m x (λ g f. f ≢ none → mapped q f ≡ suc g)
-      (λ d i _ n. maps-next p c here r m x (grantFrame p d i) n (λ e. let two = grant-live p r d i n in let y : ⊥ = omega arith in y) (grantPage p d i) (r .outline .granted d i n))
+      (λ d i _ n. let two = grant-live p r d i n in
+      maps-next p c here r m x (grantFrame p d i) n (λ e. let y : ⊥ = omega arith in y) (grantPage p d i) (r .outline .granted d i n))
       (λ g f w. new (x .opened g f w)) d i (grant-in q d i z) z
     where
       new : {g f : ℕ} → Opened p c m g f → f ≢ none → mapped q f ≡ suc g
@@ -239,11 +248,12 @@ module _ (p : Pool) (c : ℕ) (here : c < clientCount p) (r : Reached p) (m : Mo
         pages-apart = pages-next;
         granted = granted-next;
         grant-named = named-next;
-        knowing = all-clients p c m (r .shape) (λ _ n. Knows (n .stage) q n) here (λ d _. carry p c here r m x d (client p d .stage) refl) (learns p c here r e x);
+        knowing = all-clients p c m (r .shape) (λ _ n. Knows (n .stage) q n) here (λ d _. carry p c here r m x d (client p d .stage) refl)
+            (learns p c here r e x);
         resident = resident-next;
         known = λ f z. known-next f z t;
-        no-found = all-clients p c m (r .shape) (λ _ n. T (foundless (n .stage)) → n .found ≡ none) here (λ d _. r .outline .no-found d) (t .no-found);
-        no-victim = all-clients p c m (r .shape) (λ _ n. T (victimless (n .stage)) → n .victim ≡ none) here (λ d _. r .outline .no-victim d) (t .no-victim);
+        no-found = all-clients p c m (r .shape) (λ _ n. NoFound n) here (λ d _. r .outline .no-found d) (t .no-found);
+        no-victim = all-clients p c m (r .shape) (λ _ n. NoVictim n) here (λ d _. r .outline .no-victim d) (t .no-victim);
         own-page = own-page-next t;
         page-true = λ f g z. true-next f z g;
       }
@@ -264,26 +274,27 @@ module _ (p : Pool) (c : ℕ) (here : c < clientCount p) (r : Reached p) where
   victimless-now i e t = r .outline .no-victim c (rw e t)
 
   -- the own frame stays
-  stays : {m : Move} → m .next .own ≡ me .own → m .next .page ≡ me .page → (T (foundless (m .next .stage)) → m .next .found ≡ none) → (T (victimless (m .next .stage)) → m .next .victim ≡ none) → Tells p c m
+  stays : {m : Move} → m .next .own ≡ me .own → m .next .page ≡ me .page → NoFound (m .next) → NoVictim (m .next) → Tells p c m
   stays o g f v = record { no-found = f; no-victim = v; wants = λ _ _. g; own-end = λ _ n. absurd (n o) }
 
   -- the client had none
-  ownless-now : {m : Move} → me .own ≡ none → (T (foundless (m .next .stage)) → m .next .found ≡ none) → (T (victimless (m .next .stage)) → m .next .victim ≡ none) → Tells p c m
+  ownless-now : {m : Move} → me .own ≡ none → NoFound (m .next) → NoVictim (m .next) → Tells p c m
   ownless-now o f v = record { no-found = f; no-victim = v; wants = λ z _. absurd (z o); own-end = λ z _. absurd (z o) }
 
   -- it ends: with an entry, evicted, or as an orphan
-  ends : {m : Move} → m .next .own ≡ none → (T (foundless (m .next .stage)) → m .next .found ≡ none) → (T (victimless (m .next .stage)) → m .next .victim ≡ none)
+  ends : {m : Move} → m .next .own ≡ none → NoFound (m .next) → NoVictim (m .next)
       → (me .own ≢ none → (mapped (apply p c m) (me .own) ≢ 0) ⊎ ((pins (apply p c m) (me .own) ≡ evicted) ⊎ Orphan (apply p c m) (me .own))) → Tells p c m
   ends o f v w = record { no-found = f; no-victim = v; wants = λ z e. absurd (z (sym e ∙ o)); own-end = λ z _. w z }
 
   tells : {m : Move} → Edge p c m → Effect p c m → Tells p c m
   unfolding pinsAfter
   tells (on n j w h) x =
-      stays (h .same .own) (h .same .page) (λ t. h .same .found ∙ r .outline .no-found c (imp-mp (foundless j) (foundless (me .stage)) (h .stages .from-foundless) t)) (h .no-victim)
+      stays (h .same .own) (h .same .page)
+      (λ t. h .same .found ∙ r .outline .no-found c (imp-mp (foundless j) (foundless (me .stage)) (h .stages .from-foundless) t)) (h .no-victim)
   tells (found1 e _) x = stays refl refl never (λ _. victimless-now 1 e tt)
   tells (found18 e _) x = stays refl refl never (λ _. victimless-now 18 e tt)
   tells (lost2 e _) x = stays refl refl (λ _. refl) (λ _. victimless-now 2 e tt)
-  tells (lost22 e) x = stays refl refl (λ _. refl) (λ _. victimless-now 22 e tt)
+  tells (lost22 e _) x = stays refl refl (λ _. refl) (λ _. victimless-now 22 e tt)
   tells (pins2 e _) x = stays refl refl never (λ _. victimless-now 2 e tt)
   tells (pins19 e _) x = stays refl refl never (λ _. victimless-now 19 e tt)
   tells (gets3 e) x = ownless-now (r .counts .owns-none c (rw e tt)) (λ _. refl) (λ _. refl)
@@ -291,7 +302,7 @@ module _ (p : Pool) (c : ℕ) (here : c < clientCount p) (r : Reached p) where
   tells (takes e _) x = ownless-now (r .counts .owns-none c (rw e tt)) (λ _. foundless-now 4 e tt) (λ _. victimless-now 4 e tt)
   tells (fills e _) x = stays refl refl (λ _. foundless-now 8 e tt) (λ _. victimless-now 8 e tt)
   tells (swaps e _) x = stays refl refl (λ _. foundless-now 15 e tt) never
-  tells (gives-up v) x = ends refl (λ _. refl) (λ _. refl) (λ z. inr (inr (stranded p c here r x (v .is-unplaced) z)))
+  tells (gives-up v _) x = ends refl (λ _. refl) (λ _. refl) (λ z. inr (inr (stranded p c here r x (v .is-unplaced) z)))
   tells (drops e _) x = stays refl refl (λ _. foundless-now 14 e tt) never
   tells (removes e _) x = stays refl refl (λ _. foundless-now 17 e tt) (λ _. refl)
   tells {m} (admits e _ u) x =
@@ -302,7 +313,8 @@ module _ (p : Pool) (c : ℕ) (here : c < clientCount p) (r : Reached p) where
   tells {m} (evicts20 e) x =
       ends refl never (λ _. victimless-now 20 e tt) (λ z. inr (inl (pins-here p c m (r .shape) (me .own) evicted refl (r .ranges .own-ok c z))))
   tells {m} (evicts23 e) x =
-      ends refl (λ _. foundless-now 23 e tt) (λ _. victimless-now 23 e tt) (λ z. inr (inl (pins-here p c m (r .shape) (me .own) evicted refl (r .ranges .own-ok c z))))
+      ends refl (λ _. foundless-now 23 e tt) (λ _. victimless-now 23 e tt)
+      (λ z. inr (inl (pins-here p c m (r .shape) (me .own) evicted refl (r .ranges .own-ok c z))))
   tells (begins g e _) x = ownless-now (r .counts .owns-none c (rw e tt)) (λ _. foundless-now 0 e tt) (λ _. victimless-now 0 e tt)
   tells (releases g e _) x = stays refl refl (λ _. foundless-now 0 e tt) (λ _. victimless-now 0 e tt)
 

@@ -53,7 +53,8 @@ equal-least g (suc n) f apart = go (ℕ-discrete (g n) f) (equal-least g n f (λ
   where
     go : Dec (g n ≡ f) → equal g n f ≤ 1 → equal g n f + one (eqb (g n) f) ≤ 1
     go (yes e) ih =
-        omega (arith, ap one (eq-eqb (g n) f e), equal-none g n f (λ i h w. let q : i ≡ n = apart i n (omega arith) (omega arith) w e in let z : ⊥ = omega arith in z))
+        let out : equal g n f ≡ 0 = equal-none g n f (λ i h w. let q : i ≡ n = apart i n (omega arith) (omega arith) w e in let z : ⊥ = omega arith in z) in
+        omega (arith, ap one (eq-eqb (g n) f e))
     go (no e) ih = omega (arith, ap one (ne-eqb (g n) f e))
 
 pub below-least : (g : ℕ → ℕ) (n b : ℕ) → below g n b ≤ n

@@ -1,8 +1,7 @@
 -- No frame stands in two slots, no two clients own one frame, and an own frame that has no slot yet stands in none: a client forgets its own
 -- frame, keeps it, or takes one that nobody names; and only an own frame without a slot is put into one. Assumes nothing.
 use mathlib.Core.Path.{_≡_, refl, sym, ap, _∙_}
-use mathlib.Core.Logic.{_≢_, _⊎_, inl, inr}
-use mathlib.Core.Bool.{not}
+use mathlib.Core.Logic.{_≢_, inl, inr}
 use Prim.Native.Nat.{ℕ, _<_}
 use native.Mathlib.Decide.{ℕ-discrete}
 use lib.Dec.{T}
@@ -14,10 +13,9 @@ use Rattle.pool.specs.declared.Move.{Move}
 use Rattle.invariant.proofs.Reached.{Reached, Apart, Places, unplaced}
 use Rattle.invariant.proofs.After.{client-same, client-other, all-clients, slot-kept, slot-here, slot-else}
 use Rattle.invariant.proofs.Searches.{fresh-means}
-use Rattle.invariant.proofs.Facts.{T-not}
-use Rattle.invariant.proofs.Steps.{imp-mp}
+use Rattle.invariant.proofs.Flags.{T-not, imp-mp}
 use Rattle.invariant.proofs.Effects.{OwnOk, forgot, kept, taken, SlotOk, slots-stay, puts, Effect}
-use Rattle.invariant.proofs.Next.{slot-now}
+use Rattle.invariant.proofs.Next.{SlotNow, slot-now}
 
 module _ (p : Pool) (c : ℕ) (here : c < clientCount p) (r : Reached p) (m : Move) (x : Effect p c m) where
   abbrev k : Client
@@ -79,14 +77,14 @@ module _ (p : Pool) (c : ℕ) (here : c < clientCount p) (r : Reached p) (m : Mo
       others : (d : ℕ) → d ≢ c → T (unplaced (client p d .stage)) → client p d .own ≢ none → slot q i ≢ client p d .own
       others d o t z = by (slot-now p c here r m x i)
         where
-          by : (slot q i ≡ slot p i) ⊎ ((slot q i ≡ k .own) × T (unplaced (k .stage)) × T (not (unplaced (m .next .stage))) × (k .own ≢ none)) → slot q i ≢ client p d .own
+          by : SlotNow p c here r m x i → slot q i ≢ client p d .own
           by (inl e) h = r .places .unplaced-out d i t z (sym e ∙ h)
           by (inr e) h = o (r .places .owns-apart d c z (sym h ∙ e .0))
 
       mine : T (unplaced (m .next .stage)) → m .next .own ≢ none → slot q i ≢ m .next .own
       mine t z = by (x .own) (slot-now p c here r m x i)
         where
-          by : OwnOk p c m → (slot q i ≡ slot p i) ⊎ ((slot q i ≡ k .own) × T (unplaced (k .stage)) × T (not (unplaced (m .next .stage))) × (k .own ≢ none)) → slot q i ≢ m .next .own
+          by : OwnOk p c m → SlotNow p c here r m x i → slot q i ≢ m .next .own
           by _ (inr e) = absurd (T-not (unplaced (m .next .stage)) (e .2) t)
           by (forgot n) (inl e) = absurd (z n)
           by (kept n u) (inl e) =

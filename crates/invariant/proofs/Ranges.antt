@@ -4,22 +4,23 @@ use mathlib.Core.Logic.{_≢_, _⊎_, inl, inr}
 use Prim.Native.Nat.{ℕ, _+_, _≤_, _<_}
 use native.Mathlib.Omega.{arith}
 use native.Mathlib.Decide.{ℕ-discrete, decLt}
-use lib.Dec.{T}
+use lib.Dec.{T, eqb, leb}
 use mathlib.Core.Bool.{not}
 use Rattle.pool.specs.State.{none, pinned, clientCount, total, slot, pins, count, entryFrame, client, grantFrame}
-use Rattle.pool.specs.Apply.{stored, countsAfter, freeAfter, lastAfter, apply}
+use Rattle.pool.specs.Apply.{countsAfter, freeAfter, lastAfter, apply}
 use Rattle.pool.specs.declared.Pool.{Pool}
 use Rattle.pool.specs.declared.Client.{Client}
 use Rattle.pool.specs.declared.Move.{Move}
 use Rattle.pool.specs.declared.Write.{Write}
-use Rattle.invariant.proofs.Reached.{Reached, Ranges, unplaced}
-use Rattle.invariant.proofs.After.{all-clients, pins-kept, pins-here, pins-else, pins-in, count-kept, count-here, count-else, count-past, entryFrame-kept}
+use Rattle.invariant.proofs.Reached.{Reached, Ranges}
+use Rattle.invariant.proofs.After.{CountsStay, CountsPut, all-clients, pins-kept, pins-here, pins-else, pins-in, count-kept, count-here, count-else, count-past, entryFrame-kept}
 use Rattle.invariant.proofs.Searches.{grant-in, free-found}
 use Rattle.invariant.proofs.Table.{put-frame, else-frame}
+use Rattle.invariant.proofs.Flags.{differ, at-most}
 use Rattle.invariant.proofs.Facts.{raised-ok}
 use Rattle.invariant.proofs.Edges.{Quiet, keep, hand, counts, free, Edge, on, found1, found18, lost2, lost22, pins2, pins19, gets3, gets21, takes, fills, swaps, gives-up, drops, removes, admits, revives, evicts20, evicts23, begins, releases}
 use Rattle.invariant.proofs.Effects.{OwnOk, forgot, kept, taken, PinChange, adds, lowers, drops-victim, drops-own, takes-one, PinsOk, pins-stay, pins-put, FoundOk, found-stays, lost, looked, Opened, of-found, of-own, EntryOk, entries-stay, maps, unmaps, Effect}
-use Rattle.invariant.proofs.Next.{slot-now, all-grants}
+use Rattle.invariant.proofs.Next.{SlotNow, slot-now, all-grants}
 
 -- ---- what a move has to show: the numbers of the next record, and those that it writes
 
@@ -33,8 +34,8 @@ record Numbers (p : Pool) (n : Client) : Type 0 where
   victim-ok : n .victim ≢ none → n .victim < total p
 
 data CountOk (p : Pool) (w : Write) : Type 0 where
-  counts-stay : countsAfter (total p) (p .counts) w ≡ p .counts → CountOk p w
-  counts-put : (f x : ℕ) → countsAfter (total p) (p .counts) w ≡ stored (p .counts) (total p) f x → x ≤ p .cap → CountOk p w
+  counts-stay : CountsStay p w → CountOk p w
+  counts-put : (f x : ℕ) → CountsPut p w f x → x ≤ p .cap → CountOk p w
 
 record Written (p : Pool) (w : Write) : Type 0 where
   free-ok : freeAfter (p .free) w ≤ p .size
@@ -48,7 +49,7 @@ module _ (p : Pool) (c : ℕ) (r : Reached p) where
   k = client p c
 
   -- free, the last frame taken and the counts are not written
-  unwritten : {w : Write} → freeAfter (p .free) w ≡ p .free → lastAfter (p .last) w ≡ p .last → countsAfter (total p) (p .counts) w ≡ p .counts → Written p w
+  unwritten : {w : Write} → freeAfter (p .free) w ≡ p .free → lastAfter (p .last) w ≡ p .last → CountsStay p w → Written p w
   unwritten a b e = record { free-ok = rw a (r .ranges .free-ok); last-ok = rw b (r .ranges .last-ok); count-ok = counts-stay e }
 
   quiet-written : {w : Write} → Quiet p w → Written p w
@@ -64,7 +65,7 @@ module _ (p : Pool) (c : ℕ) (r : Reached p) where
   written (found1 _ _) = unwritten refl refl refl
   written (found18 _ _) = unwritten refl refl refl
   written (lost2 _ _) = unwritten refl refl refl
-  written (lost22 _) = unwritten refl refl refl
+  written (lost22 _ _) = unwritten refl refl refl
   written (pins2 _ _) = unwritten refl refl refl
   written (pins19 _ _) = unwritten refl refl refl
   written (gets3 _) = quiet-written (counts (raised-ok _ _ (r .ranges .count-ok (k .found))))
@@ -73,7 +74,7 @@ module _ (p : Pool) (c : ℕ) (r : Reached p) where
       record { free-ok = r .ranges .free-ok; last-ok = inr (free-found p (r .shape) z .0); count-ok = counts-put _ 1 refl (r .shape .cap-low) }
   written (fills _ _) = unwritten refl refl refl
   written (swaps _ _) = unwritten refl refl refl
-  written (gives-up _) = unwritten refl refl refl
+  written (gives-up _ _) = unwritten refl refl refl
   written (drops _ _) = unwritten refl refl refl
   written (removes _ _) = unwritten refl refl refl
   written (admits _ _ _) = unwritten refl refl refl
@@ -84,16 +85,16 @@ module _ (p : Pool) (c : ℕ) (r : Reached p) where
   written (releases _ _ _) = unwritten refl refl refl
 
   -- a client at work goes on with its numbers
-  as-was : (n : Client) (i : ℕ) → k .stage ≡ i → i ≢ 0 → n .stage ≤ 23 → n .place ≡ k .place → n .busy ≡ k .busy → n .seen ≡ k .seen → n .held ≡ k .held
-      → (n .victim ≢ none → n .victim ≡ k .victim) → Numbers p n
-  as-was n i e z s a b d f v =
+  as-was : (n : Client) (i : ℕ) → k .stage ≡ i → T (not (eqb i 0)) → T (leb (n .stage) 23) → n .place ≡ k .place → n .busy ≡ k .busy
+      → n .seen ≡ k .seen → n .held ≡ k .held → (n .victim ≢ none → n .victim ≡ k .victim) → Numbers p n
+  as-was n i e t s a b d f v =
       record {
-        stage-ok = s;
+        stage-ok = at-most (n .stage) 23 s;
         place-ok = rw a (r .ranges .place-ok c);
         busy-ok = rw b (r .ranges .busy-ok c);
         seen-ok = rw d (r .ranges .seen-ok c);
         held-ok = rw f (r .ranges .held-ok c);
-        working-held = λ _. rw f (r .ranges .working-held c (λ w. z (sym e ∙ w)));
+        working-held = λ _. rw f (r .ranges .working-held c (λ w. differ i 0 t (sym e ∙ w)));
         victim-ok = λ y. rw (v y) (r .ranges .victim-ok c (λ w. y (v y ∙ w)));
       }
 
@@ -101,11 +102,19 @@ module _ (p : Pool) (c : ℕ) (r : Reached p) where
   at-rest : (n : Client) → n .stage ≡ 0 → n .place ≡ 0 → n .busy ≡ 0 → n .seen ≡ 0 → n .held ≤ 8 → n .victim ≡ none → Numbers p n
   at-rest n s a b d h v =
       let l = r .shape .size-low in
-      record { stage-ok = omega arith; place-ok = omega arith; busy-ok = omega arith; seen-ok = omega arith; held-ok = h; working-held = λ w. absurd (w s); victim-ok = λ w. absurd (w v) }
+      record {
+        stage-ok = omega arith;
+        place-ok = omega arith;
+        busy-ok = omega arith;
+        seen-ok = omega arith;
+        held-ok = h;
+        working-held = λ w. absurd (w s);
+        victim-ok = λ w. absurd (w v);
+      }
 
   -- a working client is granted a frame
-  more : (i : ℕ) → k .stage ≡ i → i ≢ 0 → k .held + 1 ≤ 8
-  more i e z = omega (arith, r .ranges .working-held c (λ w. z (sym e ∙ w)))
+  more : (i : ℕ) → k .stage ≡ i → T (not (eqb i 0)) → k .held + 1 ≤ 8
+  more i e t = omega (arith, r .ranges .working-held c (λ w. differ i 0 t (sym e ∙ w)))
 
   numbers : {m : Move} → Edge p c m → Numbers p (m .next)
   numbers (on n j w h) =
@@ -118,24 +127,24 @@ module _ (p : Pool) (c : ℕ) (r : Reached p) where
         working-held = λ _. rw (h .same .held) (r .ranges .working-held c (h .stages .working));
         victim-ok = h .victim-ok;
       }
-  numbers (found1 e _) = as-was _ 1 e (λ w. let y : ⊥ = omega arith in y) (omega arith) refl refl refl refl (λ _. refl)
-  numbers (found18 e _) = as-was _ 18 e (λ w. let y : ⊥ = omega arith in y) (omega arith) refl refl refl refl (λ _. refl)
-  numbers (lost2 e _) = as-was _ 2 e (λ w. let y : ⊥ = omega arith in y) (omega arith) refl refl refl refl (λ _. refl)
-  numbers (lost22 e) = as-was _ 22 e (λ w. let y : ⊥ = omega arith in y) (omega arith) refl refl refl refl (λ _. refl)
-  numbers (pins2 e _) = as-was _ 2 e (λ w. let y : ⊥ = omega arith in y) (omega arith) refl refl refl refl (λ _. refl)
-  numbers (pins19 e _) = as-was _ 19 e (λ w. let y : ⊥ = omega arith in y) (omega arith) refl refl refl refl (λ _. refl)
-  numbers (gets3 e) = at-rest _ refl refl refl refl (more 3 e (λ w. let y : ⊥ = omega arith in y)) refl
-  numbers (gets21 e) = at-rest _ refl refl refl refl (more 21 e (λ w. let y : ⊥ = omega arith in y)) refl
-  numbers (takes e _) = as-was _ 4 e (λ w. let y : ⊥ = omega arith in y) (omega arith) refl refl refl refl (λ _. refl)
-  numbers (fills e _) = as-was _ 8 e (λ w. let y : ⊥ = omega arith in y) (omega arith) refl refl refl refl (λ _. refl)
-  numbers (swaps e _) = as-was _ 15 e (λ w. let y : ⊥ = omega arith in y) (omega arith) refl refl refl refl (λ _. refl)
-  numbers (gives-up _) = at-rest _ refl refl refl refl (r .ranges .held-ok c) refl
-  numbers (drops e _) = as-was _ 14 e (λ w. let y : ⊥ = omega arith in y) (omega arith) refl refl refl refl (λ _. refl)
-  numbers (removes e _) = as-was _ 17 e (λ w. let y : ⊥ = omega arith in y) (omega arith) refl refl refl refl (λ w. absurd (w refl))
-  numbers (admits e _ _) = at-rest _ refl refl refl refl (more 18 e (λ w. let y : ⊥ = omega arith in y)) refl
-  numbers (revives e _) = at-rest _ refl refl refl refl (more 22 e (λ w. let y : ⊥ = omega arith in y)) refl
-  numbers (evicts20 e) = as-was _ 20 e (λ w. let y : ⊥ = omega arith in y) (omega arith) refl refl refl refl (λ _. refl)
-  numbers (evicts23 e) = as-was _ 23 e (λ w. let y : ⊥ = omega arith in y) (omega arith) refl refl refl refl (λ _. refl)
+  numbers (found1 e _) = as-was _ 1 e tt tt refl refl refl refl (λ _. refl)
+  numbers (found18 e _) = as-was _ 18 e tt tt refl refl refl refl (λ _. refl)
+  numbers (lost2 e _) = as-was _ 2 e tt tt refl refl refl refl (λ _. refl)
+  numbers (lost22 e _) = as-was _ 22 e tt tt refl refl refl refl (λ _. refl)
+  numbers (pins2 e _) = as-was _ 2 e tt tt refl refl refl refl (λ _. refl)
+  numbers (pins19 e _) = as-was _ 19 e tt tt refl refl refl refl (λ _. refl)
+  numbers (gets3 e) = at-rest _ refl refl refl refl (more 3 e tt) refl
+  numbers (gets21 e) = at-rest _ refl refl refl refl (more 21 e tt) refl
+  numbers (takes e _) = as-was _ 4 e tt tt refl refl refl refl (λ _. refl)
+  numbers (fills e _) = as-was _ 8 e tt tt refl refl refl refl (λ _. refl)
+  numbers (swaps e _) = as-was _ 15 e tt tt refl refl refl refl (λ _. refl)
+  numbers (gives-up _ _) = at-rest _ refl refl refl refl (r .ranges .held-ok c) refl
+  numbers (drops e _) = as-was _ 14 e tt tt refl refl refl refl (λ _. refl)
+  numbers (removes e _) = as-was _ 17 e tt tt refl refl refl refl (λ w. absurd (w refl))
+  numbers (admits e _ _) = at-rest _ refl refl refl refl (more 18 e tt) refl
+  numbers (revives e _) = at-rest _ refl refl refl refl (more 22 e tt) refl
+  numbers (evicts20 e) = as-was _ 20 e tt tt refl refl refl refl (λ _. refl)
+  numbers (evicts23 e) = as-was _ 23 e tt tt refl refl refl refl (λ _. refl)
   numbers (begins g e h) =
       record {
         stage-ok = omega arith;
@@ -200,7 +209,7 @@ module _ (p : Pool) (c : ℕ) (here : c < clientCount p) (r : Reached p) (m : Mo
   slot-range : (i : ℕ) → slot q i ≢ none → slot q i < total p
   slot-range i z = go (slot-now p c here r m x i)
     where
-      go : (slot q i ≡ slot p i) ⊎ ((slot q i ≡ client p c .own) × T (unplaced (client p c .stage)) × T (not (unplaced (m .next .stage))) × (client p c .own ≢ none)) → slot q i < total p
+      go : SlotNow p c here r m x i → slot q i < total p
       go (inl w) = rw w (r .ranges .slot-ok i (λ n. z (w ∙ n)))
       go (inr w) = rw (w .0) (r .ranges .own-ok c (w .3))
 

@@ -124,7 +124,8 @@ _and_ x y p k = x p k × y p k
 abbrev pub knows : List Know
 knows =
     Nothing ∷ Nothing ∷ Live ∷ Live ∷ Nothing ∷ Owns ∷ Owns ∷ Owns ∷ Owns ∷ Placed ∷ Owns ∷ Owns ∷ (Owns and Seat) ∷ (Owns and Seat) ∷ (Owns and Seat) ∷
-    (Owns and DeadVictim) ∷ (Placed and DeadVictim) ∷ (Placed and DeadVictim) ∷ Placed ∷ (Placed and Live) ∷ (Placed and Live) ∷ Live ∷ (Placed and DeadFound) ∷ Placed ∷ []
+    (Owns and DeadVictim) ∷ (Placed and DeadVictim) ∷ (Placed and DeadVictim) ∷ Placed ∷ (Placed and Live) ∷ (Placed and Live) ∷ Live ∷
+    (Placed and DeadFound) ∷ Placed ∷ []
 
 abbrev pub Knows : ℕ → Know
 Knows s = getD knows s Nothing

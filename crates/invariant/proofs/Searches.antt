@@ -179,7 +179,8 @@ module _ (p : Pool) (shape : Shape p) where
   pub free-found : freeFrame p ≢ none → (freeFrame p < total p) × (referenced p (freeFrame p) ≡ false)
   unfolding freeFrame
   free-found =
-      scan-ind (λ n. not (referenced p (tried p n))) (tried p) none (λ r. r ≢ none → (r < total p) × (referenced p r ≡ false)) (λ z. absurd (z refl)) 0 (total p)
+      scan-ind (λ n. not (referenced p (tried p n))) (tried p) none (λ r. r ≢ none → (r < total p) × (referenced p r ≡ false))
+      (λ z. absurd (z refl)) 0 (total p)
       (λ k _ h e _. (mod-lt (firstTried p + k) (some-frames p shape), not-true _ e))
 
   first-below : firstTried p < total p
@@ -200,7 +201,8 @@ module _ (p : Pool) (shape : Shape p) where
       at : (j : ℕ) → j < n → (s + j) % n ≡ f → referenced p f ≡ true
       at j r q =
           rw q at (not-false (referenced p ((s + j) % n)) (scan-none (λ x. not (referenced p (tried p x))) (tried p) none (λ r. r ≡ none) 0 n
-          (λ k _ _ w. let l = mod-lt (firstTried p + k) (some-frames p shape) in let z : ⊥ = omega (arith, few-frames p shape) in z) e j (omega arith) (omega arith)))
+          (λ k _ _ w. let l = mod-lt (firstTried p + k) (some-frames p shape) in let z : ⊥ = omega (arith, few-frames p shape) in z)
+          e j (omega arith) (omega arith)))
 
       back : (a b : ℕ) → a ≤ b → a + (b - a) ≡ b
       back a b l = omega arith
@@ -208,4 +210,5 @@ module _ (p : Pool) (shape : Shape p) where
       go : Dec (f < s) → referenced p f ≡ true
       go (no d) = at (f - s) (omega (arith, first-below)) (ap (λ (x : ℕ). x % n) (back s f (omega arith)) ∙ mod-eq-of-lt h)
       go (yes d) =
-          at (f + n - s) (omega (arith, first-below)) (ap (λ (x : ℕ). x % n) (back s (f + n) (omega (arith, first-below))) ∙ (add-mod-right f n ∙ mod-eq-of-lt h))
+          at (f + n - s) (omega (arith, first-below))
+          (ap (λ (x : ℕ). x % n) (back s (f + n) (omega (arith, first-below))) ∙ (add-mod-right f n ∙ mod-eq-of-lt h))

@@ -20,7 +20,7 @@ use Rattle.invariant.proofs.After.{within-in, within-past}
 use Rattle.invariant.proofs.Sums.{sum-zero, sum-full}
 use Rattle.invariant.proofs.Searches.{grantFrame-past}
 use Rattle.invariant.proofs.Table.{suc-not, mapped-zero}
-use Rattle.invariant.proofs.Facts.{foreign-claims, none-own}
+use Rattle.invariant.proofs.Facts.{rest-claims}
 
 getD-replicate : {A : Type 0} (n i : ℕ) (x d : A) → i < n → getD (replicate n x) i d ≡ x
 getD-replicate zero i x d h = let z : ⊥ = omega arith in absurd z
@@ -40,12 +40,12 @@ module _ (s t c h : ℕ) (ok : numbersOk s t c ≡ true) where
   p = fresh s t c h
 
   record Small : Type 0 where
-    a : 1 ≤ s
-    b : s ≤ 64
-    d : 1 ≤ t
-    e : t ≤ 16
-    f : 1 ≤ c
-    g : c ≤ 100
+    size-low : 1 ≤ s
+    size-high : s ≤ 64
+    clients-low : 1 ≤ t
+    clients-high : t ≤ 16
+    cap-low : 1 ≤ c
+    cap-high : c ≤ 100
 
   small : Small
   unfolding numbersOk
@@ -55,18 +55,25 @@ module _ (s t c h : ℕ) (ok : numbersOk s t c ≡ true) where
       let d = both-true _ _ (b .1) in
       let e = both-true _ _ (d .1) in
       let f = both-true _ _ (e .1) in
-      record { a = ltb-true _ _ (a .0); b = leb-true _ _ (b .0); d = ltb-true _ _ (d .0); e = leb-true _ _ (e .0); f = ltb-true _ _ (f .0); g = leb-true _ _ (f .1) }
+      record {
+        size-low = ltb-true _ _ (a .0);
+        size-high = leb-true _ _ (b .0);
+        clients-low = ltb-true _ _ (d .0);
+        clients-high = leb-true _ _ (e .0);
+        cap-low = ltb-true _ _ (f .0);
+        cap-high = leb-true _ _ (f .1);
+      }
 
   shape : Shape p
   shape =
       let n = small in
       record {
-        size-low = n .a;
-        size-high = n .b;
-        clients-low = n .d;
-        clients-high = n .e;
-        cap-low = n .f;
-        cap-high = n .g;
+        size-low = n .size-low;
+        size-high = n .size-high;
+        clients-low = n .clients-low;
+        clients-high = n .clients-high;
+        cap-low = n .cap-low;
+        cap-high = n .cap-high;
         slots = refl;
         pages = refl;
         pins = refl;
@@ -80,7 +87,7 @@ module _ (s t c h : ℕ) (ok : numbersOk s t c ≡ true) where
 
   slot-none : (i : ℕ) → slot p i ≡ none
   unfolding slot
-  slot-none i = within-same 64 s none i (small .b)
+  slot-none i = within-same 64 s none i (small .size-high)
 
   pins-none : (f : ℕ) → pins p f ≡ evicted
   unfolding pins
@@ -96,18 +103,15 @@ module _ (s t c h : ℕ) (ok : numbersOk s t c ≡ true) where
 
   rests : (d : ℕ) → client p d ≡ resting 0
   unfolding client
-  rests d = by-test (λ (k : Client). k ≡ resting 0) (λ w. let n = small in getD-replicate 16 d (resting 0) no-client (omega (arith, ltb-true d t w))) (λ _. refl)
+  rests d =
+      let n = small in
+      by-test (λ (k : Client). k ≡ resting 0) (λ w. getD-replicate 16 d (resting 0) no-client (omega (arith, ltb-true d t w))) (λ _. refl)
 
   grant-none : (d i : ℕ) → grantFrame p d i ≡ none
   grant-none d i = grantFrame-past p d i (omega (arith, ap (λ (k : Client). k .held) (rests d)))
 
   mapped-zeros : (f : ℕ) → f ≢ none → mapped p f ≡ 0
   mapped-zeros f z = mapped-zero p f (λ i w. z (sym w ∙ entry-none i))
-
-  claims-zero : (d f : ℕ) → f ≢ none → claims p d f ≡ 0
-  claims-zero d f z =
-      foreign-claims p d f (λ w. z (sym w ∙ ap (λ (k : Client). k .found) (rests d))) (λ i w. z (sym w ∙ grant-none d i)) ∙
-      (rw (rests d) (none-own f z))
 
   pub reached-setup : Reached p
   unfolding claimed
@@ -119,8 +123,8 @@ module _ (s t c h : ℕ) (ok : numbersOk s t c ≡ true) where
           free-ok = omega arith;
           last-ok = inl refl;
           stage-ok = λ d. rw (rests d) (omega arith);
-          place-ok = λ d. rw (rests d) (n .a);
-          busy-ok = λ d. rw (rests d) (n .a);
+          place-ok = λ d. rw (rests d) (n .size-low);
+          busy-ok = λ d. rw (rests d) (n .size-low);
           seen-ok = λ d. rw (rests d) (omega arith);
           held-ok = λ d. rw (rests d) (omega arith);
           working-held = λ d. rw (rests d) (λ w. absurd (w refl));
@@ -145,7 +149,7 @@ module _ (s t c h : ℕ) (ok : numbersOk s t c ≡ true) where
         };
         counts = record {
           owns-none = λ d _. ap (λ (k : Client). k .own) (rests d);
-          balance = λ f z. gone (pins-none f) (sum-zero (λ d. claims p d f) t (λ d _. claims-zero d f z));
+          balance = λ f z. gone (pins-none f) (sum-zero (λ d. claims p d f) t (λ d _. rest-claims p d f z (rests d)));
         };
         outline = record {
           entries-apart = λ i j z _. absurd (z (entry-none i));
@@ -161,7 +165,11 @@ module _ (s t c h : ℕ) (ok : numbersOk s t c ≡ true) where
           page-true = λ f g z e. absurd (suc-not e (mapped-zeros f z));
         };
         calm = record {
-          empties = omega (arith, sum-full (λ i. one (eqb (slot p i) none)) s (λ i _. ap (λ (f : ℕ). one (eqb f none)) (slot-none i)), sum-zero (λ d. one (filling (client p d .stage))) t (λ d _. rw (rests d) refl));
+          empties = omega (
+            arith,
+            sum-full (λ i. one (eqb (slot p i) none)) s (λ i _. ap (λ (f : ℕ). one (eqb f none)) (slot-none i)),
+            sum-zero (λ d. one (filling (client p d .stage))) t (λ d _. rw (rests d) refl),
+          );
           six = λ d e. absurd (let w = ap (λ (k : Client). k .stage) (rests d) in let y : ⊥ = omega arith in y);
           only = λ d i _ z _. absurd (z (ap (λ (k : Client). k .victim) (rests d)));
           ghosts = λ f z n _. absurd (n (mapped-zeros f z));

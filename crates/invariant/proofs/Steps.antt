@@ -1,12 +1,12 @@
 -- Every call that is not turned down in a reached pool makes one of the moves of `Edges`. Assumes nothing.
 use mathlib.Core.Path.{_≡_, refl, sym, ap, _∙_}
-use mathlib.Core.Logic.{_≢_, _⊎_, inl, inr}
-use mathlib.Core.Bool.{Bool, true, false, not, _&&_}
+use mathlib.Core.Logic.{_≢_, inl, inr}
+use mathlib.Core.Bool.{Bool, true, false, not}
 use Prim.Native.Nat.{ℕ, _+_, _-_, _≤_, _<_, _%_}
 use native.Mathlib.Nat.{mod-lt}
 use native.Mathlib.Omega.{arith}
-use lib.Dec.{T, eqb, leb}
-use borrow.Author.Tests.{eqb-true, eqb-false, leb-true, lt-ltb, ltb-true}
+use lib.Dec.{T, eqb}
+use borrow.Author.Tests.{eqb-true, eqb-false, lt-ltb, ltb-true}
 use Rattle.pool.specs.Choose.{choose}
 use Rattle.pool.specs.State.{none, evicted, clientCount, slot, page, pins, count, client, grantFrame}
 use Rattle.pool.specs.Table.{entryOf, lookup, unusedEntry}
@@ -25,84 +25,21 @@ use Rattle.pool.specs.declared.Counted.{Counted}
 use Rattle.pool.specs.declared.Write.{Write}
 use Rattle.pool.specs.declared.Write.the-variants.{Keep, PutPins, PutFree}
 use Rattle.laws.specs.Choices.{by-test, chosen}
-use Rattle.invariant.proofs.Reached.{Reached, Knows, Leaves, mapped, unplaced, foundless, victimless, pinsFound, ownless, filling, hunting, leaving}
+use Rattle.invariant.proofs.Reached.{Reached, Knows, Leaves, mapped, victimless, filling, hunting}
 use Rattle.invariant.proofs.Each.{Each, fin, _also_, each-in}
 use Rattle.invariant.proofs.Searches.{grantOf-found}
 use Rattle.invariant.proofs.Never.{know, finds-some, room}
-use Rattle.invariant.proofs.Facts.{own-pins, grant-live, entry-gone, never, T-not, T-true, T-false}
-use Rattle.invariant.proofs.Edges.{imp, Onward, Visits, Quiet, keep, hand, counts, free, Alike, grants, Edge, on, found1, found18, lost2, lost22, pins2, pins19, gets3, gets21, takes, fills, swaps, gives-up, drops, removes, admits, revives, evicts20, evicts23, begins, releases}
+use Rattle.invariant.proofs.Flags.{T-false, never, differ, imp-mp, onward, onward-means, plainly, plainly-means, leavesNone, leaves-none, Visits}
+use Rattle.invariant.proofs.Facts.{own-pins, grant-live, entry-gone}
+use Rattle.invariant.proofs.Edges.{Quiet, keep, hand, counts, free, Alike, grants, Edge, on, found1, found18, lost2, lost22, pins2, pins19, gets3, gets21, takes, fills, swaps, gives-up, drops, removes, admits, revives, evicts20, evicts23, begins, releases}
 
 around-ok : (s i : ℕ) → 0 < s → around s i < s
 unfolding around
 around-ok s i h = by-test (λ (x : ℕ). x < s) (λ t. ltb-true _ _ t) (λ _. h)
 
--- ---- closed tests on stage numbers, and what they say
-
-abbrev alike : Bool → Bool → Bool
-alike true b = b
-alike false b = not b
-
-abbrev onward : ℕ → ℕ → Bool
-onward i j =
-    imp (unplaced j) (unplaced i) && (imp (ownless j) (ownless i) && (imp (foundless j) (foundless i) && (alike (pinsFound j) (pinsFound i) && (leb j 23 && not (eqb i 0)))))
-
--- besides: the client keeps its victim and its place, and fills no slot or goes on to fill it
-abbrev plainly : ℕ → ℕ → Bool
-plainly i j = imp (victimless j) (victimless i) && (imp (hunting j) (hunting i) && (alike (filling j) (filling i) && not (eqb j 6)))
-
--- no frame is left behind at stage i
-abbrev apart : ℕ → Bool
-apart i = not (leaving i) && not (eqb i 15)
-
-and-parts : (a b : Bool) → T (a && b) → T a × T b
-and-parts true b h = (tt, h)
-and-parts false b h = absurd h
-
-pub imp-mp : (a b : Bool) → T (imp a b) → T a → T b
-imp-mp true b h t = h
-imp-mp false b h t = absurd t
-
-alike-same : (a b : Bool) → T (alike a b) → a ≡ b
-alike-same true true h = refl
-alike-same true false h = absurd h
-alike-same false true h = absurd h
-alike-same false false h = refl
-
-onward-means : (i j : ℕ) → T (onward i j) → Onward i j
-onward-means i j t =
-    let a = and-parts (imp (unplaced j) (unplaced i)) _ t in
-    let b = and-parts (imp (ownless j) (ownless i)) _ (a .1) in
-    let d = and-parts (imp (foundless j) (foundless i)) _ (b .1) in
-    let f = and-parts (alike (pinsFound j) (pinsFound i)) _ (d .1) in
-    let g = and-parts (leb j 23) (not (eqb i 0)) (f .1) in
-    record {
-      from-unplaced = a .0;
-      from-ownless = b .0;
-      from-foundless = d .0;
-      pins-alike = alike-same (pinsFound j) (pinsFound i) (f .0);
-      stage-ok = leb-true j 23 (T-true (leb j 23) (g .0));
-      working = eqb-false i 0 (T-false (eqb i 0) (g .1));
-    }
-
-record Plainly (i j : ℕ) : Type 0 where
-  from-victimless : T (imp (victimless j) (victimless i))
-  from-hunting : T (imp (hunting j) (hunting i))
-  fills-alike : filling j ≡ filling i
-  not-six : j ≢ 6
-
-plainly-means : (i j : ℕ) → T (plainly i j) → Plainly i j
-plainly-means i j t =
-    let a = and-parts (imp (victimless j) (victimless i)) _ t in
-    let b = and-parts (imp (hunting j) (hunting i)) _ (a .1) in
-    let d = and-parts (alike (filling j) (filling i)) (not (eqb j 6)) (b .1) in
-    record { from-victimless = a .0; from-hunting = b .0; fills-alike = alike-same (filling j) (filling i) (d .0); not-six = eqb-false j 6 (T-false (eqb j 6) (d .1)) }
-
-no-leaves : (p : Pool) (k : Client) (i : ℕ) → k .stage ≡ i → T (apart i) → (f : ℕ) → Leaves p k f → ⊥
-no-leaves p k i e t f w = go (and-parts (not (leaving i)) (not (eqb i 15)) t) (w .1)
-  where
-    go : T (not (leaving i)) × T (not (eqb i 15)) → T (leaving (k .stage)) ⊎ ((k .stage ≡ 15) × (slot p (k .place) ≡ f)) → ⊥
-    go h (inl l) = T-not (leaving i) (h .0) (rw e at l)
-    go h (inr l) = eqb-false i 15 (T-false (eqb i 15) (h .1)) (sym e ∙ l .0)
+pub no-leaves : (p : Pool) (k : Client) (i : ℕ) → k .stage ≡ i → T (leavesNone i) → (f : ℕ) → Leaves p k f → ⊥
+no-leaves p k i e t f (_, inl l) = leaves-none i t .0 (rw e at l)
+no-leaves p k i e t f (_, inr l) = leaves-none i t .1 (sym e ∙ l .0)
 
 module _ (p : Pool) (c : ℕ) (here : c < clientCount p) (r : Reached p) where
   abbrev k : Client
@@ -121,8 +58,8 @@ module _ (p : Pool) (c : ℕ) (here : c < clientCount p) (r : Reached p) where
   same = record { page = refl; own = refl; found = refl; held = refl }
 
   -- the client keeps its victim, and its place where that matters
-  stays : (n : Client) (i j : ℕ) (w : Write) → client p c .stage ≡ i → Alike k n → n .victim ≡ k .victim → n .busy ≡ k .busy → n .place < p .size → n .seen ≤ p .size
-      → (T (hunting j) → n .place ≡ k .place) → Quiet p w → freeAfter (p .free) w ≡ p .free → T (onward i j) → T (plainly i j)
+  stays : (n : Client) (i j : ℕ) (w : Write) → client p c .stage ≡ i → Alike k n → n .victim ≡ k .victim → n .busy ≡ k .busy → n .place < p .size
+      → n .seen ≤ p .size → (T (hunting j) → n .place ≡ k .place) → Quiet p w → freeAfter (p .free) w ≡ p .free → T (onward i j) → T (plainly i j)
       → ((f : ℕ) → f ≢ none → mapped p f ≢ 0 → Leaves p k f → Leaves p (standing n j) f) → Knows j p (standing n j) → Goes (works n j w)
   stays n i j w e s v b pl sn at q fr t u lv kw =
       let h = plainly-means i j u in
@@ -143,13 +80,14 @@ module _ (p : Pool) (c : ℕ) (here : c < clientCount p) (r : Reached p) where
       })
 
   -- only the stage changes
-  plain : (i j : ℕ) (w : Write) → client p c .stage ≡ i → Quiet p w → freeAfter (p .free) w ≡ p .free → T (onward i j) → T (plainly i j) → T (apart i) → Knows j p (standing k j) → Goes (works k j w)
+  plain : (i j : ℕ) (w : Write) → client p c .stage ≡ i → Quiet p w → freeAfter (p .free) w ≡ p .free → T (onward i j) → T (plainly i j)
+      → T (leavesNone i) → Knows j p (standing k j) → Goes (works k j w)
   plain i j w e q fr t u a kw =
       stays k i j w e same refl refl (r .ranges .place-ok c) (r .ranges .seen-ok c) (λ _. refl) q fr t u (λ f _ _ w. absurd (no-leaves p k i e a f w)) kw
 
   -- a sweep looks at slot x next
-  sweeps : (i start x n : ℕ) (w : Write) → client p c .stage ≡ i → x < p .size → n < p .size → Quiet p w → freeAfter (p .free) w ≡ p .free → T (onward i 11) → T (not (filling i))
-      → ((f : ℕ) → f ≢ none → mapped p f ≢ 0 → Leaves p k f → Leaves p (standing (sweeping k start x n) 11) f) → k .own ≢ none → Goes (works (sweeping k start x n) 11 w)
+  sweeps : (i start x n : ℕ) (w : Write) → client p c .stage ≡ i → x < p .size → n < p .size → Quiet p w → freeAfter (p .free) w ≡ p .free
+      → T (onward i 11) → T (not (filling i)) → ((f : ℕ) → Leaves p k f → ⊥) → k .own ≢ none → Goes (works (sweeping k start x n) 11 w)
   sweeps i start x n w e h b q fr t fl lv o =
       on (sweeping k start x n) 11 w (record {
         same = record { page = refl; own = refl; found = refl; held = refl };
@@ -161,9 +99,9 @@ module _ (p : Pool) (c : ℕ) (here : c < clientCount p) (r : Reached p) where
         victim-ok = λ z. absurd (z refl);
         knows = o;
         no-victim = λ _. refl;
-        six = λ w. let z : ⊥ = omega arith in absurd z;
+        six = λ w. absurd (differ 11 6 tt w);
         hunts = never;
-        leaves = lv;
+        leaves = λ f _ _ l. absurd (lv f l);
         fills = rw (e, fr, T-false (filling i) fl) refl;
       })
 
@@ -179,13 +117,13 @@ module _ (p : Pool) (c : ℕ) (here : c < clientCount p) (r : Reached p) where
   step2 e = by-test Goes (λ t. lost2 e (eqb-true _ _ t)) (λ t. pins2 e (eqb-false _ _ t))
 
   -- a working client has room for a grant
-  gets : (f : ℕ) (w : Write) (u : Counted) → client p c .stage ≢ 0 → Goes (grants k f w u) → Goes (granted k f w u)
+  gets : (i f : ℕ) (w : Write) (u : Counted) → client p c .stage ≡ i → T (not (eqb i 0)) → Goes (grants k f w u) → Goes (granted k f w u)
   unfolding granted
-  gets f w u z h = rw (chosen _ _ _ (lt-ltb (k .held) 8 (omega (arith, r .ranges .working-held c z)))) h
+  gets i f w u e t h = rw (chosen _ _ _ (lt-ltb (k .held) 8 (omega (arith, r .ranges .working-held c (λ z. differ i 0 t (sym e ∙ z)))))) h
 
   step3 : At 3 (λ p k. stage3 k (p .cap) (count p (k .found)))
   unfolding stage3
-  step3 e = gets _ _ _ (λ w. let z : ⊥ = omega arith in z) (gets3 e)
+  step3 e = gets 3 _ _ _ e tt (gets3 e)
 
   step4 : At 4 (λ p k. stage4 k (freeFrame p))
   unfolding stage4
@@ -227,7 +165,7 @@ module _ (p : Pool) (c : ℕ) (here : c < clientCount p) (r : Reached p) where
         victim-ok = r .ranges .victim-ok c;
         knows = kn 6 e;
         no-victim = λ _. r .outline .no-victim c (rw e tt);
-        six = λ w. let x : ⊥ = omega arith in absurd x;
+        six = λ w. absurd (differ 7 6 tt w);
         hunts = never;
         leaves = λ f _ _ w. absurd (no-leaves p k 6 e tt f w);
         fills = rw e (omega arith);
@@ -237,14 +175,15 @@ module _ (p : Pool) (c : ℕ) (here : c < clientCount p) (r : Reached p) where
   step7 : At 7 (λ p k. stage7 k (p .hand) (p .size))
   unfolding stage7 freeAfter
   step7 e =
-      stays (withPlace k (p .hand % p .size)) 7 8 Keep e (record { page = refl; own = refl; found = refl; held = refl }) refl refl (mod-lt (p .hand) small) (r .ranges .seen-ok c) never
-      keep refl tt tt (λ f _ _ w. absurd (no-leaves p k 7 e tt f w)) (kn 7 e)
+      stays (withPlace k (p .hand % p .size)) 7 8 Keep e (record { page = refl; own = refl; found = refl; held = refl }) refl refl
+      (mod-lt (p .hand) small) (r .ranges .seen-ok c) never keep refl tt tt (λ f _ _ w. absurd (no-leaves p k 7 e tt f w)) (kn 7 e)
 
   step8 : At 8 (λ p k. stage8 k (slot p (k .place)) (p .size))
   unfolding stage8 freeAfter
   step8 e =
       by-test Goes (λ t. fills e (eqb-true _ _ t))
-      (λ _. stays (withPlace k (around (p .size) (k .place))) 8 8 Keep e (record { page = refl; own = refl; found = refl; held = refl }) refl refl (around-ok _ _ small)
+      (λ _. stays (withPlace k (around (p .size) (k .place))) 8 8 Keep e (record { page = refl; own = refl; found = refl; held = refl }) refl refl
+      (around-ok _ _ small)
       (r .ranges .seen-ok c) never keep refl tt tt (λ f _ _ w. absurd (no-leaves p k 8 e tt f w)) (kn 8 e))
 
   step9 : At 9 (λ p k. stage9 k (p .hand))
@@ -253,23 +192,23 @@ module _ (p : Pool) (c : ℕ) (here : c < clientCount p) (r : Reached p) where
 
   step10 : At 10 (λ p k. stage10 k (p .hand) (p .size))
   unfolding stage10 freeAfter
-  step10 e = sweeps 10 (p .hand) (p .hand % p .size) 0 Keep e (mod-lt (p .hand) small) small keep refl tt tt (λ f _ _ w. absurd (no-leaves p k 10 e tt f w)) (kn 10 e)
+  step10 e = sweeps 10 (p .hand) (p .hand % p .size) 0 Keep e (mod-lt (p .hand) small) small keep refl tt tt (no-leaves p k 10 e tt) (kn 10 e)
 
   -- the sweep goes on, with no frame behind
-  next : (i n : ℕ) (w : Write) → client p c .stage ≡ i → n < p .size → Quiet p w → freeAfter (p .free) w ≡ p .free → T (onward i 11) → T (not (filling i)) → T (apart i) → k .own ≢ none
-      → Goes (works (sweeping k (k .start) (around (p .size) (k .place)) n) 11 w)
-  next i n w e h q fr t fl a o = sweeps i (k .start) _ n w e (around-ok _ _ small) h q fr t fl (λ f _ _ w. absurd (no-leaves p k i e a f w)) o
+  next : (i n : ℕ) (w : Write) → client p c .stage ≡ i → n < p .size → Quiet p w → freeAfter (p .free) w ≡ p .free → T (onward i 11)
+      → T (not (filling i)) → T (leavesNone i) → k .own ≢ none → Goes (works (sweeping k (k .start) (around (p .size) (k .place)) n) 11 w)
+  next i n w e h q fr t fl a o = sweeps i (k .start) _ n w e (around-ok _ _ small) h q fr t fl (no-leaves p k i e a) o
 
   visits11 : Visits 11
-  visits11 = record { is-unplaced = tt; is-foundless = tt; no-pin = refl; no-fill = refl; no-leave = never; not-15 = λ w. let z : ⊥ = omega arith in z }
+  visits11 = record { is-unplaced = tt; is-foundless = tt; no-pin = refl; no-fill = refl; no-leave = tt }
 
   visits12 : Visits 12
-  visits12 = record { is-unplaced = tt; is-foundless = tt; no-pin = refl; no-fill = refl; no-leave = never; not-15 = λ w. let z : ⊥ = omega arith in z }
+  visits12 = record { is-unplaced = tt; is-foundless = tt; no-pin = refl; no-fill = refl; no-leave = tt }
 
-  visit : (i : ℕ) → client p c .stage ≡ i → T (onward i 11) → T (apart i) → T (not (filling i)) → Visits i → k .own ≢ none → Goes (busyVisit k (p .size))
+  visit : (i : ℕ) → client p c .stage ≡ i → T (onward i 11) → T (leavesNone i) → T (not (filling i)) → Visits i → k .own ≢ none → Goes (busyVisit k (p .size))
   unfolding busyVisit freeAfter
   visit i e t a fl u o =
-      by-test Goes (λ _. gives-up (rw e u))
+      by-test Goes (λ t. gives-up (rw e u) (eqb-true _ _ t))
       (λ v. let z : k .busy + 1 ≢ p .size = eqb-false _ _ v in let b = r .ranges .busy-ok c in next i (k .busy + 1) Keep e (omega arith) keep refl t fl a o)
 
   step11 : At 11 (λ p k. stage11 k (slot p (k .place)) (p .size))
@@ -286,7 +225,7 @@ module _ (p : Pool) (c : ℕ) (here : c < clientCount p) (r : Reached p) where
         victim-ok = r .ranges .slot-ok (k .place);
         knows = (kn 11 e, (eqb-false _ _ t, λ _. (k .place, refl)));
         no-victim = never;
-        six = λ w. let x : ⊥ = omega arith in absurd x;
+        six = λ w. absurd (differ 12 6 tt w);
         hunts = λ _. inr refl;
         leaves = λ f _ _ w. absurd (no-leaves p k 11 e tt f w);
         fills = rw e refl;
@@ -315,7 +254,7 @@ module _ (p : Pool) (c : ℕ) (here : c < clientCount p) (r : Reached p) where
   unfolding stage15 freeAfter
   step15 e =
       by-test Goes (λ t. swaps e (eqb-true _ _ t))
-      (λ t. sweeps 15 (k .start) _ 0 Keep e (around-ok _ _ small) small keep refl tt tt (λ f _ _ w. absurd (moved (eqb-false _ _ t) f w)) (kn 15 e .0))
+      (λ t. sweeps 15 (k .start) _ 0 Keep e (around-ok _ _ small) small keep refl tt tt (moved (eqb-false _ _ t)) (kn 15 e .0))
     where
       moved : slot p (k .place) ≢ k .victim → (f : ℕ) → Leaves p k f → ⊥
       moved n f (v, inl l) = rw e at l
@@ -340,7 +279,7 @@ module _ (p : Pool) (c : ℕ) (here : c < clientCount p) (r : Reached p) where
         victim-ok = λ z. absurd (z refl);
         knows = kn 17 e .0;
         no-victim = λ _. refl;
-        six = λ w. let x : ⊥ = omega arith in absurd x;
+        six = λ w. absurd (differ 18 6 tt w);
         hunts = never;
         leaves = λ f z n w. absurd (n (ap (mapped p) (sym (w .0)) ∙ entry-gone p r (k .victim) (kn 17 e .1 .0) (eqb-false _ _ t)));
         fills = rw e refl;
@@ -351,7 +290,7 @@ module _ (p : Pool) (c : ℕ) (here : c < clientCount p) (r : Reached p) where
   step18 e =
       by-test Goes
       (λ t. by-test Goes (λ u. absurd (room p r c (kn 18 e .0) (eqb-true _ _ u)))
-      (λ u. gets _ _ _ (λ w. let z : ⊥ = omega arith in z) (admits e (eqb-true _ _ t) (eqb-false _ _ u))))
+      (λ u. gets 18 _ _ _ e tt (admits e (eqb-true _ _ t) (eqb-false _ _ u))))
       (λ t. found18 e (eqb-false _ _ t))
 
   step19 : At 19 (λ p k. stage19 k (pins p (k .found)))
@@ -369,11 +308,11 @@ module _ (p : Pool) (c : ℕ) (here : c < clientCount p) (r : Reached p) where
 
   step21 : At 21 (λ p k. stage21 k (p .cap) (count p (k .found)))
   unfolding stage21
-  step21 e = gets _ _ _ (λ w. let z : ⊥ = omega arith in z) (gets21 e)
+  step21 e = gets 21 _ _ _ e tt (gets21 e)
 
   step22 : At 22 (λ p k. stage22 k (entryOf p (k .page)) (lookup p (k .page)))
   unfolding stage22
-  step22 e = by-test Goes (λ t. gets _ _ _ (λ w. let z : ⊥ = omega arith in z) (revives e (eqb-true _ _ t))) (λ _. lost22 e)
+  step22 e = by-test Goes (λ t. gets 22 _ _ _ e tt (revives e (eqb-true _ _ t))) (λ t. lost22 e (eqb-false _ _ t))
 
   step23 : At 23 (λ p k. stage23 k (pins p (k .own)))
   unfolding stage23
@@ -396,30 +335,31 @@ module _ (p : Pool) (c : ℕ) (here : c < clientCount p) (r : Reached p) where
   release-edge g e z =
       let i : ℕ = grantOf p c g in
       let f : grantFrame p c i ≢ none = r .outline .grant-named c i (grantOf-found p c g z .0) in
-      by-test Goes (λ t. absurd (let x : pins p (grantFrame p c i) ≡ evicted = eqb-true _ _ t in let y : ⊥ = omega (arith, grant-live p r c i f) in y)) (λ _. releases g e z)
+      let two = grant-live p r c i f in
+      by-test Goes (λ t. let x : pins p (grantFrame p c i) ≡ evicted = eqb-true _ _ t in let y : ⊥ = omega arith in absurd y) (λ _. releases g e z)
 
 -- a choice of numbers that is 0
-zero-chosen : (t : Bool) (a b : ℕ) → b ≢ 0 → choose t a b ≡ 0 → (t ≡ true) × (a ≡ 0)
+zero-chosen : (t : Bool) (a b : ℕ) → T (not (eqb b 0)) → choose t a b ≡ 0 → (t ≡ true) × (a ≡ 0)
 unfolding choose
 zero-chosen true a b z e = (refl, e)
-zero-chosen false a b z e = absurd (z e)
+zero-chosen false a b z e = absurd (differ b 0 z e)
 
 made : (p : Pool) → Reached p → (x : Call) → caller x < clientCount p → refusalAt p (client p (caller x)) x ≡ 0 → Edge p (caller x) (moveOf p x)
 unfolding caller refusalAt moveOf
 made p r (Begin c g) h e =
-    let a = zero-chosen _ _ 10 (λ w. let z : ⊥ = omega arith in z) e in
-    let b = zero-chosen _ _ 12 (λ w. let z : ⊥ = omega arith in z) (a .1) in
+    let a = zero-chosen _ _ 10 tt e in
+    let b = zero-chosen _ _ 12 tt (a .1) in
     begins g (eqb-true _ _ (a .0)) (ltb-true _ _ (b .0))
-made p r (Step c) h e = step-edge p c h r (λ w. let z : _≡_ {A = ℕ} 11 0 = sym (chosen _ 11 0 (rw w refl)) ∙ e in let y : ⊥ = omega arith in y)
+made p r (Step c) h e = step-edge p c h r (λ w. differ 11 0 tt (sym (chosen _ 11 0 (rw w refl)) ∙ e))
 made p r (Release c g) h e =
-    let a = zero-chosen _ _ 10 (λ w. let z : ⊥ = omega arith in z) e in
-    release-edge p c h r g (eqb-true _ _ (a .0)) (λ w. let z : _≡_ {A = ℕ} 13 0 = sym (chosen _ 13 0 (rw w refl)) ∙ a .1 in let y : ⊥ = omega arith in y)
+    let a = zero-chosen _ _ 10 tt e in
+    release-edge p c h r g (eqb-true _ _ (a .0)) (λ w. differ 13 0 tt (sym (chosen _ 13 0 (rw w refl)) ∙ a .1))
 
 -- a call that nothing turns down is one of a client of the pool, and makes such a move
 pub call-edge : (p : Pool) (x : Call) → Reached p → refusal p x ≡ 0 → (caller x < clientCount p) × Edge p (caller x) (moveOf p x)
 unfolding refusal
 call-edge p x r e =
-    let a = zero-chosen _ _ 8 (λ w. let z : ⊥ = omega arith in z) e in
-    let b = zero-chosen _ _ 9 (λ w. let z : ⊥ = omega arith in z) (a .1) in
+    let a = zero-chosen _ _ 8 tt e in
+    let b = zero-chosen _ _ 9 tt (a .1) in
     let here : caller x < clientCount p = ltb-true _ _ (b .0) in
     (here, made p r x here (b .1))

@@ -15,7 +15,7 @@ use Rattle.pool.specs.declared.Write.the-variants.{PutEntry}
 use Rattle.laws.specs.Choices.{scan-ind}
 use Rattle.laws.specs.Scans.{scan-none, scan-same, scan-only}
 use Rattle.invariant.proofs.Reached.{Apart, mapped, Shape}
-use Rattle.invariant.proofs.After.{entry-in, entryPage-kept, entryFrame-kept, entryPage-here, entryPage-else, entryFrame-here, entryFrame-else}
+use Rattle.invariant.proofs.After.{EntryPagesStay, EntryFramesStay, entry-in, entryPage-kept, entryFrame-kept, entryPage-here, entryPage-else, entryFrame-here, entryFrame-else}
 use Rattle.invariant.proofs.Searches.{lookup-found, lookup-is}
 
 -- one more than a number is not 0
@@ -39,8 +39,9 @@ module _ (p : Pool) (f : ℕ) where
   pub mapped-none : f ≢ none → mapped p f ≡ 0 → (i : ℕ) → entryFrame p i ≢ f
   unfolding mapped
   mapped-none z e i w =
-      eqb-false _ _ (scan-none (λ i. eqb (entryFrame p i) f) (λ i. suc (entryPage p i)) 0 (λ r. r ≡ 0) 0 (total p) (λ _ _ _ q. let c : ⊥ = omega arith in c) e i (omega arith)
-      (let h : i < total p = entry-in p i (λ n. z (sym w ∙ n)) in omega arith)) w
+      let h : i < total p = entry-in p i (λ n. z (sym w ∙ n)) in
+      eqb-false _ _ (scan-none (λ i. eqb (entryFrame p i) f) (λ i. suc (entryPage p i)) 0 (λ r. r ≡ 0) 0 (total p)
+      (λ _ _ _ q. let c : ⊥ = omega arith in c) e i (omega arith) (omega arith)) w
 
   pub mapped-zero : ((i : ℕ) → entryFrame p i ≢ f) → mapped p f ≡ 0
   mapped-zero h = go (ℕ-discrete (mapped p f) 0)
@@ -81,25 +82,25 @@ module _ (p : Pool) (c : ℕ) (m : Move) (shape : Shape p) where
   abbrev q : Pool
   q = apply p c m
 
-  -- a frame whose entries stay as they were
-  mapped-alike : (f : ℕ) → ((i : ℕ) → ((entryFrame q i ≡ entryFrame p i) × (entryPage q i ≡ entryPage p i)) ⊎ ((entryFrame p i ≢ f) × (entryFrame q i ≢ f))) → mapped q f ≡ mapped p f
+  -- place i has the entry that it had, or has and had another frame than f
+  abbrev Alike : ℕ → ℕ → Type 0
+  Alike f i = ((entryFrame q i ≡ entryFrame p i) × (entryPage q i ≡ entryPage p i)) ⊎ ((entryFrame p i ≢ f) × (entryFrame q i ≢ f))
+
+  mapped-alike : (f : ℕ) → ((i : ℕ) → Alike f i) → mapped q f ≡ mapped p f
   unfolding mapped apply
   mapped-alike f h =
       scan-same (λ i. eqb (entryFrame q i) f) (λ i. eqb (entryFrame p i) f) (λ i. suc (entryPage q i)) (λ i. suc (entryPage p i)) 0 0 (total p)
       (λ i _. tests i (h i)) (λ i _ t. pages i (eqb-true _ _ t) (h i))
     where
-      Alike : ℕ → Type 0
-      Alike i = ((entryFrame q i ≡ entryFrame p i) × (entryPage q i ≡ entryPage p i)) ⊎ ((entryFrame p i ≢ f) × (entryFrame q i ≢ f))
-
-      tests : (i : ℕ) → Alike i → eqb (entryFrame q i) f ≡ eqb (entryFrame p i) f
+      tests : (i : ℕ) → Alike f i → eqb (entryFrame q i) f ≡ eqb (entryFrame p i) f
       tests i (inl e) = ap (λ (x : ℕ). eqb x f) (e .0)
       tests i (inr e) = ne-eqb _ _ (e .1) ∙ sym (ne-eqb _ _ (e .0))
 
-      pages : (i : ℕ) → entryFrame p i ≡ f → Alike i → suc (entryPage q i) ≡ suc (entryPage p i)
+      pages : (i : ℕ) → entryFrame p i ≡ f → Alike f i → suc (entryPage q i) ≡ suc (entryPage p i)
       pages i w (inl e) = ap suc (e .1)
       pages i w (inr e) = absurd (e .0 w)
 
-  pub mapped-kept : entryPagesAfter (total p) (p .«table_pages») (m .write) ≡ p .«table_pages» → entryFramesAfter (total p) (p .«table_frames») (m .write) ≡ p .«table_frames»
+  pub mapped-kept : EntryPagesStay p (m .write) → EntryFramesStay p (m .write)
       → (f : ℕ) → mapped q f ≡ mapped p f
   mapped-kept a b f = mapped-alike f (λ i. inl (entryFrame-kept p c m shape b i, entryPage-kept p c m shape a i))
 
@@ -125,7 +126,7 @@ module _ (p : Pool) (c : ℕ) (m : Move) (shape : Shape p) where
     pub put-other : (x : ℕ) → x ≢ f → x ≢ entryFrame p j → mapped q x ≡ mapped p x
     put-other x a b = mapped-alike x (λ i. go i (ℕ-discrete i j))
       where
-        go : (i : ℕ) → Dec (i ≡ j) → ((entryFrame q i ≡ entryFrame p i) × (entryPage q i ≡ entryPage p i)) ⊎ ((entryFrame p i ≢ x) × (entryFrame q i ≢ x))
+        go : (i : ℕ) → Dec (i ≡ j) → Alike x i
         go i (no w) = inl (else-frame i w, else-page i w)
         go i (yes w) = inr (λ r. b (sym r ∙ ap (entryFrame p) w), λ r. a (sym r ∙ ap (entryFrame q) w ∙ put-frame))
 

@@ -53,7 +53,8 @@ module _ (p : Pool) (k : Client) where
 
   shows : Each Shows 0 knows
   shows =
-      bare 0 refl refl refl also bare 1 refl refl refl also by-found Live 2 (λ h. h .0) refl refl also by-found Live 3 (λ h. h .0) refl refl also bare 4 refl refl refl also
+      bare 0 refl refl refl also bare 1 refl refl refl also by-found Live 2 (λ h. h .0) refl refl also by-found Live 3 (λ h. h .0) refl refl also
+      bare 4 refl refl refl also
       by-own Owns 5 (λ h. h) refl refl also by-own Owns 6 (λ h. h) refl refl also by-own Owns 7 (λ h. h) refl refl also by-own Owns 8 (λ h. h) refl refl also
       by-own Placed 9 (λ h. h .0) refl refl also by-own Owns 10 (λ h. h) refl refl also by-own Owns 11 (λ h. h) refl refl also
       by-sweep (Owns and Seat) 12 (λ h. h .0) (λ h. h .1 .0) refl also by-sweep (Owns and Seat) 13 (λ h. h .0) (λ h. h .1 .0) refl also
@@ -122,12 +123,15 @@ module _ (p : Pool) (r : Reached p) where
     unfolding namesOk
     names-ok =
         let h : Has k (k .stage) = each-in (Shows p k) Nothing knows (shows p k) (k .stage) (omega (arith, r .ranges .stage-ok c)) (r .outline .knowing c) in
-        both-yes _ _ (used-ok _ _ (h .own) (r .ranges .own-ok c)) (both-yes _ _ (used-ok _ _ (h .found) (r .ranges .found-ok c)) (used-ok _ _ (h .victim) (r .ranges .victim-ok c)))
+        both-yes _ _ (used-ok _ _ (h .own) (r .ranges .own-ok c))
+        (both-yes _ _ (used-ok _ _ (h .found) (r .ranges .found-ok c)) (used-ok _ _ (h .victim) (r .ranges .victim-ok c)))
 
     -- two grants of one page name the frame that the page is mapped to
     grant-ok : (i : ℕ) → i < k .held → grantOk p c i ≡ true
     unfolding grantOk
-    grant-ok i h = both-yes _ _ (lt-ltb _ _ (r .ranges .grant-ok c i (named i h))) (eq-eqb _ _ (frame-of j (first .0) ∙ ap (lookup p) (first .1) ∙ sym (frame-of i h)))
+    grant-ok i h =
+        both-yes _ _ (lt-ltb _ _ (r .ranges .grant-ok c i (named i h)))
+        (eq-eqb _ _ (frame-of j (first .0) ∙ ap (lookup p) (first .1) ∙ sym (frame-of i h)))
       where
         j : ℕ
         j = grantOf p c (grantPage p c i)
@@ -136,7 +140,9 @@ module _ (p : Pool) (r : Reached p) where
         named = r .outline .grant-named c
 
         frame-of : (i : ℕ) → i < k .held → grantFrame p c i ≡ lookup p (grantPage p c i)
-        frame-of i h = sym (mapped-lookup p (r .shape) (r .outline .pages-apart) (grantFrame p c i) (grantPage p c i) (named i h) (r .outline .granted c i (named i h)) .1)
+        frame-of i h =
+            let n = named i h in
+            sym (mapped-lookup p (r .shape) (r .outline .pages-apart) (grantFrame p c i) (grantPage p c i) n (r .outline .granted c i n) .1)
 
         first : (j < k .held) × (grantPage p c j ≡ grantPage p c i)
         first = grantOf-found p c (grantPage p c i) (grantOf-some p c i (r .ranges .held-ok c) h)

@@ -69,7 +69,8 @@ scan-same s t f g d i (suc n) a b =
     go false e = refl
 
 -- a search ends at the one number that passes
-pub scan-only : {A : Type 0} (t : ℕ → Bool) (f : ℕ → A) (d : A) (i n k : ℕ) → i ≤ k → k < i + n → t k ≡ true → ((j : ℕ) → t j ≡ true → j ≡ k) → scan t f d i n ≡ f k
+pub scan-only : {A : Type 0} (t : ℕ → Bool) (f : ℕ → A) (d : A) (i n k : ℕ) → i ≤ k → k < i + n → t k ≡ true
+    → ((j : ℕ) → t j ≡ true → j ≡ k) → scan t f d i n ≡ f k
 unfolding scan
 scan-only t f d i zero k a b e u = let z : ⊥ = omega arith in absurd z
 scan-only {A} t f d i (suc n) k a b e u =
@@ -81,7 +82,9 @@ module _ (t : ℕ → Bool) (n : ℕ) where
   some-not h k b = scan-none t (λ _. true) false (λ r. r ≡ false) 0 n (λ _ _ _ e. true≢false e) h k (omega arith) (omega arith)
 
   pub some-true : some t n ≡ true → (k : ℕ) × (k < n) × (t k ≡ true)
-  some-true = scan-ind t (λ _. true) false (λ r. r ≡ true → (k : ℕ) × (k < n) × (t k ≡ true)) (λ e. absurd (true≢false (sym e))) 0 n (λ k _ h e _. (k, omega arith, e))
+  some-true =
+      scan-ind t (λ _. true) false (λ r. r ≡ true → (k : ℕ) × (k < n) × (t k ≡ true)) (λ e. absurd (true≢false (sym e))) 0 n
+      (λ k _ h e _. (k, omega arith, e))
 
   pub some-yes : (k : ℕ) → k < n → t k ≡ true → some t n ≡ true
   some-yes k h e = go (some t n) refl
