@@ -1,0 +1,45 @@
+-- A pool whose parts are what a move leaves of each is the pool after the move. Assumes nothing.
+use mathlib.Core.Path.{_≡_}
+use mathlib.Core.List.{List}
+use Prim.Native.Nat.{ℕ, _*_}
+use lib.ListN.{set}
+use Rattle.pool.specs.State.{total}
+use Rattle.pool.specs.Apply.{slotsAfter, pagesAfter, pinsAfter, countsAfter, entryPagesAfter, entryFramesAfter, handAfter, freeAfter, lastAfter}
+use Rattle.pool.specs.Apply.{grantPagesAfter, grantFramesAfter, apply}
+use Rattle.pool.specs.declared.Move.{Move}
+use Rattle.pool.specs.declared.Pool.{Pool}
+
+-- n is the number of the pool's frames
+pub applied : (p : Pool) (c n : ℕ) (m : Move) →
+    {hand free last : ℕ} {slots pages pins counts tablePages tableFrames grantPages grantFrames : List ℕ} →
+    n ≡ total p →
+    hand ≡ handAfter (p .hand) (m .write) →
+    free ≡ freeAfter (p .free) (m .write) →
+    last ≡ lastAfter (p .last) (m .write) →
+    slots ≡ slotsAfter (p .size) (p .slots) (m .write) →
+    pages ≡ pagesAfter n (p .pages) (m .write) →
+    pins ≡ pinsAfter n (p .pins) (m .write) →
+    counts ≡ countsAfter n (p .counts) (m .write) →
+    tablePages ≡ entryPagesAfter n (p .«table_pages») (m .write) →
+    tableFrames ≡ entryFramesAfter n (p .«table_frames») (m .write) →
+    grantPages ≡ grantPagesAfter (8 * p .«client_count») c (p .«grant_pages») (m .grants) →
+    grantFrames ≡ grantFramesAfter (8 * p .«client_count») c (p .«grant_frames») (m .grants) →
+    record {
+      size = p .size;
+      «client_count» = p .«client_count»;
+      cap = p .cap;
+      hand = hand;
+      free = free;
+      last = last;
+      slots = slots;
+      pages = pages;
+      pins = pins;
+      counts = counts;
+      «table_pages» = tablePages;
+      «table_frames» = tableFrames;
+      clients = set (p .clients) c (m .next);
+      «grant_pages» = grantPages;
+      «grant_frames» = grantFrames;
+    } ≡ apply p c m
+unfolding apply
+applied p c n m e0 e1 e2 e3 e4 e5 e6 e7 e8 e9 e10 e11 = simp (e1, e2, e3, e4, e5, e6, e7, e8, e9, e10, e11, e0)

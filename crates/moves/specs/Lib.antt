@@ -1,0 +1,4 @@
+pub mod Lends
+pub mod Lent
+pub mod Applied
+pub mod Ready

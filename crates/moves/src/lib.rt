@@ -1,0 +1,199 @@
+// The move of a call, decided over the pool's arrays where they lie, and a move applied to a pool by value.
+ghost use mathlib.Core.Path.{_≡_};
+ghost use Prim.Native.Nat.{_<_, _≤_};
+ghost use Rattle.pool.specs.Frames.{freeFrame};
+ghost use Rattle.pool.specs.Stages.{stageMove};
+ghost use Rattle.pool.specs.Calls.{caller, moveOf};
+ghost use Rattle.pool.specs.Apply.{apply};
+ghost use Rattle.pool.specs.declared.Pool.{Pool};
+ghost use Rattle.moves.specs.Lends.{Lends, Asks, Ready};
+use pool::Call;
+use pool::Client;
+use pool::Move;
+use pool::NONE;
+use pool::Pool;
+use stages::EVICTED;
+
+// The numbers of a pool that a move reads.
+pub struct Numbers {
+    pub size: u8,
+    // S + 2T
+    pub total: u8,
+    pub cap: u8,
+    pub hand: u32,
+    pub free: u8,
+}
+
+// The 23 stages: the move of a client by the stage that it stands at. `fresh` is the frame to take, which stage 4 alone looks at.
+pub fn stage_move<'a>(
+    client: Client,
+    n: Numbers,
+    fresh: u8,
+    slots: &'a [u8; 64],
+    pages: &'a [u32; 96],
+    pins: &'a [u8; 96],
+    counts: &'a [u8; 96],
+    table_pages: &'a [u32; 96],
+    table_frames: &'a [u8; 96],
+) -> Move
+    requires { ⌜ Ready client n (now pins) ⌝ }
+    ensures { λ r. ⌜ ((p : Pool) →
+        Lends p n (now (slots .entry)) (now (pages .entry)) (now (pins .entry)) (now (counts .entry))
+        (now («table_pages» .entry)) (now («table_frames» .entry)) →
+        (client .stage ≡ 4 → fresh ≡ freeFrame p) → r ≡ stageMove p client) ⌝ }
+{
+    let stage = client.stage;
+    match stage {
+        1 => {
+            let found = leaves::lookup(table_pages, table_frames, n.total, client.page);
+            stages::one(client, found)
+        }
+        2 => {
+            let its_pins = leaves::byte_at(pins, n.total, EVICTED, client.found);
+            stages::two(client, its_pins)
+        }
+        3 => {
+            let its_count = leaves::byte_at(counts, n.total, 0, client.found);
+            stages::three(client, n.cap, its_count)
+        }
+        4 => stages::four(client, fresh),
+        5 => stages::five(client, n.free),
+        6 => stages::six(client, n.free),
+        7 => stages::seven(client, n.hand, n.size),
+        8 => {
+            let there = leaves::slot_at(slots, n.size, client.place);
+            stages::eight(client, there, n.size)
+        }
+        9 => stages::nine(client, n.hand),
+        10 => stages::ten(client, n.hand, n.size),
+        11 => {
+            let there = leaves::slot_at(slots, n.size, client.place);
+            stages::eleven(client, there, n.size)
+        }
+        12 => {
+            let its_pins = leaves::byte_at(pins, n.total, EVICTED, client.victim);
+            stages::twelve(client, its_pins, n.size)
+        }
+        13 => {
+            let its_count = leaves::byte_at(counts, n.total, 0, client.victim);
+            stages::thirteen(client, its_count, n.size)
+        }
+        14 => {
+            let its_pins = leaves::byte_at(pins, n.total, EVICTED, client.victim);
+            stages::fourteen(client, its_pins, n.size)
+        }
+        15 => {
+            let there = leaves::slot_at(slots, n.size, client.place);
+            stages::fifteen(client, there, n.size)
+        }
+        16 => stages::sixteen(client, n.hand, n.size),
+        17 => {
+            let page = leaves::page_at(pages, n.total, client.victim);
+            let i = leaves::entry_of(table_pages, table_frames, n.total, page);
+            let mapped = leaves::byte_at(table_frames, n.total, NONE, i);
+            stages::seventeen(client, page, i, mapped)
+        }
+        18 => {
+            let found = leaves::lookup(table_pages, table_frames, n.total, client.page);
+            let i = leaves::unused_entry(table_frames, n.total);
+            stages::eighteen(client, found, i)
+        }
+        19 => {
+            let its_pins = leaves::byte_at(pins, n.total, EVICTED, client.found);
+            stages::nineteen(client, its_pins)
+        }
+        20 => {
+            let its_pins = leaves::byte_at(pins, n.total, EVICTED, client.own);
+            stages::twenty(client, its_pins)
+        }
+        21 => {
+            let its_count = leaves::byte_at(counts, n.total, 0, client.found);
+            stages::twenty_one(client, n.cap, its_count)
+        }
+        22 => {
+            let i = leaves::entry_of(table_pages, table_frames, n.total, client.page);
+            let mapped = leaves::byte_at(table_frames, n.total, NONE, i);
+            stages::twenty_two(client, i, mapped)
+        }
+        23 => {
+            let its_pins = leaves::byte_at(pins, n.total, EVICTED, client.own);
+            stages::twenty_three(client, its_pins)
+        }
+        _ => stages::stuck(client),
+    }
+}
+
+// The move of a call on a pool that does not turn it down.
+pub fn call_move<'a>(
+    call: Call,
+    client: Client,
+    n: Numbers,
+    fresh: u8,
+    slots: &'a [u8; 64],
+    pages: &'a [u32; 96],
+    pins: &'a [u8; 96],
+    counts: &'a [u8; 96],
+    table_pages: &'a [u32; 96],
+    table_frames: &'a [u8; 96],
+    grant_pages: &'a [u32; 128],
+    grant_frames: &'a [u8; 128],
+) -> Move
+    requires { ⌜ Ready client n (now pins) ⌝ }
+    requires { ⌜ (caller call < 16) × (client .held ≤ 8) ⌝ }
+    ensures { λ r. ⌜ ((p : Pool) →
+        Lends p n (now (slots .entry)) (now (pages .entry)) (now (pins .entry)) (now (counts .entry))
+        (now («table_pages» .entry)) (now («table_frames» .entry)) →
+        Asks p call client fresh (now («grant_pages» .entry)) (now («grant_frames» .entry)) → r ≡ moveOf p call) ⌝ }
+{
+    match call {
+        Call::Begin(c, page) => stages::begin_move(client, page),
+        Call::Step(c) => stage_move(
+            client,
+            n,
+            fresh,
+            slots,
+            pages,
+            pins,
+            counts,
+            table_pages,
+            table_frames,
+        ),
+        Call::Release(c, page) => {
+            let at = c as usize;
+            let i = leaves::grant_of(grant_pages, at, client.held, page);
+            let f = leaves::grant_frame_at(grant_frames, at, client.held, i);
+            let its_pins = leaves::byte_at(pins, n.total, EVICTED, f);
+            stages::release_move(client, page, i, f, its_pins)
+        }
+    }
+}
+
+// The pool after a move of client c.
+pub fn apply(pool: Pool, c: usize, m: Move) -> Pool
+    requires { ⌜ (c < 16) × (pool .size ≤ 64) × (pool .«client_count» ≤ 16) ⌝ }
+    ensures { λ r. ⌜ r ≡ apply pool c m ⌝ }
+{
+    let mut next = pool;
+    let size = next.size;
+    let count = next.client_count;
+    let total = leaves::total(size, count);
+    let client = m.next;
+    let w = m.write;
+    let change = m.grants;
+    next.clients[c] = client;
+    leaves::put_slots(&mut next.slots, size, w);
+    leaves::put_pages(&mut next.pages, total, w);
+    leaves::put_pins(&mut next.pins, total, w);
+    leaves::put_counts(&mut next.counts, total, w);
+    leaves::put_table_pages(&mut next.table_pages, total, w);
+    leaves::put_table_frames(&mut next.table_frames, total, w);
+    leaves::put_grant_pages(&mut next.grant_pages, count, c, change);
+    leaves::put_grant_frames(&mut next.grant_frames, count, c, change);
+    let hand = leaves::hand_after(next.hand, w);
+    next.hand = hand;
+    let free = leaves::free_after(next.free, w);
+    next.free = free;
+    let last = leaves::last_after(next.last, w);
+    next.last = last;
+    next
+}

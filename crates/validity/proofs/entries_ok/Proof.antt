@@ -1,0 +1,47 @@
+-- The loop's invariant: what is left of the test from i on is all of it, since every place before i passed; and each page before i has its
+-- mark, so that a page without one is new. The measure is how many places are left. Assumes nothing.
+use borrow.Author.Needs.{needs}
+use mathlib.Core.Path.{refl}
+use native.Mathlib.Omega.{arith}
+use Prim.Native.Nat.{_-_}
+use Rattle.validity.specs.Loops.{Passing, starts, fails, passes, all-pass}
+use Rattle.validity.specs.Marks.{Marked, no-marks, unmarked, mark}
+use Rattle.validity.specs.Places.{pageAt}
+use Rattle.validity.specs.Parts.{entryIn, entriesIn}
+use Rattle.validity.proofs.entries_ok.Statement.{statement}
+use Rattle.validity.proofs.entries_ok.Tie as tie
+
+abbrev Inv-loop : tie.InvT-loop
+Inv-loop pages frames n marks₀ places i₀ marks i = Passing (entryIn pages frames n) n i × Marked (pageAt pages) 1021 marks i
+
+abbrev μ-loop : tie.MeasureT-loop
+μ-loop pages frames n marks₀ places i₀ marks i = n - i
+
+loop-holds : tie.Need-loop-holds Inv-loop μ-loop
+loop-holds c = (starts _ _, no-marks _ _ _ refl)
+
+entry-ok-requires : tie.Need-entry-ok-requires Inv-loop μ-loop
+entry-ok-requires c κs = (search needs, search needs, unmarked (c .before .before .loop .inv .1))
+
+returns : tie.Need-returns Inv-loop μ-loop
+unfolding entriesIn
+returns c =
+    let l = c .before .before .before in
+    fails (l .before .loop .inv .0) (l .loop-test .taken) (c .before .entry-ok .ensures) (c .if1 .taken)
+
+loop-again : tie.Need-loop-again Inv-loop μ-loop
+loop-again c =
+    let l = c .before .before .before in
+    let t = l .before .loop .inv in
+    (passes (t .0) (l .loop-test .taken) (c .before .entry-ok .ensures) (c .if1 .left), mark (t .1) (omega arith))
+
+returns-2 : tie.Need-returns-2 Inv-loop μ-loop
+unfolding entriesIn
+returns-2 c = all-pass (c .before .loop .inv .0) (c .loop-test .left)
+
+pub entries-ok-spec : {M : Type 1} → statement M
+entries-ok-spec =
+    tie.close
+    (tie.spec
+    Inv-loop μ-loop loop-holds (λ c. search needs) (λ c. search needs) (λ c. search needs) (λ c. search needs) entry-ok-requires returns
+    (λ c. search needs) (λ c. search needs) (λ c. search needs) loop-again returns-2)

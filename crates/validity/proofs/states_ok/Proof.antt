@@ -1,0 +1,50 @@
+-- The loop's invariant: what is left of the test from i on is all of it, since every frame before i passed. The measure is how many frames
+-- are left. Assumes nothing.
+use borrow.Author.Needs.{needs}
+use mathlib.Core.Path.{_≡_}
+use Prim.Native.Nat.{_-_}
+use Rattle.pool.specs.State.{evicted}
+use Rattle.validity.specs.Loops.{Passing, starts, fails, passes, all-pass}
+use Rattle.validity.specs.Places.{at-within}
+use Rattle.validity.specs.Parts.{stateIn, statesIn}
+use Rattle.validity.proofs.states_ok.Statement.{statement}
+use Rattle.validity.proofs.states_ok.Tie as tie
+
+abbrev Inv-loop : tie.InvT-loop
+Inv-loop pins counts n cap i₀ i = Passing (stateIn pins counts n cap) n i
+
+abbrev μ-loop : tie.MeasureT-loop
+μ-loop pins counts n cap i₀ i = n - i
+
+tested :
+    (c : tie.After-both Inv-loop μ-loop) →
+    let l = c .before .before .before in
+    let a = l .before .before .args in
+    c .both .result ≡ stateIn (a .pins .now) (a .counts .now) (a .n) (a .cap) (l .before .loop .i)
+tested c =
+    let l = c .before .before .before in
+    let a = l .before .before .args in
+    cc (at-within (a .pins .now) _ evicted _ (l .loop-test .taken), at-within (a .counts .now) _ 0 _ (l .loop-test .taken))
+
+loop-holds : tie.Need-loop-holds Inv-loop μ-loop
+loop-holds c = starts _ _
+
+returns : tie.Need-returns Inv-loop μ-loop
+unfolding statesIn
+returns c = let l = c .before .before .before .before in fails (l .before .loop .inv) (l .loop-test .taken) (tested (c .before)) (c .if1 .taken)
+
+loop-again : tie.Need-loop-again Inv-loop μ-loop
+loop-again c =
+    let l = c .before .before .before .before in
+    passes (l .before .loop .inv) (l .loop-test .taken) (tested (c .before)) (c .if1 .left)
+
+returns-2 : tie.Need-returns-2 Inv-loop μ-loop
+unfolding statesIn
+returns-2 c = all-pass (c .before .loop .inv) (c .loop-test .left)
+
+pub states-ok-spec : {M : Type 1} → statement M
+states-ok-spec =
+    tie.close
+    (tie.spec
+    Inv-loop μ-loop loop-holds (λ c. search needs) (λ c. search needs) (λ c κs. search needs) returns (λ c. search needs) (λ c. search needs)
+    loop-again returns-2)

@@ -1,0 +1,21 @@
+-- Each return has one side of the definition's choice by `used`. Assumes nothing.
+use borrow.Author.Needs.{needs}
+use mathlib.Core.Path.{_∙_}
+use Rattle.pool.specs.Choose.{choose}
+use Rattle.validity.specs.Parts.{usedIn}
+use Rattle.validity.proofs.used_ok.Statement.{statement}
+use Rattle.validity.proofs.used_ok.Tie as tie
+
+returns : tie.Need-returns
+unfolding usedIn choose
+returns c = simp (c .if1 .taken)
+
+returns-2 : tie.Need-returns-2
+unfolding usedIn choose
+returns-2 c = c .name-ok .ensures ∙ simp (c .before .if1 .left)
+
+pub used-ok-spec : {M : Type 1} → statement M
+used-ok-spec =
+    tie.close
+    (tie.spec
+    returns (λ c κs. search needs) returns-2)

@@ -1,0 +1,5 @@
+pub mod Parts
+pub mod Loops
+pub mod Marks
+pub mod Places
+pub mod Ranges

@@ -1,0 +1,285 @@
+-- What a valid pool's numbers are: `ranged`, for callers, who cite its fields in place of the test's text; and back, `valid-from`, for those
+-- who show that a pool never meets check 8. Assumes nothing.
+use mathlib.Core.Path.{_≡_, refl, _∙_, sym, ap}
+use mathlib.Core.Bool.{Bool, true, false, not, true≢false}
+use mathlib.Core.List.{List}
+use native.Mathlib.Decide.{ℕ-discrete}
+use native.Mathlib.Omega.{arith}
+use Prim.Native.Nat.{ℕ, _<_, _≤_}
+use lib.Dec.{eqb, ltb}
+use lib.ListN.{getD}
+use borrow.Author.Tests.{ltb-true, leb-true, eqb-true, eqb-false, lt-ltb, le-leb, eq-eqb, ne-eqb, not-true}
+use Rattle.pool.specs.Choose.{choose, both, either}
+use Rattle.pool.specs.State.{none, pinned, total, clientCount, within, slot, pins, count, entryPage, entryFrame, client, grantPage, grantFrame}
+use Rattle.pool.specs.Table.{maps, entryOf}
+use Rattle.pool.specs.Grants.{grantOf}
+use Rattle.pool.specs.Valid.{numbersOk, frameOk, usedOk, usesOwn, usesFound, usesVictim, slotOk, stateOk, entryOk, grantOk}
+use Rattle.pool.specs.Valid.{countsOk, namesOk, clientOk, valid}
+use Rattle.pool.specs.declared.Pool.{Pool}
+use Rattle.pool.specs.declared.Client.{Client}
+use Rattle.laws.specs.Choices.{by-test, chosen}
+use Rattle.validity.specs.Loops.{First, first, every-at, every-holds}
+use Rattle.validity.specs.Parts.{countsIn}
+
+-- ---- the ranges
+
+-- "Setup takes S slots (1 to 64), T benches (1 to 16), count cap C (1 to 100)"
+pub record Numbers (s t c : ℕ) : Type 0 where
+  pub some-slot : 0 < s
+  pub slots : s ≤ 64
+  pub some-client : 0 < t
+  pub clients : t ≤ 16
+  pub some-count : 0 < c
+  pub cap : c ≤ 100
+
+-- "A slot number that a bench remembers is 0 to S - 1, and so is a busy run."; a bench "holds 0 to 8 grants"
+pub record Counts (k : Client) (size : ℕ) : Type 0 where
+  pub stage : k .stage ≤ 23
+  pub held : k .held ≤ 8
+  pub place : k .place < size
+  pub busy : k .busy < size
+  pub seen : k .seen ≤ size
+
+-- a number that names a frame
+abbrev pub Named : ℕ → Type 0
+Named f = f ≡ none → ⊥
+
+-- a frame number that is none or below n, and below n where the stage uses it
+pub record Names (used : Bool) (n f : ℕ) : Type 0 where
+  pub named : Named f → f < n
+  pub there : used ≡ true → f < n
+
+pub record ClientRanged (p : Pool) (c : ℕ) : Type 0 where
+  pub counts : Counts (client p c) (p .size)
+  pub own : Names (usesOwn (client p c .stage)) (total p) (client p c .own)
+  pub found : Names (usesFound (client p c .stage)) (total p) (client p c .found)
+  pub victim : Names (usesVictim (client p c .stage)) (total p) (client p c .victim)
+  pub grant : (i : ℕ) → i < client p c .held → grantFrame p c i < total p
+  -- one client's grants of one page name one frame
+  pub agree : (i j : ℕ) → i < client p c .held → j < client p c .held → grantPage p c i ≡ grantPage p c j → grantFrame p c i ≡ grantFrame p c j
+
+pub record Ranged (p : Pool) : Type 0 where
+  pub numbers : Numbers (p .size) (clientCount p) (p .cap)
+  pub free : p .free ≤ p .size
+  pub last : Named (p .last) → p .last < total p
+  pub slot : (i : ℕ) → i < p .size → Named (slot p i) → slot p i < total p
+  pub pins : (f : ℕ) → f < total p → pins p f ≤ pinned 128
+  pub count : (f : ℕ) → f < total p → count p f ≤ p .cap
+  pub entry : (i : ℕ) → i < total p → Named (entryFrame p i) → entryFrame p i < total p
+  -- "The table maps a page to at most one frame."
+  pub apart : (i j : ℕ) → i < total p → j < total p → Named (entryFrame p i) → Named (entryFrame p j) → entryPage p i ≡ entryPage p j → i ≡ j
+  pub client : (c : ℕ) → c < clientCount p → ClientRanged p c
+
+-- the frames, and the places of the table, are at most 96
+pub total-in : (p : Pool) → Numbers (p .size) (clientCount p) (p .cap) → total p ≤ 96
+total-in p n = omega arith
+
+-- Past the pool's frames the pins and the count are 0, so that no caller need show that a frame is one of them.
+low : (l : List ℕ) (n most i : ℕ) → (i < n → within l n 0 i ≤ most) → within l n 0 i ≤ most
+unfolding within
+low l n most i h = by-test (λ x. x ≤ most) (λ e. rw (chosen _ (getD l i 0) 0 e) at (h (ltb-true _ _ e))) (λ _. omega arith)
+
+pub pins-low : (p : Pool) → Ranged p → (f : ℕ) → pins p f ≤ pinned 128
+unfolding pins
+pins-low p r f = low (p .pins) (total p) (pinned 128) f (r .pins f)
+
+pub count-low : (p : Pool) → Ranged p → (f : ℕ) → count p f ≤ p .cap
+unfolding count
+count-low p r f = low (p .counts) (total p) (p .cap) f (r .count f)
+
+-- ---- tests that hold, taken apart and put together
+
+both-first : (a b : Bool) → both a b ≡ true → a ≡ true
+unfolding both choose
+both-first true b h = refl
+both-first false b h = h
+
+both-second : (a b : Bool) → both a b ≡ true → b ≡ true
+unfolding both choose
+both-second true b h = h
+both-second false b h = absurd (true≢false (sym h))
+
+both-hold : (a b : Bool) → a ≡ true → b ≡ true → both a b ≡ true
+unfolding both choose
+both-hold a b e f = rw (e, f)
+
+pub numbers-in : (s t c : ℕ) → numbersOk s t c ≡ true → Numbers s t c
+unfolding numbersOk
+numbers-in s t c h =
+    let h₂ = both-second _ _ h in
+    let h₃ = both-second _ _ h₂ in
+    let h₄ = both-second _ _ h₃ in
+    let h₅ = both-second _ _ h₄ in
+    record {
+      some-slot = ltb-true _ _ (both-first _ _ h);
+      slots = leb-true _ _ (both-first _ _ h₂);
+      some-client = ltb-true _ _ (both-first _ _ h₃);
+      clients = leb-true _ _ (both-first _ _ h₄);
+      some-count = ltb-true _ _ (both-first _ _ h₅);
+      cap = leb-true _ _ (both-second _ _ h₅);
+    }
+
+numbers-from : (s t c : ℕ) → Numbers s t c → numbersOk s t c ≡ true
+unfolding numbersOk
+numbers-from s t c n =
+    both-hold _ _ (lt-ltb _ _ (n .some-slot))
+    (both-hold _ _ (le-leb _ _ (n .slots))
+    (both-hold _ _ (lt-ltb _ _ (n .some-client))
+    (both-hold _ _ (le-leb _ _ (n .clients)) (both-hold _ _ (lt-ltb _ _ (n .some-count)) (le-leb _ _ (n .cap))))))
+
+pub counts-in : (k : Client) (size : ℕ) → countsIn k size ≡ true → Counts k size
+unfolding countsIn
+counts-in k size h =
+    let h₂ = both-second _ _ h in
+    let h₃ = both-second _ _ h₂ in
+    let h₄ = both-second _ _ h₃ in
+    record {
+      stage = leb-true _ _ (both-first _ _ h);
+      held = leb-true _ _ (both-first _ _ h₂);
+      place = ltb-true _ _ (both-first _ _ h₃);
+      busy = ltb-true _ _ (both-first _ _ h₄);
+      seen = leb-true _ _ (both-second _ _ h₄);
+    }
+
+counts-from : (k : Client) (size : ℕ) → Counts k size → countsIn k size ≡ true
+unfolding countsIn
+counts-from k size n =
+    both-hold _ _ (le-leb _ _ (n .stage))
+    (both-hold _ _ (le-leb _ _ (n .held))
+    (both-hold _ _ (lt-ltb _ _ (n .place)) (both-hold _ _ (lt-ltb _ _ (n .busy)) (le-leb _ _ (n .seen)))))
+
+module _ (p : Pool) where
+  -- ---- a frame number
+
+  name-in : (f : ℕ) → frameOk p f ≡ true → Named f → f < total p
+  unfolding frameOk either choose
+  name-in f h d = ltb-true _ _ (rw (ne-eqb f none d) at h)
+
+  name-from : (f : ℕ) → (Named f → f < total p) → frameOk p f ≡ true
+  unfolding frameOk either choose
+  name-from f r = go (ℕ-discrete f none)
+    where
+      go : Dec (f ≡ none) → either (eqb f none) (ltb f (total p)) ≡ true
+      go (yes e) = simp (eq-eqb f none e)
+      go (no d) = simp (ne-eqb f none d, lt-ltb f (total p) (r d))
+
+  used-in : (u : Bool) (f : ℕ) → usedOk u p f ≡ true → Names u (total p) f
+  unfolding usedOk choose
+  used-in true f h = let l = ltb-true _ _ h in record { named = λ _. l; there = λ _. l }
+  used-in false f h = record { named = name-in f h; there = λ e. absurd (true≢false (sym e)) }
+
+  used-from : (u : Bool) (f : ℕ) → Names u (total p) f → usedOk u p f ≡ true
+  unfolding usedOk choose
+  used-from true f r = lt-ltb _ _ (r .there refl)
+  used-from false f r = name-from f (r .named)
+
+  -- ---- a place of the table
+
+  module _ (i : ℕ) where
+    entry-in : entryOk p i ≡ true → Named (entryFrame p i) → (entryFrame p i < total p) × (entryOf p (entryPage p i) ≡ i)
+    unfolding entryOk either choose
+    entry-in h d =
+        let r = rw (ne-eqb (entryFrame p i) none d) at h in
+        (ltb-true _ _ (both-first _ _ r), eqb-true _ _ (both-second _ _ r))
+
+    entry-from : (Named (entryFrame p i) → (entryFrame p i < total p) × (entryOf p (entryPage p i) ≡ i)) → entryOk p i ≡ true
+    unfolding entryOk either choose
+    entry-from r = go (ℕ-discrete (entryFrame p i) none)
+      where
+        go : Dec (entryFrame p i ≡ none) →
+            either (eqb (entryFrame p i) none) (both (ltb (entryFrame p i) (total p)) (eqb (entryOf p (entryPage p i)) i)) ≡ true
+        go (yes e) = simp (eq-eqb (entryFrame p i) none e)
+        go (no d) = rw (ne-eqb (entryFrame p i) none d) (both-hold _ _ (lt-ltb _ _ (r d .0)) (eq-eqb _ _ (r d .1)))
+
+    maps-in : (g : ℕ) → maps p g i ≡ true → (entryPage p i ≡ g) × Named (entryFrame p i)
+    unfolding maps
+    maps-in g h = (eqb-true _ _ (both-first _ _ h), eqb-false _ _ (not-true _ (both-second _ _ h)))
+
+    maps-from : Named (entryFrame p i) → maps p (entryPage p i) i ≡ true
+    unfolding maps
+    maps-from d = both-hold _ _ (eq-eqb (entryPage p i) (entryPage p i) refl) (ap not (ne-eqb _ _ d))
+
+  -- ---- a client
+
+  module _ (c : ℕ) where
+    grant-in :
+        (i : ℕ) → grantOk p c i ≡ true → (grantFrame p c i < total p) × (grantFrame p c (grantOf p c (grantPage p c i)) ≡ grantFrame p c i)
+    unfolding grantOk
+    grant-in i h = (ltb-true _ _ (both-first _ _ h), eqb-true _ _ (both-second _ _ h))
+
+    -- the first grant of a grant's page
+    first-grant : (i : ℕ) → i < client p c .held → First (λ j. eqb (grantPage p c j) (grantPage p c i)) i (grantOf p c (grantPage p c i))
+    unfolding grantOf
+    first-grant i h =
+        let g = grantPage p c i in
+        first (λ j. eqb (grantPage p c j) g) none 0 (client p c .held) i (omega arith) (omega arith) (eq-eqb g g refl)
+
+    client-in : clientOk p c ≡ true → ClientRanged p c
+    unfolding clientOk countsOk countsIn namesOk
+    client-in h =
+        let r = both-second _ _ h in
+        let u = both-first _ _ r in
+        let u₂ = both-second _ _ u in
+        let g = every-at (grantOk p c) (client p c .held) (both-second _ _ r) in
+        record {
+          counts = counts-in (client p c) (p .size) (both-first _ _ h);
+          own = used-in _ _ (both-first _ _ u);
+          found = used-in _ _ (both-first _ _ u₂);
+          victim = used-in _ _ (both-second _ _ u₂);
+          grant = λ i l. grant-in i (g i l) .0;
+          agree = λ i j l m e. sym (grant-in i (g i l) .1) ∙ ap (λ x. grantFrame p c (grantOf p c x)) e ∙ grant-in j (g j m) .1;
+        }
+
+    client-from : ClientRanged p c → clientOk p c ≡ true
+    unfolding clientOk countsOk countsIn namesOk grantOk
+    client-from r =
+        both-hold _ _ (counts-from _ _ (r .counts))
+        (both-hold _ _
+        (both-hold _ _ (used-from _ _ (r .own)) (both-hold _ _ (used-from _ _ (r .found)) (used-from _ _ (r .victim))))
+        (every-holds (grantOk p c) (client p c .held)
+        (λ i l.
+        let f = first-grant i l in
+        both-hold _ _ (lt-ltb _ _ (r .grant i l)) (eq-eqb _ _ (r .agree _ i (omega arith) l (eqb-true _ _ (f .meets)))))))
+
+  -- ---- the pool
+
+  pub ranged : valid p ≡ true → Ranged p
+  unfolding valid stateOk
+  ranged h =
+      let h₂ = both-second _ _ h in
+      let h₃ = both-second _ _ h₂ in
+      let h₄ = both-second _ _ h₃ in
+      let h₅ = both-second _ _ h₄ in
+      let s = every-at (slotOk p) (p .size) (both-first _ _ h₃) in
+      let f = every-at (stateOk p) (total p) (both-first _ _ h₄) in
+      let e = every-at (entryOk p) (total p) (both-first _ _ h₅) in
+      let k = every-at (clientOk p) (clientCount p) (both-second _ _ h₅) in
+      record {
+        numbers = numbers-in _ _ _ (both-first _ _ h);
+        free = leb-true _ _ (both-first _ _ (both-first _ _ h₂));
+        last = name-in _ (both-second _ _ (both-first _ _ h₂));
+        slot = λ i l. name-in _ (s i l);
+        pins = λ i l. leb-true _ _ (both-first _ _ (f i l));
+        count = λ i l. leb-true _ _ (both-second _ _ (f i l));
+        entry = λ i l d. entry-in i (e i l) d .0;
+        apart = λ i j l m d d′ q. sym (entry-in i (e i l) d .1) ∙ ap (entryOf p) q ∙ entry-in j (e j m) d′ .1;
+        client = λ c l. client-in c (k c l);
+      }
+
+  -- a used place is the one that its page is found at, since no other maps the page
+  found-there : Ranged p → (i : ℕ) → i < total p → Named (entryFrame p i) → entryOf p (entryPage p i) ≡ i
+  unfolding entryOf
+  found-there r i l d =
+      let f = first (maps p (entryPage p i)) none 0 (total p) i (omega arith) (omega arith) (maps-from i d) in
+      let m = maps-in _ (entryPage p i) (f .meets) in
+      r .apart _ i (omega arith) l (m .1) d (m .0)
+
+  pub valid-from : Ranged p → valid p ≡ true
+  unfolding valid stateOk
+  valid-from r =
+      both-hold _ _ (numbers-from _ _ _ (r .numbers))
+      (both-hold _ _ (both-hold _ _ (le-leb _ _ (r .free)) (name-from _ (r .last)))
+      (both-hold _ _ (every-holds (slotOk p) (p .size) (λ i l. name-from _ (r .slot i l)))
+      (both-hold _ _ (every-holds (stateOk p) (total p) (λ f l. both-hold _ _ (le-leb _ _ (r .pins f l)) (le-leb _ _ (r .count f l))))
+      (both-hold _ _ (every-holds (entryOk p) (total p) (λ i l. entry-from i (λ d. (r .entry i l d, found-there r i l d))))
+      (every-holds (clientOk p) (clientCount p) (λ c l. client-from c (r .client c l)))))))
