@@ -17,6 +17,12 @@ unfolding both choose
 both-true true b e = (refl, e)
 both-true false b e = absurd (true≢false (sym e))
 
+pub both-first : (a b : Bool) → both a b ≡ true → a ≡ true
+both-first a b e = both-true a b e .0
+
+pub both-second : (a b : Bool) → both a b ≡ true → b ≡ true
+both-second a b e = both-true a b e .1
+
 pub both-yes : (a b : Bool) → a ≡ true → b ≡ true → both a b ≡ true
 unfolding both choose
 both-yes a b x y = rw (x, y)
@@ -76,6 +82,19 @@ scan-only t f d i zero k a b e u = let z : ⊥ = omega arith in absurd z
 scan-only {A} t f d i (suc n) k a b e u =
     by-test (λ (r : A). r ≡ f k) (λ h. ap f (u i h))
     (λ h. let q : (i ≡ k → ⊥) = λ w. true≢false (sym e ∙ sym (ap t w) ∙ h) in scan-only t f d (i + 1) n k (omega arith) (omega arith) e u)
+
+-- a search that has k to find finds it, or one before it
+pub record First (test : ℕ → Bool) (k r : ℕ) : Type 0 where
+  pub early : r ≤ k
+  pub meets : test r ≡ true
+
+pub first : (test : ℕ → Bool) (missing i n k : ℕ) → i ≤ k → k < i + n → test k ≡ true → First test k (scan test (λ x. x) missing i n)
+unfolding scan
+first test missing i zero k a b e = let z : ⊥ = omega arith in absurd z
+first test missing i (suc n) k a b e =
+    by-test (First test k) (λ t. record { early = a; meets = t })
+    (λ f. let later : (i ≡ k → ⊥) = λ w. true≢false (sym e ∙ sym (ap test w) ∙ f) in
+    first test missing (i + 1) n k (omega arith) (omega arith) e)
 
 module _ (t : ℕ → Bool) (n : ℕ) where
   pub some-not : some t n ≡ false → (k : ℕ) → k < n → t k ≡ false

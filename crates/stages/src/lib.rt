@@ -336,10 +336,10 @@ pub fn twelve(client: Client, pins: u8, size: u8) -> Move
     if pins == EVICTED {
         return works(client, 15, Write::Keep);
     }
-    if pins == NO_PIN {
-        return works(client, 13, Write::Keep);
+    if pins > NO_PIN {
+        return busy_visit(client, size);
     }
-    busy_visit(client, size)
+    works(client, 13, Write::Keep)
 }
 
 // 13. "Lower e's count by one unless 0. Now 0, 14; else next slot."

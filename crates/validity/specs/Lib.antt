@@ -2,4 +2,3 @@ pub mod Parts
 pub mod Loops
 pub mod Marks
 pub mod Places
-pub mod Ranges

@@ -66,36 +66,3 @@ comes test found missing n (suc i) h f =
 
 pub found-at : (test : ℕ → Bool) (missing n i : ℕ) → i < n → ((j : ℕ) → j < i → test j ≡ false) → test i ≡ true → scan test (λ x. x) missing 0 n ≡ i
 found-at test missing n i h f t = sym (hit (comes test (λ x. x) missing n i (omega arith) f) h refl t)
-
--- a search that has k to find finds it, or one before it
-pub record First (test : ℕ → Bool) (k r : ℕ) : Type 0 where
-  pub early : r ≤ k
-  pub meets : test r ≡ true
-
-pub first : (test : ℕ → Bool) (missing i n k : ℕ) → i ≤ k → k < i + n → test k ≡ true → First test k (scan test (λ x. x) missing i n)
-unfolding scan
-first test missing i zero k a b e = let z : ⊥ = omega arith in absurd z
-first test missing i (suc n) k a b e =
-    by-test (First test k) (λ t. record { early = a; meets = t })
-    (λ f. let later : (i ≡ k → ⊥) = λ w. true≢false (sym e ∙ sym (ap test w) ∙ f) in
-    first test missing (i + 1) n k (omega arith) (omega arith) e)
-
--- ---- `every` holds exactly if each number below n passes
-
-every-from :
-    (test : ℕ → Bool) (i n : ℕ) → scan (λ x. not (test x)) (λ _. false) true i n ≡ true → (k : ℕ) → i ≤ k → k < i + n → test k ≡ true
-unfolding scan choose
-every-from test i zero h k a b = let z : ⊥ = omega arith in absurd z
-every-from test i (suc n) h k a b = go (test i) refl h (ℕ-discrete i k) (every-from test (i + 1) n)
-  where
-    go : (x : Bool) → test i ≡ x → choose (not x) false (scan (λ x. not (test x)) (λ _. false) true (i + 1) n) ≡ true → Dec (i ≡ k) →
-        (scan (λ x. not (test x)) (λ _. false) true (i + 1) n ≡ true → (k : ℕ) → i + 1 ≤ k → k < i + 1 + n → test k ≡ true) → test k ≡ true
-    go true e r (yes d) rest = rw (← d) e
-    go true e r (no d) rest = rest r k (omega arith) (omega arith)
-    go false e r d rest = absurd (true≢false (sym r))
-
-pub every-at : (test : ℕ → Bool) (n : ℕ) → every test n ≡ true → (k : ℕ) → k < n → test k ≡ true
-every-at test n h k b = every-from test 0 n h k (omega arith) (omega arith)
-
-pub every-holds : (test : ℕ → Bool) (n : ℕ) → ((k : ℕ) → k < n → test k ≡ true) → every test n ≡ true
-every-holds test n f = sym (ends (comes (λ x. not (test x)) (λ _. false) true n n (omega arith) (λ j h. ap not (f j h))) (omega arith))

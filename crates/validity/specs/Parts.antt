@@ -1,9 +1,9 @@
 -- The parts of check 8, each over the lists and numbers that it looks at, for the functions that are lent one array or two. Each is pool's
 -- definition by computation: `in-parts`. Assumes nothing.
 use mathlib.Core.Path.{_≡_, refl}
-use mathlib.Core.Bool.{Bool, not}
+use mathlib.Core.Bool.{Bool, true, not}
 use mathlib.Core.List.{List}
-use Prim.Native.Nat.{ℕ}
+use Prim.Native.Nat.{ℕ, _≤_}
 use lib.Dec.{eqb, ltb, leb}
 use lib.ListN.{getD}
 use Rattle.pool.specs.Choose.{choose, both, either, scan, every}
@@ -13,6 +13,7 @@ use Rattle.pool.specs.Table.{maps, entryOf}
 use Rattle.pool.specs.Grants.{grantOf}
 use Rattle.pool.specs.Valid.{numbersOk, frameOk, usedOk, usesOwn, usesFound, usesVictim, stateOk, entryOk, grantOk, countsOk, namesOk}
 use Rattle.pool.specs.Valid.{clientOk, valid}
+use Rattle.ranges.specs.Ranges.{counts-in}
 use Rattle.pool.specs.declared.Pool.{Pool}
 use Rattle.pool.specs.declared.Client.{Client}
 
@@ -26,6 +27,10 @@ usedIn used n f = choose used (ltb f n) (nameIn n f)
 
 unfoldable pub countsIn : Client → ℕ → Bool
 countsIn k size = both (leb (k .stage) 23) (both (leb (k .held) 8) (both (ltb (k .place) size) (both (ltb (k .busy) size) (leb (k .seen) size))))
+
+pub few-grants : (k : Client) (size : ℕ) → countsIn k size ≡ true → k .held ≤ 8
+unfolding countsIn
+few-grants k size h = counts-in k size h .held
 
 unfoldable pub namesIn : Client → ℕ → Bool
 namesIn k n =

@@ -10,7 +10,8 @@ use borrow.Author.Tests.{lt-ltb, eq-eqb, ne-eqb}
 use Rattle.pool.specs.Choose.{choose, both, either}
 use Rattle.pool.specs.State.{none, within, ofClient, grantPlace, no-client}
 use Rattle.pool.specs.declared.Client.{Client}
-use Rattle.validity.specs.Loops.{found-at, first}
+use Rattle.laws.specs.Scans.{first}
+use Rattle.validity.specs.Loops.{found-at}
 use Rattle.validity.specs.Marks.{New}
 use Rattle.validity.specs.Parts.{mapsAt, placeOf, entryIn, firstOf, grantIn, clientAt}
 

@@ -1,5 +1,8 @@
--- The code and `stage12` test the same numbers in the same order, and each call ensures that branch of the definition. Assumes nothing.
+-- The code tests the pins in document 01's order, evicted, above 0, 0; `stage12` asks for 0 before it says above 0. The three cases are the
+-- same. Assumes nothing.
 use borrow.Author.Needs.{needs}
+use borrow.Author.Tests.{eq-eqb, ne-eqb}
+use native.Mathlib.Omega.{arith}
 use mathlib.Core.Path.{_∙_}
 use Rattle.pool.specs.Choose.{choose}
 use Rattle.pool.specs.Stages.{stage12}
@@ -13,11 +16,15 @@ returns c = c .works .ensures ∙ search tests
 
 returns-2 : tie.Need-returns-2
 unfolding stage12 choose
-returns-2 c = c .works2 .ensures ∙ search tests
+returns-2 c =
+    let n = c .before .before .before .args .pins in
+    c .busy-visit .ensures ∙ simp (ne-eqb n 0 (λ e. omega arith), ne-eqb n 1 (λ e. omega arith))
 
 returns-3 : tie.Need-returns-3
 unfolding stage12 choose
-returns-3 c = c .busy-visit .ensures ∙ search tests
+returns-3 c =
+    let n = c .before .before .before .args .pins in
+    c .works2 .ensures ∙ simp (ne-eqb n 0 (λ e. omega arith), eq-eqb n 1 (omega arith))
 
 pub twelve-spec : {M : Type 1} → statement M
 twelve-spec =

@@ -12,7 +12,7 @@ use Rattle.pool.specs.Choose.{both}
 use Rattle.pool.specs.Valid.{valid}
 use Rattle.validity.specs.Loops.{stops, goes}
 use Rattle.validity.specs.Parts.{fromClients, fromEntries, fromStates, fromSlots, fromFree, nameIn, in-parts}
-use Rattle.validity.specs.Ranges.{Numbers, numbers-in, total-in}
+use Rattle.ranges.specs.Ranges.{Numbers, numbers-in, total-in}
 use Rattle.validity.proofs.valid.Statement.{statement}
 use Rattle.validity.proofs.valid.Tie as tie
 

@@ -6,7 +6,7 @@ use mathlib.Core.List.{List}
 use native.Mathlib.Decide.{ℕ-discrete}
 use native.Mathlib.Omega.{arith}
 use Prim.Native.Nat.{ℕ, _<_, _≤_}
-use lib.Dec.{eqb, ltb}
+use lib.Dec.{eqb, ltb, leb}
 use lib.ListN.{getD}
 use borrow.Author.Tests.{ltb-true, leb-true, eqb-true, eqb-false, lt-ltb, le-leb, eq-eqb, ne-eqb, not-true}
 use Rattle.pool.specs.Choose.{choose, both, either}
@@ -18,8 +18,7 @@ use Rattle.pool.specs.Valid.{countsOk, namesOk, clientOk, valid}
 use Rattle.pool.specs.declared.Pool.{Pool}
 use Rattle.pool.specs.declared.Client.{Client}
 use Rattle.laws.specs.Choices.{by-test, chosen}
-use Rattle.validity.specs.Loops.{First, first, every-at, every-holds}
-use Rattle.validity.specs.Parts.{countsIn}
+use Rattle.laws.specs.Scans.{First, first, every-at, every-yes, both-first, both-second, both-yes}
 
 -- ---- the ranges
 
@@ -89,20 +88,6 @@ count-low p r f = low (p .counts) (total p) (p .cap) f (r .count f)
 
 -- ---- tests that hold, taken apart and put together
 
-both-first : (a b : Bool) → both a b ≡ true → a ≡ true
-unfolding both choose
-both-first true b h = refl
-both-first false b h = h
-
-both-second : (a b : Bool) → both a b ≡ true → b ≡ true
-unfolding both choose
-both-second true b h = h
-both-second false b h = absurd (true≢false (sym h))
-
-both-hold : (a b : Bool) → a ≡ true → b ≡ true → both a b ≡ true
-unfolding both choose
-both-hold a b e f = rw (e, f)
-
 pub numbers-in : (s t c : ℕ) → numbersOk s t c ≡ true → Numbers s t c
 unfolding numbersOk
 numbers-in s t c h =
@@ -122,13 +107,16 @@ numbers-in s t c h =
 numbers-from : (s t c : ℕ) → Numbers s t c → numbersOk s t c ≡ true
 unfolding numbersOk
 numbers-from s t c n =
-    both-hold _ _ (lt-ltb _ _ (n .some-slot))
-    (both-hold _ _ (le-leb _ _ (n .slots))
-    (both-hold _ _ (lt-ltb _ _ (n .some-client))
-    (both-hold _ _ (le-leb _ _ (n .clients)) (both-hold _ _ (lt-ltb _ _ (n .some-count)) (le-leb _ _ (n .cap))))))
+    both-yes _ _ (lt-ltb _ _ (n .some-slot))
+    (both-yes _ _ (le-leb _ _ (n .slots))
+    (both-yes _ _ (lt-ltb _ _ (n .some-client))
+    (both-yes _ _ (le-leb _ _ (n .clients)) (both-yes _ _ (lt-ltb _ _ (n .some-count)) (le-leb _ _ (n .cap))))))
 
-pub counts-in : (k : Client) (size : ℕ) → countsIn k size ≡ true → Counts k size
-unfolding countsIn
+-- the test of a client's counts, whatever it is called
+abbrev pub counted : Client → ℕ → Bool
+counted k size = both (leb (k .stage) 23) (both (leb (k .held) 8) (both (ltb (k .place) size) (both (ltb (k .busy) size) (leb (k .seen) size))))
+
+pub counts-in : (k : Client) (size : ℕ) → counted k size ≡ true → Counts k size
 counts-in k size h =
     let h₂ = both-second _ _ h in
     let h₃ = both-second _ _ h₂ in
@@ -141,12 +129,11 @@ counts-in k size h =
       seen = leb-true _ _ (both-second _ _ h₄);
     }
 
-counts-from : (k : Client) (size : ℕ) → Counts k size → countsIn k size ≡ true
-unfolding countsIn
+counts-from : (k : Client) (size : ℕ) → Counts k size → counted k size ≡ true
 counts-from k size n =
-    both-hold _ _ (le-leb _ _ (n .stage))
-    (both-hold _ _ (le-leb _ _ (n .held))
-    (both-hold _ _ (lt-ltb _ _ (n .place)) (both-hold _ _ (lt-ltb _ _ (n .busy)) (le-leb _ _ (n .seen)))))
+    both-yes _ _ (le-leb _ _ (n .stage))
+    (both-yes _ _ (le-leb _ _ (n .held))
+    (both-yes _ _ (lt-ltb _ _ (n .place)) (both-yes _ _ (lt-ltb _ _ (n .busy)) (le-leb _ _ (n .seen)))))
 
 module _ (p : Pool) where
   -- ---- a frame number
@@ -189,7 +176,7 @@ module _ (p : Pool) where
         go : Dec (entryFrame p i ≡ none) →
             either (eqb (entryFrame p i) none) (both (ltb (entryFrame p i) (total p)) (eqb (entryOf p (entryPage p i)) i)) ≡ true
         go (yes e) = simp (eq-eqb (entryFrame p i) none e)
-        go (no d) = rw (ne-eqb (entryFrame p i) none d) (both-hold _ _ (lt-ltb _ _ (r d .0)) (eq-eqb _ _ (r d .1)))
+        go (no d) = rw (ne-eqb (entryFrame p i) none d) (both-yes _ _ (lt-ltb _ _ (r d .0)) (eq-eqb _ _ (r d .1)))
 
     maps-in : (g : ℕ) → maps p g i ≡ true → (entryPage p i ≡ g) × Named (entryFrame p i)
     unfolding maps
@@ -197,7 +184,7 @@ module _ (p : Pool) where
 
     maps-from : Named (entryFrame p i) → maps p (entryPage p i) i ≡ true
     unfolding maps
-    maps-from d = both-hold _ _ (eq-eqb (entryPage p i) (entryPage p i) refl) (ap not (ne-eqb _ _ d))
+    maps-from d = both-yes _ _ (eq-eqb (entryPage p i) (entryPage p i) refl) (ap not (ne-eqb _ _ d))
 
   -- ---- a client
 
@@ -215,7 +202,7 @@ module _ (p : Pool) where
         first (λ j. eqb (grantPage p c j) g) none 0 (client p c .held) i (omega arith) (omega arith) (eq-eqb g g refl)
 
     client-in : clientOk p c ≡ true → ClientRanged p c
-    unfolding clientOk countsOk countsIn namesOk
+    unfolding clientOk countsOk namesOk
     client-in h =
         let r = both-second _ _ h in
         let u = both-first _ _ r in
@@ -231,15 +218,15 @@ module _ (p : Pool) where
         }
 
     client-from : ClientRanged p c → clientOk p c ≡ true
-    unfolding clientOk countsOk countsIn namesOk grantOk
+    unfolding clientOk countsOk namesOk grantOk
     client-from r =
-        both-hold _ _ (counts-from _ _ (r .counts))
-        (both-hold _ _
-        (both-hold _ _ (used-from _ _ (r .own)) (both-hold _ _ (used-from _ _ (r .found)) (used-from _ _ (r .victim))))
-        (every-holds (grantOk p c) (client p c .held)
+        both-yes _ _ (counts-from _ _ (r .counts))
+        (both-yes _ _
+        (both-yes _ _ (used-from _ _ (r .own)) (both-yes _ _ (used-from _ _ (r .found)) (used-from _ _ (r .victim))))
+        (every-yes (grantOk p c) (client p c .held)
         (λ i l.
         let f = first-grant i l in
-        both-hold _ _ (lt-ltb _ _ (r .grant i l)) (eq-eqb _ _ (r .agree _ i (omega arith) l (eqb-true _ _ (f .meets)))))))
+        both-yes _ _ (lt-ltb _ _ (r .grant i l)) (eq-eqb _ _ (r .agree _ i (omega arith) l (eqb-true _ _ (f .meets)))))))
 
   -- ---- the pool
 
@@ -277,9 +264,9 @@ module _ (p : Pool) where
   pub valid-from : Ranged p → valid p ≡ true
   unfolding valid stateOk
   valid-from r =
-      both-hold _ _ (numbers-from _ _ _ (r .numbers))
-      (both-hold _ _ (both-hold _ _ (le-leb _ _ (r .free)) (name-from _ (r .last)))
-      (both-hold _ _ (every-holds (slotOk p) (p .size) (λ i l. name-from _ (r .slot i l)))
-      (both-hold _ _ (every-holds (stateOk p) (total p) (λ f l. both-hold _ _ (le-leb _ _ (r .pins f l)) (le-leb _ _ (r .count f l))))
-      (both-hold _ _ (every-holds (entryOk p) (total p) (λ i l. entry-from i (λ d. (r .entry i l d, found-there r i l d))))
-      (every-holds (clientOk p) (clientCount p) (λ c l. client-from c (r .client c l)))))))
+      both-yes _ _ (numbers-from _ _ _ (r .numbers))
+      (both-yes _ _ (both-yes _ _ (le-leb _ _ (r .free)) (name-from _ (r .last)))
+      (both-yes _ _ (every-yes (slotOk p) (p .size) (λ i l. name-from _ (r .slot i l)))
+      (both-yes _ _ (every-yes (stateOk p) (total p) (λ f l. both-yes _ _ (le-leb _ _ (r .pins f l)) (le-leb _ _ (r .count f l))))
+      (both-yes _ _ (every-yes (entryOk p) (total p) (λ i l. entry-from i (λ d. (r .entry i l d, found-there r i l d))))
+      (every-yes (clientOk p) (clientCount p) (λ c l. client-from c (r .client c l)))))))
