@@ -1,0 +1,148 @@
+-- Checks 1 and 2 and the first record end the run as the definition does, or the first record sets the pool up; then its line is written, and
+-- what `run_calls` leaves after that line is what the whole run leaves. Assumes nothing.
+use borrow.Author.Needs.{needs}
+use native.Mathlib.Omega.{arith}
+use mathlib.Core.Path.{_≡_, refl, sym, ap, subst, _∙_}
+use mathlib.Core.Bool.{true}
+use mathlib.Core.List.{List}
+use Prim.Native.Nat.{ℕ, _+_, _-_, _≤_}
+use lib.ListN.{length}
+use denote.Ref.{now}
+use Rattle.pool.specs.Answers.{refusalOf, codeOf, valueOf}
+use Rattle.pool.specs.Calls.{setupOf}
+use Rattle.pool.specs.Schedule.{read, line}
+use Rattle.pool.specs.declared.Outcome.{Outcome}
+use Rattle.pool.specs.declared.Reading.the-variants.{Setup}
+use Rattle.report.specs.Lines.{written, line-fits}
+use Rattle.schedule.specs.Rest.{SetUp}
+use Rattle.schedule.proofs.Readings.{first-unread}
+use Rattle.schedule.proofs.Runs.{from, after-line, end-here, report-here, same-space, line-done, whole-run}
+use Rattle.schedule.proofs.First.{too-long, no-room, unread-first, setup-whole, refused-first, set-up, accepted-first, from-first}
+use Rattle.schedule.proofs.Going.{same-line}
+use Rattle.schedule.proofs.run.Statement.{statement}
+use Rattle.schedule.proofs.run.Tie as tie
+
+returns : tie.Need-returns
+returns c =
+    let w = whole-run _ _ _ (too-long _ _ (c .if1 .taken)) in
+    (sym (end-here 0 0 1) ∙ w .0, sym (report-here 0 0 1 _) ∙ w .1)
+
+returns-2 : tie.Need-returns-2
+returns-2 c =
+    let w = whole-run _ _ _ (no-room _ _ (c .before .if1 .left) (c .if2 .taken)) in
+    (sym (end-here 0 0 2) ∙ w .0, sym (report-here 0 0 2 _) ∙ w .1)
+
+returns-3 : tie.Need-returns-3
+returns-3 c =
+    let s = c .before .before in
+    let r = s .before .before .before .before in
+    let e = first-unread _ (r .read .ensures) (s .before .before .before .match .keys2) (s .before .unread-of .ensures) in
+    let w = whole-run _ _ _ (unread-first _ _ (r .before .before .if1 .left) (r .before .if2 .left) _ e) in
+    (s .stop .ensures .0 ∙ w .0, s .stop .ensures .1 ∙ w .1)
+
+-- ---- the first record is a setup
+
+abbrev Told : Type 0
+Told = tie.After-known-told
+
+abbrev args : Told → tie.Start
+args c = c .before .before .before .before .before .before .before .before
+
+is-setup : (c : Told) →
+    let v = c .before .reading .given .0 in
+    read true (now (args c .args .schedule)) ≡ Setup (v .0) (v .1 .0) (v .1 .1 .0) (v .1 .1 .1 .0)
+is-setup c = sym (c .before .before .before .read .ensures) ∙ c .before .reading .given .1
+
+-- what the setup comes to
+abbrev set : Told → Outcome
+set c = let v = c .before .reading .given .0 in setupOf (v .0) (v .1 .0) (v .1 .1 .0) (v .1 .1 .1 .0)
+
+made : (c : tie.After-setup) → c .setup .result ≡ set (c .before)
+made c = c .setup .ensures .0
+
+refusal-is : (c : tie.After-refusal-of) → c .refusal-of .result ≡ refusalOf (set (c .before .before) .answer)
+refusal-is c = c .refusal-of .ensures ∙ ap (λ (o : Outcome). refusalOf (o .answer)) (made (c .before))
+
+short : (c : Told) → length (now (args c .args .schedule)) ≤ 16384
+short c = c .before .before .before .before .before .if1 .left
+
+room : (c : Told) → 24 ≤ length (now (args c .args .report))
+room c = c .before .before .before .before .if2 .left
+
+returns-4 : tie.Need-returns-4
+returns-4 c =
+    let s = c .before .before in
+    let refused = s .before .before in
+    let r = refused .before in
+    let t = r .before .before in
+    let w = whole-run _ _ _ (refused-first _ _ (short t) (room t) _ _ _ _ (is-setup t) _ (refusal-is r) (refused .if3 .taken)) in
+    (s .stop2 .ensures .0 ∙ w .0, s .stop2 .ensures .1 ∙ w .1)
+
+-- ---- its line
+
+abbrev Wrote : Type 0
+Wrote = tie.After-write-line
+
+abbrev told : Wrote → Told
+told c = c .before .before .before .before .before .before .before
+
+accepted : (c : Wrote) → refusalOf (set (told c) .answer) ≡ 0
+accepted c = sym (refusal-is (c .before .before .before .before .before)) ∙ c .before .before .before .before .if3 .left
+
+abbrev its-line : Wrote → List ℕ
+its-line c = line 0 0 (codeOf (set (told c) .answer)) (valueOf (set (told c) .answer))
+
+line-is : (c : Wrote) → line 0 0 (c .before .before .code-of .result) (c .before .value-of .result) ≡ its-line c
+line-is c =
+    let e = made (c .before .before .before .before .before .before) in
+    same-line 0 refl (c .before .before .code-of .ensures .0 ∙ ap (λ (o : Outcome). codeOf (o .answer)) e)
+    (c .before .value-of .ensures ∙ ap (λ (o : Outcome). valueOf (o .answer)) e)
+
+fits : (c : Wrote) → 0 + length (its-line c) ≤ length (now (args (told c) .args .report))
+fits c =
+    let few = line-fits 0 0 (c .before .before .code-of .result) (c .before .value-of .result) (omega arith) (omega arith)
+    (omega (arith, c .before .before .code-of .ensures .1)) (omega (arith, c .before .value-of .ok)) in
+    omega (arith, few, ap length (line-is c), room (told c))
+
+counted : (c : Wrote) → c .write-line .result ≡ length (its-line c)
+counted c = c .write-line .ensures .0 ∙ ap length (line-is c)
+
+wrote : (c : Wrote) → let space = now (args (told c) .args .report) in c .write-line .last .0 ≡ written (its-line c) (from 0 space)
+wrote c = c .write-line .ensures .1 ∙ ap (λ (w : List ℕ). written w (from 0 (now (args (told c) .args .report)))) (line-is c)
+
+run-calls-requires : tie.Need-run-calls-requires
+run-calls-requires c κs =
+    let x = c .before .before .before .before in
+    let t = told x in
+    let same = same-space 0 (its-line x) (now (args t .args .report)) (fits x) (counted x) (wrote x) in (
+      subst (λ (o : Outcome). SetUp (o .pool)) (sym (made (x .before .before .before .before .before .before))) (set-up _ _ _ _ (accepted x)),
+      (
+        setup-whole _ _ (short t) (room t) _ _ _ _ (is-setup t),
+        short t,
+        subst (λ (n : ℕ). x .write-line .result ≤ n) (sym same) (omega (arith, counted x, fits x)),
+      ),
+    )
+
+returns-5 : tie.Need-returns-5
+returns-5 c =
+    let r = c .before .before in
+    let x = r .before .before .before .before .before in
+    let t = told x in
+    let space = now (args t .args .report) in
+    let same = same-space 0 (its-line x) space (fits x) (counted x) (wrote x) in
+    let space-left :
+    length (after-line 0 (its-line x) space (fits x) (counted x) (wrote x)) - x .write-line .result ≡ length space - length (its-line x) =
+    omega (arith, same, counted x) in
+    let its-pool = ap (λ (o : Outcome). o .pool) (made (x .before .before .before .before .before .before)) in
+    let left = from-first (now (args t .args .schedule)) its-pool space-left in
+    let after = line-done 0 (its-line x) space (fits x) (counted x) (wrote x) (x .write-line .result) (omega (arith, counted x)) left in
+    let w = whole-run _ _ _ (accepted-first _ _ (short t) (room t) _ _ _ _ (is-setup t) (accepted x)) in
+    (r .run-calls .ensures .0 ∙ after .0 ∙ w .0, r .run-calls .ensures .1 ∙ after .1 ∙ w .1)
+
+pub run-spec : {M : Type 1} → statement M
+run-spec =
+    tie.close
+    (tie.spec
+    returns returns-2 (λ c κs. search needs) (λ c. search needs) (λ c κs. search needs) (λ c κs. search needs) (λ c. search needs) returns-3
+    (λ c κs. search needs) (λ c κs. search needs) (λ c κs. search needs) (λ c. search needs) returns-4 (λ c. search needs) (λ c. search needs)
+    (λ c. search needs) (λ c κs. search needs) (λ c κs. search needs) (λ c κs. search needs) run-calls-requires (λ c. search needs) returns-5)

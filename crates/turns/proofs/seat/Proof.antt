@@ -1,0 +1,18 @@
+-- The code takes the definition's branch, by the same test. Assumes nothing.
+use mathlib.Core.Path.{sym}
+use borrow.Author.Tests.{lt-ltb, le-ltb}
+use Rattle.laws.specs.Choices.{chosen, passed}
+use Rattle.turns.specs.Turn.{seat}
+use Rattle.turns.proofs.seat.Statement.{statement}
+use Rattle.turns.proofs.seat.Tie as tie
+
+returns : tie.Need-returns
+unfolding seat
+returns c = sym (chosen _ _ _ (lt-ltb _ _ (c .if1 .taken)))
+
+returns-2 : tie.Need-returns-2
+unfolding seat
+returns-2 c = sym (passed _ _ _ (le-ltb _ _ (c .if1 .left)))
+
+pub seat-spec : {M : Type 1} → statement M
+seat-spec = tie.close (tie.spec returns returns-2)

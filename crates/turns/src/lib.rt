@@ -1,0 +1,110 @@
+// One record's action on a pool that passes check 8, decided over the pool's arrays where they lie: the move of a call, or where the call is
+// turned down by 9 to 13 one that changes nothing.
+ghost use mathlib.Core.Path.{_≡_};
+ghost use Prim.Native.Nat.{_<_, _≤_};
+ghost use Rattle.pool.specs.State.{client};
+ghost use Rattle.pool.specs.Calls.{caller, refusalAt};
+ghost use Rattle.pool.specs.declared.Pool.{Pool};
+ghost use Rattle.moves.specs.Lends.{Lends, Ready};
+ghost use Rattle.turns.specs.Turn.{seat, still, turn, Turns};
+use moves::Numbers;
+use pool::Answer;
+use pool::Call;
+use pool::Client;
+use pool::Counted;
+use pool::GrantChange;
+use pool::Move;
+use pool::NONE;
+use pool::Write;
+
+// The client whose record is put back: the one with number c, the first where the pool has none such.
+pub fn seat(client_count: u8, c: u8) -> usize
+    ensures { λ r. ⌜ r ≡ seat «client_count» c ⌝ }
+{
+    if c < client_count { c as usize } else { 0 }
+}
+
+// "All but 15 change no pool, tally or list."
+fn still(client: Client, n: u8) -> Move
+    ensures { λ r. ⌜ r ≡ still client n ⌝ }
+{
+    Move {
+        next: client,
+        grants: GrantChange::Same,
+        write: Write::Keep,
+        answer: Answer::Refused(n),
+        counted: Counted::Nothing,
+    }
+}
+
+// By which of 10 to 13 a call of a client is turned down; 0: by none.
+fn refusal_at(call: Call, who: Client, grant_pages: &[u32; 128]) -> u8
+    requires { ⌜ (caller call < 16) × (who .held ≤ 8) ⌝ }
+    ensures { λ r. ⌜ ((p : Pool) → client p (caller call) ≡ who → p .«grant_pages» ≡ now («grant_pages» .entry) →
+        r ≡ refusalAt p who call) ⌝ }
+{
+    let stage = who.stage;
+    match call {
+        Call::Step(c) => if stage == 0 { 11 } else { 0 },
+        Call::Begin(c, page) => {
+            if stage != 0 {
+                return 10;
+            }
+            if who.held < 8 { 0 } else { 12 }
+        }
+        Call::Release(c, page) => {
+            if stage != 0 {
+                return 10;
+            }
+            let i = leaves::grant_of(grant_pages, c as usize, who.held, page);
+            if i == NONE { 13 } else { 0 }
+        }
+    }
+}
+
+// The action of a call. `fresh` is the frame to take, looked at by stage 4 alone.
+pub fn decide<'a>(
+    call: Call,
+    client_count: u8,
+    client: Client,
+    n: Numbers,
+    fresh: u8,
+    slots: &'a [u8; 64],
+    pages: &'a [u32; 96],
+    pins: &'a [u8; 96],
+    counts: &'a [u8; 96],
+    table_pages: &'a [u32; 96],
+    table_frames: &'a [u8; 96],
+    grant_pages: &'a [u32; 128],
+    grant_frames: &'a [u8; 128],
+) -> Move
+    requires { ⌜ Ready client n (now pins) ⌝ }
+    requires { ⌜ («client_count» ≤ 16) × (client .held ≤ 8) ⌝ }
+    ensures { λ r. ⌜ ((p : Pool) →
+        Lends p n (now (slots .entry)) (now (pages .entry)) (now (pins .entry)) (now (counts .entry))
+        (now («table_pages» .entry)) (now («table_frames» .entry)) →
+        Turns p call «client_count» client fresh (now («grant_pages» .entry)) (now («grant_frames» .entry)) → r ≡ turn p call) ⌝ }
+{
+    let c = answers::caller(call);
+    if c >= client_count {
+        return still(client, 9);
+    }
+    let refused = refusal_at(call, client, grant_pages);
+    if refused != 0 {
+        return still(client, refused);
+    }
+    moves::call_move(
+        call,
+        client,
+        n,
+        fresh,
+        slots,
+        pages,
+        pins,
+        counts,
+        table_pages,
+        table_frames,
+        grant_pages,
+        grant_frames,
+    )
+}
