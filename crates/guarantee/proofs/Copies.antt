@@ -20,12 +20,13 @@ use Rattle.laws.specs.Scans.{some-true}
 use Rattle.invariant.proofs.Reached.{Reached, one}
 use Rattle.invariant.proofs.Sums.{one-is, sum-has}
 use Rattle.invariant.proofs.Facts.{grant-live}
+use Rattle.invariant.proofs.Grants.{grantsOf}
 use Rattle.invariant.proofs.Calls.{reached-call}
 use Rattle.guarantee.specs.Runs.{At, Throughout, events}
 use Rattle.guarantee.specs.Sequential as Plain
 use Rattle.guarantee.specs.Sequential.{Place, Taker, Sequential, taker, member, Keeps, StepRule, adds, admits, drops, answers, moves, refuses, Rule, turns, begins, releases, steps}
 use Rattle.guarantee.specs.Claims.{OneCopy, HeldPinned, NoHeldEvicted}
-use Rattle.guarantee.proofs.Mirror.{Shows, is-member, grantsOf, Mirrors, view, mirrors-view}
+use Rattle.guarantee.proofs.Mirror.{Shows, is-member, Mirrors, view, mirrors-view}
 use Rattle.guarantee.proofs.Follow.{Followed}
 use Rattle.guarantee.proofs.Frames.{same-frame}
 use Rattle.guarantee.proofs.Places.{there, shows}

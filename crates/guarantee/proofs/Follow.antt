@@ -32,10 +32,9 @@ use Rattle.invariant.proofs.After.{pins-in}
 use Rattle.invariant.proofs.Sums.{sum-zero, sum-has}
 use Rattle.invariant.proofs.Searches.{grantOf-found}
 use Rattle.invariant.proofs.Facts.{grant-live}
-use Rattle.invariant.proofs.Grants.{keeps, ends}
+use Rattle.invariant.proofs.Grants.{grantsOf, keeps, ends, grantsOf-keeps, grantsOf-ends}
 use Rattle.guarantee.specs.Sequential.{Taker, Sequential, taker, member, without, turnedBy, Rule, turns, begins, releases, steps}
-use Rattle.guarantee.proofs.Mirror.{times, not-member, is-member, without-times, without-length, grantsOf, Mirrors, open-many, open-grants}
-use Rattle.guarantee.proofs.Pages.{pages-kept, pages-fewer}
+use Rattle.guarantee.proofs.Mirror.{times, not-member, is-member, without-times, without-length, Mirrors, open-many, open-grants}
 use Rattle.guarantee.proofs.Weights.{Weighs}
 use Rattle.guarantee.proofs.Shown.{as-was, pins-put}
 use Rattle.guarantee.proofs.Simulate.{Stepped, goes, stops, Acting, same-places}
@@ -136,7 +135,7 @@ module _ {p : Pool} {q : Sequential} (r : Reached p) (mirror : Mirrors p q) wher
                 stage = refl;
                 wants = λ _. refl;
                 many = open-many (mirror .takers c) (rw s refl) ∙ omega arith;
-                grants = λ h. open-grants (mirror .takers c) (rw s refl) h ∙ (sym (pages-kept p c m (r .shape) here few refl refl h) ∙ omega arith);
+                grants = λ h. open-grants (mirror .takers c) (rw s refl) h ∙ (sym (grantsOf-keeps p c m (r .shape) here few refl refl h) ∙ omega arith);
               }) (as-was p c m r tt);
         }
       where
@@ -183,7 +182,7 @@ module _ {p : Pool} {q : Sequential} (r : Reached p) (mirror : Mirrors p q) wher
 
         fewer : (h : ℕ) → times h (without g (t .grants)) ≡ grantsOf (apply p c m) c h
         fewer h =
-            let now = pages-fewer p c m (r .shape) here few i refl refl (found .0) h in
+            let now = grantsOf-ends p c m (r .shape) here few i refl refl (found .0) h in
             omega (arith, without-times g h (t .grants) some, open-grants (mirror .takers c) (rw s refl) h, ap (λ (x : ℕ). one (eqb x h)) (found .1))
 
         ended : Followed q (Release c g) (record { answer = m .answer; counted = m .counted; pool = apply p c m })

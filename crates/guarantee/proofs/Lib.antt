@@ -6,7 +6,6 @@ pub mod Listed
 pub mod Seen
 -- claim d: the sequential pool, and with it claims a, b and the tally's sum
 pub mod Mirror
-pub mod Pages
 pub mod Frames
 pub mod Places
 pub mod Weights

@@ -25,12 +25,11 @@ use Rattle.invariant.proofs.Reached.{Reached, one, mapped, pinsFound, Seated, L
 use Rattle.invariant.proofs.After.{client-same, client-other, pins-in}
 use Rattle.invariant.proofs.Sums.{sum-zero}
 use Rattle.invariant.proofs.Facts.{own-pins, grant-live}
-use Rattle.invariant.proofs.Grants.{Granting, keeps, opens}
+use Rattle.invariant.proofs.Grants.{grantsOf, Granting, keeps, opens, grantsOf-other, grantsOf-keeps, grantsOf-opens}
 use Rattle.invariant.proofs.Table.{suc-not, some-suc}
 use Rattle.guarantee.specs.Sequential.{Place, empty, holds, Taker, Sequential, place, resting, taker, member, Absent, Unused, adding, admitting, answering, StepRule, adds, admits, drops, answers, moves, refuses}
-use Rattle.guarantee.proofs.Mirror.{seen, seen-unmapped, seen-full, not-member, grantsOf, Taken, open-many, open-grants, taken-as, Mirrors, none-evicted}
+use Rattle.guarantee.proofs.Mirror.{seen, seen-unmapped, seen-full, not-member, Taken, open-many, open-grants, taken-as, Mirrors, none-evicted}
 use Rattle.guarantee.proofs.Takers.{Outward, outward, working, gotten, denied, quiet, quiet-means, Stays, Gets, rests, stays, pins-more, answered, admitted}
-use Rattle.guarantee.proofs.Pages.{pages-other, pages-kept, pages-more}
 use Rattle.guarantee.proofs.Frames.{same-frame, live-found, found-pinned}
 use Rattle.guarantee.proofs.Places.{there, shows}
 use Rattle.guarantee.proofs.Weights.{full, kept-set, gained, lost, Weighs}
@@ -88,7 +87,7 @@ module _ {p : Pool} {c : ℕ} {q : Sequential} (acting : Acting p c q) where
         go (yes e) = rw (e, client-same p c m (r .shape) here, getD-set-same (q .takers) c next (resting []) (omega (arith, mirror .count))) new
         go (no z) =
             rw (client-other p c m (r .shape) d z, getD-set-other (q .takers) c d next (resting []) z)
-            (taken-as (pages-other p c m (r .shape) here (r .ranges .held-ok) how d z) (mirror .takers d))
+            (taken-as (grantsOf-other p c m (r .shape) here (r .ranges .held-ok) how d z) (mirror .takers d))
 
     with-places : (places : List Place) → length places ≡ length (q .places)
         → ((i : ℕ) → getD places i empty ≡ seen (apply p c m) (slot (apply p c m) i)) → After m places next
@@ -125,7 +124,7 @@ module _ {p : Pool} {c : ℕ} {q : Sequential} (acting : Acting p c q) where
           at-stage = ap (λ (x : Outward). x .stage) o;
           same-page = ap (λ (x : Outward). x .page) o;
           same-held = same-held;
-          same-grants = pages-kept p c m (r .shape) here few (ap (λ (x : Outward). x .grants) o) same-held;
+          same-grants = grantsOf-keeps p c m (r .shape) here few (ap (λ (x : Outward). x .grants) o) same-held;
         }
 
   module _ (m : Move) (f : ℕ) (u : Counted) (o : outward m ≡ gotten k f u) (room : k .held < 8) where
@@ -140,7 +139,7 @@ module _ {p : Pool} {c : ℕ} {q : Sequential} (acting : Acting p c q) where
         record {
           at-rest = ap (λ (x : Outward). x .stage) o;
           more-held = more-held;
-          more-grants = pages-more p c m (r .shape) here few (k .page) f (ap (λ (x : Outward). x .grants) o) more-held room;
+          more-grants = grantsOf-opens p c m (r .shape) here few (k .page) f (ap (λ (x : Outward). x .grants) o) more-held room;
         }
 
   -- ---- the six kinds of move
@@ -241,7 +240,7 @@ module _ {p : Pool} {c : ℕ} {q : Sequential} (acting : Acting p c q) where
           mirrors =
               same-places m _ (keeps grants held)
               (rests (ap (λ (x : Outward). x .stage) o) (open-many taken pk ∙ sym held)
-              (λ g. open-grants taken pk g ∙ sym (pages-kept p c m (r .shape) here few grants held g))) (as-was p c m r s);
+              (λ g. open-grants taken pk g ∙ sym (grantsOf-keeps p c m (r .shape) here few grants held g))) (as-was p c m r s);
         })
       where
         grants : m .grants ≡ Same

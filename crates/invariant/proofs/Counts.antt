@@ -91,7 +91,7 @@ module _ (p : Pool) (c : ℕ) (here : c < clientCount p) (r : Reached p) (m : Mo
 
   -- the grants stay, and what else is claimed
   claims-kept : m .grants ≡ Same → m .next .held ≡ k .held → (f : ℕ) → claims q c f ≡ grantsOn p c f + besides f
-  claims-kept g h f = omega (arith, claims-next f, grantsOn-keeps p c m (r .shape) here few (x .grants) g h f)
+  claims-kept g h f = omega (arith, claims-next f, grantsOn-keeps p c m (r .shape) here few g h f)
 
   -- one more grant, and nothing else is claimed
   claims-open : (g y : ℕ) → m .grants ≡ Open (k .held) g y → m .next .held ≡ k .held + 1 → k .held < 8 → m .next .stage ≡ 0 → m .next .own ≡ none
@@ -100,7 +100,7 @@ module _ (p : Pool) (c : ℕ) (here : c < clientCount p) (r : Reached p) (m : Mo
       omega (
         arith,
         claims-next f,
-        grantsOn-opens p c m (r .shape) here few (x .grants) g y e h l f,
+        grantsOn-opens p c m (r .shape) here few g y e h l f,
         ap (λ (n : ℕ). one (pinsFound n && eqb (m .next .found) f)) s,
         ap (λ (n : ℕ). one (eqb n f)) o,
         none-own f z,
@@ -314,7 +314,7 @@ module _ (p : Pool) (c : ℕ) (here : c < clientCount p) (r : Reached p) where
 
       less : (f : ℕ) → claims (apply p c m) c f + one (eqb gf f) ≡ claims p c f
       less f =
-          let h = grantsOn-ends p c m (r .shape) here (r .ranges .held-ok) (x .grants) i refl refl (grantOf-found p c g z .0) f in
+          let h = grantsOn-ends p c m (r .shape) here (r .ranges .held-ok) i refl refl (grantOf-found p c g z .0) f in
           omega (arith, claims-next p c here r m x f)
 
   pub counts-next : {m : Move} → Edge p c m → Effect p c m → Counts (apply p c m)

@@ -151,7 +151,7 @@ module _ (p : Pool) (c : ℕ) (here : c < clientCount p) (r : Reached p) (m : Mo
       few : (d : ℕ) → client p d .held ≤ 8
       few = r .ranges .held-ok
 
-      mine : Comes p c m (r .shape) here few (x .grants) i → i < m .next .held → P (grantPage q c i) (grantFrame q c i)
+      mine : Comes p c m (r .shape) here few i → i < m .next .held → P (grantPage q c i) (grantFrame q c i)
       mine (old j l a b) _ = rw (a, b) (olds c j l)
       mine (new g f e a b) _ = rw (a, b) (opened g f e)
       mine (past l _) u = absurd (let y : ⊥ = omega arith in y)
