@@ -27,10 +27,9 @@ use Rattle.guarantee.specs.Sequential as Plain
 use Rattle.guarantee.specs.Sequential.{Place, Taker, Sequential, taker, member, Keeps, StepRule, adds, admits, drops, answers, moves, refuses, Rule, turns, begins, releases, steps}
 use Rattle.guarantee.specs.Claims.{OneCopy, HeldPinned, NoHeldEvicted}
 use Rattle.guarantee.proofs.Mirror.{Shows, is-member, Mirrors, view, mirrors-view}
-use Rattle.guarantee.proofs.Follow.{Followed}
+use Rattle.guarantee.proofs.Follow.{Followed, followed}
 use Rattle.guarantee.proofs.Frames.{same-frame}
 use Rattle.guarantee.proofs.Places.{there, shows}
-use Rattle.guarantee.proofs.Sequence.{followed}
 
 -- what holds of every reached pool holds throughout a run
 pub throughout : (P : Pool → Type 0) → ((p : Pool) → Reached p → P p) → (p : Pool) (calls : List Call) → Reached p → Throughout P p calls

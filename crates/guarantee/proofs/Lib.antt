@@ -12,7 +12,7 @@ pub mod Weights
 pub mod Shown
 pub mod Takers
 pub mod Simulate
-pub mod SimulateStages
+pub mod SimulateMoves
 pub mod Follow
 pub mod Sequence
 pub mod Copies

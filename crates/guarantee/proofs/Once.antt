@@ -24,10 +24,11 @@ use Rattle.invariant.proofs.Edges.{Edge, on, found1, found18, lost2, lost22, pi
 use Rattle.invariant.proofs.Steps.{call-edge}
 use Rattle.invariant.proofs.Effects.{effect}
 use Rattle.invariant.proofs.Next.{slot-now, slot-or-out}
+use Rattle.invariant.proofs.Allowed.{allowed, only-step}
 use Rattle.invariant.proofs.Calls.{reached-call}
 use Rattle.guarantee.specs.Runs.{happens, events, At}
 use Rattle.guarantee.specs.Claims.{Evicts, Replaces, Takes, TakenOutOnce}
-use Rattle.guarantee.proofs.Turned.{Went, down, by-move, went, allowed, only-step}
+use Rattle.guarantee.proofs.Turned.{Went, down, by-move, went}
 
 -- ---- only stage 4 gives a client another own frame
 

@@ -28,17 +28,16 @@ use Rattle.pool.specs.declared.Write.the-variants.{TakeFrame}
 use Rattle.invariant.proofs.Reached.{one, filling, Reached}
 use Rattle.invariant.proofs.After.{slot-kept, pins-else, pins-past}
 use Rattle.invariant.proofs.Sums.{sum-zero, sum-has}
+use Rattle.invariant.proofs.Writes.{silent, keepsTable, untouched, lookup-kept}
 use Rattle.invariant.proofs.Searches.{few-frames, free-found, Fresh, fresh-means}
 use Rattle.invariant.proofs.Never.{finds-some}
 use Rattle.invariant.proofs.Flags.{T-false}
+use Rattle.invariant.proofs.Steps.{around-ok}
 use Rattle.guarantee.specs.Claims.{AllHeld}
 use Rattle.guarantee.proofs.Steps.{On, Goes, answer-is, on-next, go1, go1-found, go2, go3, go4, go5, go5-none, go6, go7, go8, go8-on, go9, go10, go11, go12-dead, go12-idle, go12-busy, go12-full, go13-zero, go13-more, go14, go15, go16, go17-out, go17-not, go18}
-use Rattle.guarantee.proofs.Base.{Base, still, is-still, slot-still, pins-still, base-still, emptied}
-use Rattle.guarantee.proofs.Solo.{keepsTable, lookup-kept, next-is, absent-next, around-is, some-empty, no-ghost}
+use Rattle.guarantee.proofs.Base.{Base, slot-still, pins-still, base-still, emptied}
+use Rattle.guarantee.proofs.Solo.{next-is, absent-next, some-empty, no-ghost}
 use Rattle.guarantee.proofs.Sweep.{held-pins, pins-held, Behind, behind-none, behind-next, behind-all}
-
-around-in : (s i : ℕ) → i < s → around s i < s
-around-in s i h = elim (around-is s i h) [ inl n ↦ omega (arith, n) | inr n ↦ omega (arith, n) ]
 
 -- the sweep is to visit slot i, and each of the r slots before it names a pinned frame
 pub record Sweep (p : Pool) (i r : ℕ) : Type 0 where
@@ -102,13 +101,13 @@ module _ (p₀ : Pool) (b g : ℕ) (reached : Reached p₀) (rest : (c : ℕ) �
     k = client p b
 
     -- the next pool is early, late
-    early : {i : ℕ} {m : Move} (j : ℕ) → Early p i → Goes p b m → m .next .stage ≡ j → m .next .page ≡ k .page → T (still (m .write))
+    early : {i : ℕ} {m : Move} (j : ℕ) → Early p i → Goes p b m → m .next .stage ≡ j → m .next .page ≡ k .page → T (silent (m .write))
         → Early (callOf p (Step b) .pool) j
     early {m = m} j e w s q t =
         record {
           on = on-next w j (e .on) s q;
           base = next-is (e .on) w (λ x _. Base p₀ x g) (base-still p b m (e .on .reached) t (e .base));
-          absent = absent-next (e .on) w (is-still 0 [] (m .write) t .table) (e .absent);
+          absent = absent-next (e .on) w (untouched 0 [] (m .write) t .table) (e .absent);
         }
 
     settle : {i : ℕ} {m : Move} (j : ℕ) → On p b g i → lookup p g ≡ none → Not → Goes p b m → m .next .stage ≡ j → m .next .page ≡ k .page
@@ -253,7 +252,7 @@ module _ (p₀ : Pool) (b g : ℕ) (reached : Reached p₀) (rest : (c : ℕ) �
         idle c (no q) = rw (o .alone c q) refl
 
     -- the sweep goes on, at m's place and with its busy run
-    sweeps : {i : ℕ} {m : Move} → On p b g i → Goes p b m → T (still (m .write)) → freeAfter (p .free) (m .write) ≡ 0 → m .next .place < p .size
+    sweeps : {i : ℕ} {m : Move} → On p b g i → Goes p b m → T (silent (m .write)) → freeAfter (p .free) (m .write) ≡ 0 → m .next .place < p .size
         → ((j : ℕ) → j < p .size → Behind (m .next .place) (m .next .busy) (p .size) j → pinned 1 ≤ pins p (slot p j))
         → Swept (callOf p (Step b) .pool)
     unfolding apply
@@ -320,7 +319,7 @@ module _ (p₀ : Pool) (b g : ℕ) (reached : Reached p₀) (rest : (c : ℕ) �
         go (no x) (no y) (no z) =
             let h : pinned 1 ≤ pins p (k .victim) = omega arith in
             let w = go12-busy p b g o h z in
-            goes-on 11 (answer-is w) (at11 (early 11 e w refl refl tt) (sweeps o w tt (s .none-free) (around-in (p .size) (k .place) (s .place))
+            goes-on 11 (answer-is w) (at11 (early 11 e w refl refl tt) (sweeps o w tt (s .none-free) (around-ok (p .size) (k .place) (o .reached .shape .size-low))
             (λ j l x. grown s (omega (arith, there)) j l (behind-next (k .place) (k .busy) (p .size) j (s .place) l x))))
         go (no x) (no y) (yes z) =
             let h : pinned 1 ≤ pins p (k .victim) = omega arith in
@@ -340,7 +339,7 @@ module _ (p₀ : Pool) (b g : ℕ) (reached : Reached p₀) (rest : (c : ℕ) �
           | no c ↦
               let w = go13-more p b g o c in
               goes-on 11 (answer-is w) (at11 (early 11 e w refl refl tt)
-              (sweeps o w tt (s .none-free) (around-in (p .size) (k .place) (s .place)) (λ j l x. absurd (behind-none _ (p .size) j l x))))
+              (sweeps o w tt (s .none-free) (around-ok (p .size) (k .place) (o .reached .shape .size-low)) (λ j l x. absurd (behind-none _ (p .size) j l x))))
         ]
 
     pub next : Path p → Next (callOf p (Step b))

@@ -16,10 +16,11 @@ use Rattle.pool.specs.declared.Call.the-variants.{Begin, Step, Release}
 use Rattle.pool.specs.declared.Answer.the-variants.{Granted, Refused}
 use Rattle.invariant.proofs.Reached.{Shape, Reached}
 use Rattle.invariant.proofs.After.{client-same, client-other}
+use Rattle.invariant.proofs.Allowed.{Allowed, allowed, may-step}
 use Rattle.invariant.proofs.Calls.{reached-call}
 use Rattle.guarantee.specs.Runs.{happens, events, At, Begins}
 use Rattle.guarantee.specs.Claims.{AnswersTo, TurnedDown}
-use Rattle.guarantee.proofs.Turned.{same-answer, same-stage, other-answer, other-call, moved, Went, down, by-move, went, down-by, Allowed, allowed, may-step, ends, halts, released}
+use Rattle.guarantee.proofs.Turned.{same-answer, same-stage, other-answer, other-call, moved, Went, down, by-move, went, down-by, ends, halts, released}
 
 refused-same : {m n : ℕ} → Refused m ≡ Refused n → m ≡ n
 unfolding refusalOf

@@ -28,19 +28,7 @@ use Rattle.guarantee.specs.Claims.{Follows, ends, goes}
 use Rattle.guarantee.proofs.Mirror.{seen, seen-evicted, Mirrors, upTo, downFrom, viewTaker, view, mirrors-view}
 use Rattle.guarantee.proofs.Places.{same-pages}
 use Rattle.guarantee.proofs.Start.{starts}
-use Rattle.guarantee.proofs.Follow.{Followed, turned-alike, turned, moved}
-
-module _ {p : Pool} {q : Sequential} (r : Reached p) (mirror : Mirrors p q) where
-  pub followed : (x : Call) → Followed q x (callOf p x)
-  unfolding refusalOf
-  followed x = go (ℕ-discrete (refusal p x) 0)
-    where
-      ok : valid p ≡ true
-      ok = valid-reached p r
-
-      go : Dec (refusal p x ≡ 0) → Followed q x (callOf p x)
-      go (yes e) = rw (call-moves p x r e) (moved r mirror ok x e (λ w. never-stuck p x r e (ap refusalOf w)))
-      go (no z) = rw (call-turned p x (refusal p x) refl z) (turned r mirror x (refusal p x) (sym (turned-alike r mirror ok x)) z)
+use Rattle.guarantee.proofs.Follow.{followed}
 
 -- from any pool that the sequential pool mirrors
 pub follows-on : {p : Pool} {q : Sequential} (calls : List Call) → Reached p → Mirrors p q → Follows p q calls

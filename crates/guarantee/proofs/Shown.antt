@@ -13,6 +13,7 @@ use Rattle.pool.specs.declared.Write.{Write}
 use Rattle.pool.specs.declared.Write.the-variants.{Keep, PutSlot, PutPins, PutCount, TakeFrame, PutEntry, PutHand, PutFree}
 use Rattle.invariant.proofs.Reached.{Reached, mapped}
 use Rattle.invariant.proofs.After.{slot-kept, slot-here, slot-else, slot-in, pins-kept, pins-here, pins-else}
+use Rattle.invariant.proofs.Writes.{silent, untouched}
 use Rattle.invariant.proofs.Table.{mapped-none, mapped-kept, put-other, put-new}
 use Rattle.guarantee.specs.Sequential.{Place, empty, holds}
 use Rattle.guarantee.proofs.Mirror.{seen, seen-evicted, seen-unmapped, seen-full, seen-same, none-evicted}
@@ -27,49 +28,19 @@ pub record Changed (p : Pool) (c : ℕ) (m : Move) (j : ℕ) (x : Place) : Type 
   pub there : seen (apply p c m) (slot (apply p c m) j) ≡ x
   pub others : (i : ℕ) → i ≢ j → seen (apply p c m) (slot (apply p c m) i) ≡ seen p (slot p i)
 
--- the writes that touch neither slots nor pins nor table
-abbrev pub silent : Write → Bool
-silent Keep = true
-silent (PutSlot i f) = false
-silent (PutPins f x) = false
-silent (PutCount f x) = true
-silent (TakeFrame f g x y) = false
-silent (PutEntry i g f) = false
-silent (PutHand h) = true
-silent (PutFree x) = true
-
 module _ (p : Pool) (c : ℕ) (m : Move) (r : Reached p) where
   abbrev q : Pool
   q = apply p c m
 
-  -- what the parts of the pool read as after the move, where they were not written
-  record Parts : Type 0 where
-    slots : slotsAfter (p .size) (p .slots) (m .write) ≡ p .slots
-    pins-as : pinsAfter (total p) (p .pins) (m .write) ≡ p .pins
-    entry-pages : entryPagesAfter (total p) (p .«table_pages») (m .write) ≡ p .«table_pages»
-    entry-frames : entryFramesAfter (total p) (p .«table_frames») (m .write) ≡ p .«table_frames»
-
   seen-kept : pinsAfter (total p) (p .pins) (m .write) ≡ p .pins → ((f : ℕ) → mapped q f ≡ mapped p f) → (f : ℕ) → seen q f ≡ seen p f
   seen-kept a b f = seen-same p q f (ap (λ (x : ℕ). eqb x evicted) (pins-kept p c m (r .shape) a f)) (b f)
 
+  -- a write that touches neither slots nor pins nor table
   pub as-was : T (silent (m .write)) → Kept p c m
-  unfolding slotsAfter pinsAfter entryPagesAfter entryFramesAfter
-  as-was t = go (m .write) refl t
-    where
-      whole : Parts → Kept p c m
-      whole s i =
-          ap (seen q) (slot-kept p c m (r .shape) (s .slots) i)
-          ∙ seen-kept (s .pins-as) (mapped-kept p c m (r .shape) (s .entry-pages) (s .entry-frames)) (slot p i)
-
-      go : (w : Write) → m .write ≡ w → T (silent w) → Kept p c m
-      go Keep e _ = whole (record { slots = rw e refl; pins-as = rw e refl; entry-pages = rw e refl; entry-frames = rw e refl })
-      go (PutCount f x) e _ = whole (record { slots = rw e refl; pins-as = rw e refl; entry-pages = rw e refl; entry-frames = rw e refl })
-      go (PutHand h) e _ = whole (record { slots = rw e refl; pins-as = rw e refl; entry-pages = rw e refl; entry-frames = rw e refl })
-      go (PutFree x) e _ = whole (record { slots = rw e refl; pins-as = rw e refl; entry-pages = rw e refl; entry-frames = rw e refl })
-      go (PutSlot i f) e t = absurd t
-      go (PutPins f x) e t = absurd t
-      go (TakeFrame f g x y) e t = absurd t
-      go (PutEntry i g f) e t = absurd t
+  as-was t i =
+      ap (seen q) (slot-kept p c m (r .shape) (untouched _ _ (m .write) t .slots) i)
+      ∙ seen-kept (untouched _ _ (m .write) t .pins)
+      (mapped-kept p c m (r .shape) (untouched _ _ (m .write) t .entry-pages) (untouched _ _ (m .write) t .entry-frames)) (slot p i)
 
   -- a frame's pins change
   module _ (f x : ℕ) (e : m .write ≡ PutPins f x) where

@@ -23,17 +23,18 @@ use Rattle.pool.specs.declared.GrantChange.the-variants.{Same}
 use Rattle.pool.specs.declared.Write.the-variants.{PutPins, PutEntry}
 use Rattle.invariant.proofs.Reached.{Reached, one, mapped, pinsFound, Seated, Live, Placed, Orphan}
 use Rattle.invariant.proofs.After.{client-same, client-other, pins-in}
+use Rattle.invariant.proofs.Writes.{silent}
 use Rattle.invariant.proofs.Sums.{sum-zero}
 use Rattle.invariant.proofs.Facts.{own-pins, grant-live}
 use Rattle.invariant.proofs.Grants.{grantsOf, Granting, keeps, opens, grantsOf-other, grantsOf-keeps, grantsOf-opens}
 use Rattle.invariant.proofs.Table.{suc-not, some-suc}
 use Rattle.guarantee.specs.Sequential.{Place, empty, holds, Taker, Sequential, place, resting, taker, member, Absent, Unused, adding, admitting, answering, StepRule, adds, admits, drops, answers, moves, refuses}
 use Rattle.guarantee.proofs.Mirror.{seen, seen-unmapped, seen-full, not-member, Taken, open-many, open-grants, taken-as, Mirrors, none-evicted}
-use Rattle.guarantee.proofs.Takers.{Outward, outward, working, gotten, denied, quiet, quiet-means, Stays, Gets, rests, stays, pins-more, answered, admitted}
+use Rattle.guarantee.proofs.Takers.{Outward, outward, working, gotten, denied, Quiet, Stays, Gets, rests, stays, pins-more, answered, admitted}
 use Rattle.guarantee.proofs.Frames.{same-frame, live-found, found-pinned}
 use Rattle.guarantee.proofs.Places.{there, shows}
 use Rattle.guarantee.proofs.Weights.{full, kept-set, gained, lost, Weighs}
-use Rattle.guarantee.proofs.Shown.{Kept, Changed, silent, as-was, pins-put, pins-out, entry-new}
+use Rattle.guarantee.proofs.Shown.{Kept, Changed, as-was, pins-put, pins-out, entry-new}
 
 -- the move is a step of the sequential pool, and the two pools after it are alike again
 pub record Simulates (p : Pool) (c : ℕ) (q : Sequential) (m : Move) : Type 0 where
@@ -42,11 +43,6 @@ pub record Simulates (p : Pool) (c : ℕ) (q : Sequential) (m : Move) : Type 0 w
   pub rule : StepRule q (taker q c) (m .answer) places next
   pub weighs : Weighs (m .counted) (q .places) places
   pub mirrors : Mirrors (apply p c m) (record { places = places; takers = set (q .takers) c next })
-
--- no pool from setup meets the second
-pub data Stepped (p : Pool) (c : ℕ) (q : Sequential) (m : Move) : Type 0 where
-  goes : Simulates p c q m → Stepped p c q m
-  stops : m .answer ≡ Refused 8 → Stepped p c q m
 
 -- ---- the two pools after a move
 
@@ -145,25 +141,21 @@ module _ {p : Pool} {c : ℕ} {q : Sequential} (acting : Acting p c q) where
   -- ---- the six kinds of move
 
   module _ (busy : k .stage ≢ 0) where
-    pub quietly : (i j : ℕ) → k .stage ≡ i → {m : Move} → outward m ≡ working k j Nothing → T (quiet i j) → Kept p c m → Stepped p c q m
-    quietly i j e {m} o h same =
-        let w = quiet-means i j h in
-        goes (record {
+    pub quietly : (i j : ℕ) → k .stage ≡ i → {m : Move} → outward m ≡ working k j Nothing → Quiet i j → Kept p c m → Simulates p c q m
+    quietly i j e {m} o w same =
+        record {
           places = q .places;
           next = record { stage = j; wants = t .wants; grants = t .grants };
           rule = rw (ap (λ (x : Outward). x .answer) o) (moves {j = j} (rw (taken .stage ∙ e) (w .still)) (w .low) (w .high));
           weighs = rw (ap (λ (x : Outward). x .counted) o) refl;
           mirrors = same-places m _ (keeping m j Nothing o) (stays taken (works-on m j Nothing o busy) (rw e (w .pins-alike))) same;
-        })
-
-    pub calmly : (i j : ℕ) → k .stage ≡ i → {m : Move} → outward m ≡ working k j Nothing → T (quiet i j) → T (silent (m .write)) → Stepped p c q m
-    calmly i j e {m} o h s = quietly i j e o h (as-was p c m r s)
+        }
 
     pub adds-one : (i j : ℕ) → k .stage ≡ i → T (adding i j) → pinsFound i ≡ false → pinsFound j ≡ true → Live p k → pins p (k .found) ≢ evicted
-        → {m : Move} → outward m ≡ working k j Nothing → m .write ≡ PutPins (k .found) (pins p (k .found) + 1) → Stepped p c q m
+        → {m : Move} → outward m ≡ working k j Nothing → m .write ≡ PutPins (k .found) (pins p (k .found) + 1) → Simulates p c q m
     adds-one i j e h pi pj know live {m} o w =
         let n : ℕ = pins p (k .found) in
-        goes (record {
+        record {
           places = q .places;
           next = record { stage = j; wants = t .wants; grants = t .wants ∷ t .grants };
           rule =
@@ -173,13 +165,13 @@ module _ {p : Pool} {c : ℕ} {q : Sequential} (acting : Acting p c q) where
           mirrors =
               same-places m _ (keeping m j Nothing o) (pins-more taken (works-on m j Nothing o busy) pj (rw e pi))
               (pins-put p c m r (k .found) (n + 1) w (pins-in p (k .found) live) (inl (ne-eqb (n + 1) 0 (λ z. omega arith) ∙ sym (ne-eqb n 0 live))));
-        })
+        }
 
     pub answers-one : (i : ℕ) (u : Counted) → k .stage ≡ i → T (answering i) → pinsFound i ≡ true → gained u ≡ 0 → lost u ≡ 0 → Live p k → k .held < 8
-        → {m : Move} → outward m ≡ gotten k (k .found) u → T (silent (m .write)) → Stepped p c q m
+        → {m : Move} → outward m ≡ gotten k (k .found) u → T (silent (m .write)) → Simulates p c q m
     answers-one i u e h pi no-gain no-loss know room {m} o s =
         let live : pins p (k .found) ≢ evicted = λ z. omega (arith, found-pinned p r c (rw e pi)) in
-        goes (record {
+        record {
           places = q .places;
           next = resting (t .grants);
           rule =
@@ -187,20 +179,20 @@ module _ {p : Pool} {c : ℕ} {q : Sequential} (acting : Acting p c q) where
               (answers {f = k .found} (rw (taken .stage ∙ e) h) (rw (taken .wants busy) (there r mirror (know .0) live (know .1 live))));
           weighs = rw (ap (λ (x : Outward). x .counted) o, no-gain, no-loss) refl;
           mirrors = same-places m _ (opening m (k .found) u o room) (answered taken (gets m (k .found) u o room) (rw e pi)) (as-was p c m r s);
-        })
+        }
 
     -- the wanted page's frames are evicted, and so is the frame of the entry that the own frame gets
     pub admits-one : (i : ℕ) (u : Counted) → k .stage ≡ i → T (admitting i) → pinsFound i ≡ false → gained u ≡ 1 → lost u ≡ 0 → Placed p k → k .held < 8
         → ((f : ℕ) → f ≢ none → mapped p f ≡ suc (k .page) → pins p f ≡ evicted) → (j : ℕ) → j < total p → pins p (entryFrame p j) ≡ evicted
-        → {m : Move} → outward m ≡ gotten k (k .own) u → m .write ≡ PutEntry j (k .page) (k .own) → Stepped p c q m
+        → {m : Move} → outward m ≡ gotten k (k .own) u → m .write ≡ PutEntry j (k .page) (k .own) → Simulates p c q m
     admits-one i u e h pi gain no-loss own room gone j low out {m} o w =
-        goes (record {
+        record {
           places = set (q .places) s x;
           next = resting (t .wants ∷ t .grants);
           rule = rw (ap (λ (x : Outward). x .answer) o) (admits (rw (taken .stage ∙ e) h) absent unused s inside vacant);
           weighs = rw (ap (λ (x : Outward). x .counted) o, gain, no-loss) (omega (arith, kept-set (q .places) s x inside, ap full vacant));
           mirrors = one-place m _ (opening m (k .own) u o room) (admitted taken (gets m (k .own) u o room) busy (rw e pi)) changed;
-        })
+        }
       where
         s : ℕ
         s = own .1 .0
@@ -230,9 +222,9 @@ module _ {p : Pool} {c : ℕ} {q : Sequential} (acting : Acting p c q) where
         unused : Unused q (k .own)
         unused g at = let v = shows r mirror at in suc-not (v .entry) (ap (mapped p) (v .frame) ∙ unmapped)
 
-    pub refuses-one : (i : ℕ) → k .stage ≡ i → pinsFound i ≡ false → {m : Move} → outward m ≡ denied k → T (silent (m .write)) → Stepped p c q m
+    pub refuses-one : (i : ℕ) → k .stage ≡ i → pinsFound i ≡ false → {m : Move} → outward m ≡ denied k → T (silent (m .write)) → Simulates p c q m
     refuses-one i e pi {m} o s =
-        goes (record {
+        record {
           places = q .places;
           next = resting (t .grants);
           rule = rw (ap (λ (x : Outward). x .answer) o) refuses;
@@ -241,7 +233,7 @@ module _ {p : Pool} {c : ℕ} {q : Sequential} (acting : Acting p c q) where
               same-places m _ (keeps grants held)
               (rests (ap (λ (x : Outward). x .stage) o) (open-many taken pk ∙ sym held)
               (λ g. open-grants taken pk g ∙ sym (grantsOf-keeps p c m (r .shape) here few grants held g))) (as-was p c m r s);
-        })
+        }
       where
         grants : m .grants ≡ Same
         grants = ap (λ (x : Outward). x .grants) o
@@ -277,7 +269,7 @@ module _ {p : Pool} {c : ℕ} {q : Sequential} (acting : Acting p c q) where
             ap one (ne-eqb _ _ (λ w. only (client p d .found) (know .0) two (know .1 (λ x. omega arith) ∙ ap suc w)))
 
     pub drops-one : k .stage ≡ 14 → k .victim ≢ none → pins p (k .victim) ≡ pinned 0 → Seated p (k .victim)
-        → {m : Move} → outward m ≡ working k 15 Drop → m .write ≡ PutPins (k .victim) evicted → Stepped p c q m
+        → {m : Move} → outward m ≡ working k 15 Drop → m .write ≡ PutPins (k .victim) evicted → Simulates p c q m
     drops-one e z unpinned seat {m} o w = by-known (r .outline .known f z live)
       where
         f : ℕ
@@ -292,10 +284,10 @@ module _ {p : Pool} {c : ℕ} {q : Sequential} (acting : Acting p c q) where
         changed : Changed p c m s empty
         changed = pins-out p c m r f evicted w refl (pins-in p f live) z s (seat .1)
 
-        drop : (g : ℕ) → mapped p f ≡ suc g → Stepped p c q m
+        drop : (g : ℕ) → mapped p f ≡ suc g → Simulates p c q m
         drop g n =
             let holding : place q s ≡ holds g f = mirror .places s ∙ (ap (seen p) (seat .1) ∙ seen-full p f live n) in
-            goes (record {
+            record {
               places = set (q .places) s empty;
               next = record { stage = 15; wants = t .wants; grants = t .grants };
               rule = rw (ap (λ (x : Outward). x .answer) o) (drops {j = 15} (rw (taken .stage ∙ e) tt) s holding (unheld f g z unpinned n));
@@ -303,9 +295,9 @@ module _ {p : Pool} {c : ℕ} {q : Sequential} (acting : Acting p c q) where
                   rw (ap (λ (x : Outward). x .counted) o)
                   (omega (arith, kept-set (q .places) s empty (omega (arith, mirror .size, changed .inside)), ap full holding));
               mirrors = one-place m _ (keeping m 15 Drop o) (stays taken (works-on m 15 Drop o busy) (rw e refl)) changed;
-            })
+            }
 
-        by-known : (mapped p f ≢ 0) ⊎ (((d : ℕ) × (client p d .own ≡ f)) ⊎ Orphan p f) → Stepped p c q m
+        by-known : (mapped p f ≢ 0) ⊎ (((d : ℕ) × (client p d .own ≡ f)) ⊎ Orphan p f) → Simulates p c q m
         by-known (inl n) = let g = some-suc (mapped p f) n in drop (g .0) (g .1)
         by-known (inr (inl d)) =
             let two : pins p f ≡ pinned 1 = rw (d .1) at (own-pins p r (d .0) (λ n. z (sym (d .1) ∙ n))) in

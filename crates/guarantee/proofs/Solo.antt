@@ -29,6 +29,7 @@ use Rattle.pool.specs.declared.Write.the-variants.{Keep, PutSlot, PutPins, PutC
 use Rattle.laws.specs.Choices.{by-test}
 use Rattle.invariant.proofs.Reached.{one, sumTo, filling, Leaves, Shape, Reached}
 use Rattle.invariant.proofs.After.{pins-kept, pins-past, slot-kept}
+use Rattle.invariant.proofs.Writes.{keepsTable, lookup-kept}
 use Rattle.invariant.proofs.Searches.{few-frames}
 use Rattle.invariant.proofs.Table.{suc-not, lookup-mapped}
 use Rattle.invariant.proofs.Sums.{sum-zero, sum-has, sum-some}
@@ -39,32 +40,7 @@ use Rattle.guarantee.proofs.Start.{starts}
 use Rattle.guarantee.proofs.Turned.{other-answer, down, by-move, went}
 use Rattle.guarantee.proofs.Steps.{On, Goes, begun-is, begun-on, answer-is, onto, on-next, go1, go1-found, go2, go3, go4, go5, go6, go7, go8, go8-on, go9, go18}
 
--- ---- what a write leaves of a look-up
-
-abbrev pub keepsTable : Write → Bool
-keepsTable Keep = true
-keepsTable (PutSlot i f) = true
-keepsTable (PutPins f x) = true
-keepsTable (PutCount f x) = true
-keepsTable (TakeFrame f g x y) = true
-keepsTable (PutEntry i g f) = false
-keepsTable (PutHand h) = true
-keepsTable (PutFree x) = true
-
-table-kept : (w : Write) → T (keepsTable w) → (n : ℕ) (l : List ℕ) → (entryPagesAfter n l w ≡ l) × (entryFramesAfter n l w ≡ l)
-unfolding entryPagesAfter entryFramesAfter
-table-kept Keep t n l = (refl, refl)
-table-kept (PutSlot i f) t n l = (refl, refl)
-table-kept (PutPins f x) t n l = (refl, refl)
-table-kept (PutCount f x) t n l = (refl, refl)
-table-kept (TakeFrame f g x y) t n l = (refl, refl)
-table-kept (PutEntry i g f) t n l = absurd t
-table-kept (PutHand h) t n l = (refl, refl)
-table-kept (PutFree x) t n l = (refl, refl)
-
-pub lookup-kept : (p : Pool) (c : ℕ) (m : Move) → T (keepsTable (m .write)) → (g : ℕ) → lookup (apply p c m) g ≡ lookup p g
-unfolding apply lookup entryOf maps entryPage entryFrame
-lookup-kept p c m t g = rw (table-kept (m .write) t (total p) (p .«table_pages») .0, table-kept (m .write) t (total p) (p .«table_frames») .1) refl
+-- ---- the pool after a step
 
 module _ {p : Pool} {b g i : ℕ} {m : Move} (on : On p b g i) (w : Goes p b m) where
   pub next-is : (P : Pool → Client → Type 0) → P (apply p b m) (m .next) → P (callOf p (Step b) .pool) (client (callOf p (Step b) .pool) b)

@@ -19,6 +19,7 @@ use Rattle.pool.specs.declared.Answer.the-variants.{Working, Granted}
 use Rattle.pool.specs.declared.Counted.{Counted}
 use Rattle.pool.specs.declared.Counted.the-variants.{Nothing, Hit, Join, Admitted, Revived, Drop}
 use Rattle.laws.specs.Choices.{by-test}
+use Rattle.invariant.proofs.Flags.{and-parts}
 use Rattle.invariant.proofs.Each.{Each, fin, _also_, each-at}
 
 -- ---- the edges between the stages
@@ -77,17 +78,13 @@ abbrev pub forEdges : (ℕ → ℕ → Bool) → ℕ → List (List ℕ) → Boo
 forEdges t i [] = true
 forEdges t i (l ∷ ls) = forAll (t i) l && forEdges t (suc i) ls
 
-pub and-both : (a b : Bool) → T (a && b) → T a × T b
-and-both true b h = (tt, h)
-and-both false b h = absurd h
-
 all-of : (t : ℕ → Bool) (l : List ℕ) → T (forAll t l) → AllOf (λ x. T (t x)) l
 all-of t [] a = tt
-all-of t (x ∷ xs) a = let p = and-both (t x) (forAll t xs) a in (p .0, all-of t xs (p .1))
+all-of t (x ∷ xs) a = let p = and-parts (t x) (forAll t xs) a in (p .0, all-of t xs (p .1))
 
 edges-from : (t : ℕ → ℕ → Bool) (ls : List (List ℕ)) (i : ℕ) → T (forEdges t i ls) → Each (λ i l. AllOf (λ x. T (t i x)) l) i ls
 edges-from t [] i a = fin
-edges-from t (l ∷ ls) i a = let p = and-both (forAll (t i) l) (forEdges t (suc i) ls) a in all-of (t i) l (p .0) also edges-from t ls (suc i) (p .1)
+edges-from t (l ∷ ls) i a = let p = and-parts (forAll (t i) l) (forEdges t (suc i) ls) a in all-of (t i) l (p .0) also edges-from t ls (suc i) (p .1)
 
 pub on-edges : (t : ℕ → ℕ → Bool) → T (forEdges t 0 edges) → (i j : ℕ) → T (leads i j) → T (t i j)
 on-edges t a i j h =

@@ -30,8 +30,9 @@ use Rattle.laws.specs.Choices.{chosen, passed}
 use Rattle.invariant.proofs.Reached.{Reached}
 use Rattle.invariant.proofs.After.{client-same, client-other}
 use Rattle.invariant.proofs.Valid.{valid-reached}
-use Rattle.invariant.proofs.Calls.{never-stuck, call-moves, reached-call}
-use Rattle.guarantee.proofs.Turned.{did, same-answer, same-pool, same-stage, other-answer, Went, down, by-move, went, Allowed, allowed, may-begin}
+use Rattle.invariant.proofs.Allowed.{Allowed, allowed, may-begin}
+use Rattle.invariant.proofs.Calls.{did, never-stuck, call-moves, reached-call}
+use Rattle.guarantee.proofs.Turned.{same-answer, same-pool, same-stage, other-answer, Went, down, by-move, went}
 
 -- a step of a working client is not turned down
 stepped : (p : Pool) (b : ℕ) → Reached p → b < clientCount p → client p b .stage ≢ 0 → refusal p (Step b) ≡ 0

@@ -31,7 +31,8 @@ use Rattle.guarantee.specs.Sequential.{Sequential, place}
 use Rattle.guarantee.specs.Claims.{tallyOf, Below, Claim-sum}
 use Rattle.guarantee.proofs.Mirror.{seen, seen-evicted, seen-unmapped, seen-full, Mirrors, none-evicted}
 use Rattle.guarantee.proofs.Weights.{occupied, full, kept, kept-sum, kept-none, gained, lost}
-use Rattle.guarantee.proofs.Sequence.{followed, mirrors-start}
+use Rattle.guarantee.proofs.Follow.{followed}
+use Rattle.guarantee.proofs.Sequence.{mirrors-start}
 use Rattle.guarantee.proofs.Start.{starts}
 
 -- ---- a numbering that gives each number with a property once gives as many of them as there are

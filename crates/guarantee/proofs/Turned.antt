@@ -25,6 +25,9 @@ use Rattle.pool.specs.declared.Answer.{Answer}
 use Rattle.pool.specs.declared.Answer.the-variants.{Done, Working, Granted, Refused}
 use Rattle.laws.specs.Choices.{by-test}
 use Rattle.laws.specs.Scans.{both-true}
+use Rattle.invariant.proofs.Flags.{differ}
+use Rattle.invariant.proofs.Allowed.{refusal-low}
+use Rattle.invariant.proofs.Calls.{did}
 use Rattle.guarantee.specs.Claims.{Claim-turned, Claim-refused}
 use Rattle.guarantee.proofs.Stages.{Fits, goes, grants, refuses, sticks, fits}
 
@@ -41,14 +44,11 @@ callKind (Begin c g) = 0
 callKind (Step c) = 1
 callKind (Release c g) = 2
 
-differ : {A : Type 0} (m n : ℕ) → m ≡ n → T (not (eqb m n)) → A
-differ m n e h = absurd (rw (eq-eqb m n e) at h)
-
 pub other-answer : {A : Type 0} {a b : Answer} → a ≡ b → T (not (eqb (answerKind a) (answerKind b))) → A
-other-answer {A} {a} {b} e h = differ (answerKind a) (answerKind b) (ap answerKind e) h
+other-answer {A} {a} {b} e h = absurd (differ (answerKind a) (answerKind b) h (ap answerKind e))
 
 pub other-call : {A : Type 0} {a b : Call} → a ≡ b → T (not (eqb (callKind a) (callKind b))) → A
-other-call {A} {a} {b} e h = differ (callKind a) (callKind b) (ap callKind e) h
+other-call {A} {a} {b} e h = absurd (differ (callKind a) (callKind b) h (ap callKind e))
 
 -- ---- parts of equal outcomes, equal clients
 
@@ -63,9 +63,6 @@ same-stage e = ap (λ (k : Client). k .stage) e
 
 -- ---- a call is turned down, or is one move
 
-abbrev pub did : Pool → ℕ → Move → Outcome
-did p c m = record { answer = m .answer; counted = m .counted; pool = apply p c m }
-
 abbrev pub moved : Pool → Call → Outcome
 moved p x = did p (caller x) (moveOf p x)
 
@@ -76,16 +73,6 @@ Down p x n = ((refusal p x ≡ n) × (n ≢ 0)) ⊎ (n ≡ 8)
 pub data Went (p : Pool) (x : Call) (o : Outcome) : Type 0 where
   down : (n : ℕ) → Down p x n → o ≡ turnedDown n p → Went p x o
   by-move : refusal p x ≡ 0 → refusalOf (moveOf p x .answer) ≢ 8 → o ≡ moved p x → Went p x o
-
-refusal-at : (p : Pool) (k : Client) (x : Call) → refusalAt p k x < 14
-unfolding refusalAt
-refusal-at p k (Begin c g) = by-test (λ n. n < 14) (λ _. by-test (λ n. n < 14) (λ _. omega arith) (λ _. omega arith)) (λ _. omega arith)
-refusal-at p k (Step c) = by-test (λ n. n < 14) (λ _. omega arith) (λ _. omega arith)
-refusal-at p k (Release c g) = by-test (λ n. n < 14) (λ _. by-test (λ n. n < 14) (λ _. omega arith) (λ _. omega arith)) (λ _. omega arith)
-
-pub refusal-low : (p : Pool) (x : Call) → refusal p x < 14
-unfolding refusal
-refusal-low p x = by-test (λ n. n < 14) (λ _. by-test (λ n. n < 14) (λ _. refusal-at p (client p (caller x)) x) (λ _. omega arith)) (λ _. omega arith)
 
 pub went : (p : Pool) (x : Call) → Went p x (callOf p x)
 unfolding callOf finished
@@ -99,45 +86,6 @@ went p x =
 pub down-by : (p : Pool) (x : Call) (n : ℕ) → Down p x n → n ≢ 15
 down-by p x n (inl r) z = omega (arith, refusal-low p x, r .0)
 down-by p x n (inr r) z = omega arith
-
--- what a call that is not turned down at once has passed
-pub record Allowed (p : Pool) (x : Call) : Type 0 where
-  pub ok : valid p ≡ true
-  pub here : caller x < clientCount p
-  pub may : refusalAt p (client p (caller x)) x ≡ 0
-
-pub allowed : (p : Pool) (x : Call) → refusal p x ≡ 0 → Allowed p x
-unfolding refusal
-allowed p x =
-    by-test (λ n. n ≡ 0 → Allowed p x)
-    (λ v. by-test (λ n. n ≡ 0 → Allowed p x) (λ h m. record { ok = v; here = ltb-true _ _ h; may = m }) (λ _ e. absurd (omega arith)))
-    (λ _ e. absurd (omega arith))
-
-module _ (p : Pool) (k : Client) (c : ℕ) where
-  pub may-begin : (g : ℕ) → refusalAt p k (Begin c g) ≡ 0 → (k .stage ≡ 0) × (k .held < 8)
-  unfolding refusalAt
-  may-begin g =
-      by-test (λ n. n ≡ 0 → (k .stage ≡ 0) × (k .held < 8))
-      (λ t. by-test (λ n. n ≡ 0 → (k .stage ≡ 0) × (k .held < 8)) (λ h _. (eqb-true _ _ t, ltb-true _ _ h)) (λ _ e. absurd (omega arith)))
-      (λ _ e. absurd (omega arith))
-
-  pub may-step : refusalAt p k (Step c) ≡ 0 → k .stage ≢ 0
-  unfolding refusalAt
-  may-step = by-test (λ n. n ≡ 0 → k .stage ≢ 0) (λ _ e. absurd (omega arith)) (λ t _. eqb-false _ _ t)
-
-  pub may-release : (g : ℕ) → refusalAt p k (Release c g) ≡ 0 → (k .stage ≡ 0) × (grantOf p c g ≢ none)
-  unfolding refusalAt
-  may-release g =
-      by-test (λ n. n ≡ 0 → (k .stage ≡ 0) × (grantOf p c g ≢ none))
-      (λ t. by-test (λ n. n ≡ 0 → (k .stage ≡ 0) × (grantOf p c g ≢ none)) (λ _ e. absurd (omega arith)) (λ h _. (eqb-true _ _ t, eqb-false _ _ h)))
-      (λ _ e. absurd (omega arith))
-
--- of a working client it is a step
-pub only-step : (p : Pool) (x : Call) → Allowed p x → client p (caller x) .stage ≢ 0 → x ≡ Step (caller x)
-unfolding caller
-only-step p (Begin c g) a z = absurd (z (may-begin p (client p c) c g (a .may) .0))
-only-step p (Step c) a z = refl
-only-step p (Release c g) a z = absurd (z (may-release p (client p c) c g (a .may) .0))
 
 -- ---- a move that is refused
 

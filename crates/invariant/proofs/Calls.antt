@@ -26,6 +26,7 @@ use Rattle.laws.specs.Scans.{both-yes}
 use Rattle.invariant.proofs.Reached.{Reached}
 use Rattle.invariant.proofs.After.{shape-next}
 use Rattle.invariant.proofs.Flags.{differ}
+use Rattle.invariant.proofs.Allowed.{refusal-at}
 use Rattle.invariant.proofs.Edges.{Edge, on, found1, found18, lost2, lost22, pins2, pins19, gets3, gets21, takes, fills, swaps, gives-up, drops, removes, admits, revives, evicts20, evicts23, begins, releases}
 use Rattle.invariant.proofs.Steps.{call-edge}
 use Rattle.invariant.proofs.Effects.{Effect, effect}
@@ -80,12 +81,9 @@ edge-answer p c (releases _ _ _) = differ 0 8 tt
 
 -- ---- a call
 
--- none of the checks after 8 is 8
-refused-at : (p : Pool) (k : Client) (x : Call) → refusalAt p k x ≢ 8
-unfolding refusalAt
-refused-at p k (Begin c g) = by-test (λ (n : ℕ). n ≢ 8) (λ _. by-test (λ (n : ℕ). n ≢ 8) (λ _. differ 0 8 tt) (λ _. differ 12 8 tt)) (λ _. differ 10 8 tt)
-refused-at p k (Step c) = by-test (λ (n : ℕ). n ≢ 8) (λ _. differ 11 8 tt) (λ _. differ 0 8 tt)
-refused-at p k (Release c g) = by-test (λ (n : ℕ). n ≢ 8) (λ _. by-test (λ (n : ℕ). n ≢ 8) (λ _. differ 13 8 tt) (λ _. differ 0 8 tt)) (λ _. differ 10 8 tt)
+-- what a call leaves that is the move m of client c
+abbrev pub did : Pool → ℕ → Move → Outcome
+did p c m = record { answer = m .answer; counted = m .counted; pool = apply p c m }
 
 module _ (p : Pool) (x : Call) where
   pub never-stuck : Reached p → refusal p x ≡ 0 → refusalOf (moveOf p x .answer) ≢ 8
@@ -95,8 +93,7 @@ module _ (p : Pool) (x : Call) where
   reached-next r e = let w = call-edge p x r e in reached-move p (caller x) (moveOf p x) (w .0) r (w .1)
 
   -- a call that is not turned down makes its move
-  pub call-moves : Reached p → refusal p x ≡ 0
-      → callOf p x ≡ record { answer = moveOf p x .answer; counted = moveOf p x .counted; pool = apply p (caller x) (moveOf p x) }
+  pub call-moves : Reached p → refusal p x ≡ 0 → callOf p x ≡ did p (caller x) (moveOf p x)
   unfolding callOf finished
   call-moves r e =
       chosen _ _ _ (eq-eqb _ _ e) ∙
@@ -120,7 +117,7 @@ module _ (p : Pool) (x : Call) where
   refusal-not-8 r e = go x (sym (chosen _ _ 8 (valid-reached p r)) ∙ e)
     where
       go : (x : Call) → choose (ltb (caller x) (clientCount p)) (refusalAt p (client p (caller x)) x) 9 ≡ 8 → ⊥
-      go x = by-test (λ (n : ℕ). n ≡ 8 → ⊥) (λ _. refused-at p (client p (caller x)) x) (λ _. differ 9 8 tt)
+      go x = by-test (λ (n : ℕ). n ≡ 8 → ⊥) (λ _. refusal-at p (client p (caller x)) x .1) (λ _. differ 9 8 tt)
 
   pub never-8 : Reached p → callOf p x .answer ≢ Refused 8
   unfolding refusalOf

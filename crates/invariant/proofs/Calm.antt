@@ -23,7 +23,7 @@ use Rattle.invariant.proofs.Flags.{T-not, never, differ, leavesNone, hu
 use Rattle.invariant.proofs.Steps.{no-leaves}
 use Rattle.invariant.proofs.Facts.{own-live, own-not-victim}
 use Rattle.invariant.proofs.Edges.{Hunts, Edge, on, found1, found18, lost2, lost22, pins2, pins19, gets3, gets21, takes, fills, swaps, gives-up, drops, removes, admits, revives, evicts20, evicts23, begins, releases}
-use Rattle.invariant.proofs.Effects.{PinChange, adds, lowers, drops-victim, drops-own, takes-one, PinsOk, pins-stay, pins-put, untouched, Effect}
+use Rattle.invariant.proofs.Effects.{PinChange, adds, lowers, drops-victim, drops-own, takes-one, PinsOk, pins-stay, pins-put, unseen, Effect}
 use Rattle.invariant.proofs.Next.{SlotNow, TakenOut, slot-now, slot-or-out}
 use Rattle.invariant.proofs.Outline.{new-entry}
 
@@ -193,14 +193,14 @@ module _ (p : Pool) (c : ℕ) (here : c < clientCount p) (r : Reached p) where
   unfolding slotsAfter freeAfter
   settles {m} (on n j w h) x =
       record {
-        level = let f = h .fills in omega (arith, same-empty m (untouched _ _ (h .quiet) .slots));
+        level = let f = h .fills in omega (arith, same-empty m (unseen _ _ (h .quiet) .slots));
         six = h .six;
         hunts = h .hunts;
         leaves = λ f z a _ l. shifted (h .leaves f z a l);
       }
     where
       at : (i : ℕ) → slot (apply p c m) i ≡ slot p i
-      at = slot-kept p c m (r .shape) (untouched _ _ (h .quiet) .slots)
+      at = slot-kept p c m (r .shape) (unseen _ _ (h .quiet) .slots)
 
       shifted : {f : ℕ} → Leaves p (m .next) f → Leaves (apply p c m) (m .next) f
       shifted (v, inl l) = (v, inl l)

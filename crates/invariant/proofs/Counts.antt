@@ -27,7 +27,7 @@ use Rattle.invariant.proofs.Never.{know}
 use Rattle.invariant.proofs.Facts.{none-own, foreign-claims, orphan-claims, own-pins, grant-live}
 use Rattle.invariant.proofs.Flags.{T-false, never, differ, imp-mp}
 use Rattle.invariant.proofs.Edges.{Edge, on, found1, found18, lost2, lost22, pins2, pins19, gets3, gets21, takes, fills, swaps, gives-up, drops, removes, admits, revives, evicts20, evicts23, begins, releases}
-use Rattle.invariant.proofs.Effects.{no-open, untouched, Effect}
+use Rattle.invariant.proofs.Effects.{no-open, unseen, Effect}
 use Rattle.invariant.proofs.Next.{slot-now, all-grants}
 use Rattle.invariant.proofs.Private.{Secret, secret-unmapped, secret-unfound, secret-ungranted}
 
@@ -247,7 +247,7 @@ module _ (p : Pool) (c : ℕ) (here : c < clientCount p) (r : Reached p) where
   unfolding pinsAfter claimed
   tallies (on n j w h) x =
       still x (λ t. h .same .own ∙ r .counts .owns-none c (imp-mp (ownless j) (ownless (me .stage)) (h .stages .from-ownless) t))
-      (untouched _ _ (h .quiet) .pins) refl (h .same .held)
+      (unseen _ _ (h .quiet) .pins) refl (h .same .held)
       (λ f. rw (h .stages .pins-alike, h .same .found, h .same .own) refl)
   tallies (found1 e _) x = still x (λ _. r .counts .owns-none c (rw e tt)) refl refl refl (λ f. rw e refl)
   tallies (found18 e _) x = still x never refl refl refl (λ f. rw e refl)

@@ -23,6 +23,7 @@ use Rattle.pool.specs.declared.GrantChange.the-variants.{Same, Open, End}
 use Rattle.pool.specs.declared.Write.{Write}
 use Rattle.pool.specs.declared.Write.the-variants.{PutSlot, PutPins, PutCount, TakeFrame, PutEntry}
 use Rattle.invariant.proofs.After.{SlotsStay, PinsStay, PinsPut, PagesStay, PagesPut, EntryPagesStay, EntryFramesStay}
+use Rattle.invariant.proofs.Writes.{silent, Untouched, untouched}
 use Rattle.invariant.proofs.Reached.{Reached, mapped, Seated, Knows, unplaced, pinsFound, leaving}
 use Rattle.invariant.proofs.Searches.{lookup-found, lookup-none, unused-found, grantOf-found, free-found}
 use Rattle.invariant.proofs.Table.{suc-not, lookup-mapped}
@@ -99,19 +100,14 @@ module _ (p : Pool) (c : ℕ) (m : Move) where
 
 -- ---- a quiet write leaves the lists
 
-pub record Untouched (n : ℕ) (l : List ℕ) (w : Write) : Type 0 where
-  pub slots : slotsAfter n l w ≡ l
-  pub pages : pagesAfter n l w ≡ l
-  pub pins : pinsAfter n l w ≡ l
-  pub entry-pages : entryPagesAfter n l w ≡ l
-  pub entry-frames : entryFramesAfter n l w ≡ l
+pub quiet-silent : {p : Pool} {w : Write} → Quiet p w → T (silent w)
+quiet-silent keep = tt
+quiet-silent hand = tt
+quiet-silent (counts _) = tt
+quiet-silent (free _) = tt
 
-pub untouched : {p : Pool} (n : ℕ) (l : List ℕ) {w : Write} → Quiet p w → Untouched n l w
-unfolding slotsAfter pagesAfter pinsAfter entryPagesAfter entryFramesAfter
-untouched n l keep = record { slots = refl; pages = refl; pins = refl; entry-pages = refl; entry-frames = refl }
-untouched n l hand = record { slots = refl; pages = refl; pins = refl; entry-pages = refl; entry-frames = refl }
-untouched n l (counts _) = record { slots = refl; pages = refl; pins = refl; entry-pages = refl; entry-frames = refl }
-untouched n l (free _) = record { slots = refl; pages = refl; pins = refl; entry-pages = refl; entry-frames = refl }
+pub unseen : {p : Pool} (n : ℕ) (l : List ℕ) {w : Write} → Quiet p w → Untouched n l w
+unseen n l {w} q = untouched n l w (quiet-silent q)
 
 -- ---- each kind of move
 
@@ -133,13 +129,13 @@ module _ (p : Pool) (c : ℕ) (here : c < clientCount p) (r : Reached p) where
   quietly {m} w o f g h =
       record {
         own = o;
-        slot = slots-stay (untouched _ _ w .slots);
-        pins = pins-stay (untouched _ _ w .pins);
+        slot = slots-stay (unseen _ _ w .slots);
+        pins = pins-stay (unseen _ _ w .pins);
         found = f;
         grants = keeps g h;
         opened = λ _ _ e. no-open (sym g ∙ e);
-        entries = entries-stay (untouched _ _ w .entry-pages) (untouched _ _ w .entry-frames);
-        pages = pages-stay (untouched _ _ w .pages);
+        entries = entries-stay (unseen _ _ w .entry-pages) (unseen _ _ w .entry-frames);
+        pages = pages-stay (unseen _ _ w .pages);
       }
 
   -- one frame's pins change, and no grant

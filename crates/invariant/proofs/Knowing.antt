@@ -18,7 +18,7 @@ use Rattle.invariant.proofs.Table.{mapped-kept, lookup-mapped}
 use Rattle.invariant.proofs.Never.{know}
 use Rattle.invariant.proofs.Facts.{own-live}
 use Rattle.invariant.proofs.Edges.{Quiet, Edge, on, found1, found18, lost2, lost22, pins2, pins19, gets3, gets21, takes, fills, swaps, gives-up, drops, removes, admits, revives, evicts20, evicts23, begins, releases}
-use Rattle.invariant.proofs.Effects.{untouched, Effect}
+use Rattle.invariant.proofs.Effects.{unseen, Effect}
 use Rattle.invariant.proofs.Next.{dead-next, seats-next, maps-next, by-own, by-found, by-victim}
 
 -- ---- what a pool q keeps of a frame of p
@@ -105,9 +105,9 @@ module _ (p : Pool) (c : ℕ) (here : c < clientCount p) (r : Reached p) (m : Mo
 module _ (p : Pool) (c : ℕ) (r : Reached p) (m : Move) (w : Quiet p (m .write)) where
   quiet-steady : (f : ℕ) → Steady p (apply p c m) f
   quiet-steady f =
-      let a : (f : ℕ) → pins (apply p c m) f ≡ pins p f = pins-kept p c m (r .shape) (untouched _ _ w .pins) in
-      let b : mapped (apply p c m) f ≡ mapped p f = mapped-kept p c m (r .shape) (untouched _ _ w .entry-pages) (untouched _ _ w .entry-frames) f in
-      let d : (i : ℕ) → slot (apply p c m) i ≡ slot p i = slot-kept p c m (r .shape) (untouched _ _ w .slots) in
+      let a : (f : ℕ) → pins (apply p c m) f ≡ pins p f = pins-kept p c m (r .shape) (unseen _ _ w .pins) in
+      let b : mapped (apply p c m) f ≡ mapped p f = mapped-kept p c m (r .shape) (unseen _ _ w .entry-pages) (unseen _ _ w .entry-frames) f in
+      let d : (i : ℕ) → slot (apply p c m) i ≡ slot p i = slot-kept p c m (r .shape) (unseen _ _ w .slots) in
       record { dead = λ e. a f ∙ e; maps = λ _ g e. b ∙ e; seats = λ _ s. (s .0, d (s .0) ∙ s .1) }
 
 module _ (p : Pool) (c : ℕ) (here : c < clientCount p) (r : Reached p) where

@@ -1,5 +1,6 @@
 pub mod Reached
 pub mod After
+pub mod Writes
 pub mod Sums
 pub mod Searches
 pub mod Each
@@ -8,6 +9,7 @@ pub mod Table
 pub mod Pigeon
 pub mod Never
 pub mod Flags
+pub mod Allowed
 pub mod Facts
 pub mod Edges
 pub mod Steps

@@ -30,10 +30,11 @@ use Rattle.invariant.proofs.Each.{Each, fin, _also_, each-in}
 use Rattle.invariant.proofs.Searches.{grantOf-found}
 use Rattle.invariant.proofs.Never.{know, finds-some, room}
 use Rattle.invariant.proofs.Flags.{T-false, never, differ, imp-mp, onward, onward-means, plainly, plainly-means, leavesNone, leaves-none, Visits}
+use Rattle.invariant.proofs.Allowed.{allowed, may-begin, may-step, may-release}
 use Rattle.invariant.proofs.Facts.{own-pins, grant-live, entry-gone}
 use Rattle.invariant.proofs.Edges.{Quiet, keep, hand, counts, free, Alike, grants, Edge, on, found1, found18, lost2, lost22, pins2, pins19, gets3, gets21, takes, fills, swaps, gives-up, drops, removes, admits, revives, evicts20, evicts23, begins, releases}
 
-around-ok : (s i : ℕ) → 0 < s → around s i < s
+pub around-ok : (s i : ℕ) → 0 < s → around s i < s
 unfolding around
 around-ok s i h = by-test (λ (x : ℕ). x < s) (λ t. ltb-true _ _ t) (λ _. h)
 
@@ -338,28 +339,12 @@ module _ (p : Pool) (c : ℕ) (here : c < clientCount p) (r : Reached p) where
       let two = grant-live p r c i f in
       by-test Goes (λ t. let x : pins p (grantFrame p c i) ≡ evicted = eqb-true _ _ t in let y : ⊥ = omega arith in absurd y) (λ _. releases g e z)
 
--- a choice of numbers that is 0
-zero-chosen : (t : Bool) (a b : ℕ) → T (not (eqb b 0)) → choose t a b ≡ 0 → (t ≡ true) × (a ≡ 0)
-unfolding choose
-zero-chosen true a b z e = (refl, e)
-zero-chosen false a b z e = absurd (differ b 0 z e)
-
-made : (p : Pool) → Reached p → (x : Call) → caller x < clientCount p → refusalAt p (client p (caller x)) x ≡ 0 → Edge p (caller x) (moveOf p x)
-unfolding caller refusalAt moveOf
-made p r (Begin c g) h e =
-    let a = zero-chosen _ _ 10 tt e in
-    let b = zero-chosen _ _ 12 tt (a .1) in
-    begins g (eqb-true _ _ (a .0)) (ltb-true _ _ (b .0))
-made p r (Step c) h e = step-edge p c h r (λ w. differ 11 0 tt (sym (chosen _ 11 0 (rw w refl)) ∙ e))
-made p r (Release c g) h e =
-    let a = zero-chosen _ _ 10 tt e in
-    release-edge p c h r g (eqb-true _ _ (a .0)) (λ w. differ 13 0 tt (sym (chosen _ 13 0 (rw w refl)) ∙ a .1))
-
 -- a call that nothing turns down is one of a client of the pool, and makes such a move
 pub call-edge : (p : Pool) (x : Call) → Reached p → refusal p x ≡ 0 → (caller x < clientCount p) × Edge p (caller x) (moveOf p x)
-unfolding refusal
-call-edge p x r e =
-    let a = zero-chosen _ _ 8 tt e in
-    let b = zero-chosen _ _ 9 tt (a .1) in
-    let here : caller x < clientCount p = ltb-true _ _ (b .0) in
-    (here, made p r x here (b .1))
+unfolding caller moveOf
+call-edge p x r e = let a = allowed p x e in (a .here, made x (a .here) (a .may))
+  where
+    made : (x : Call) → caller x < clientCount p → refusalAt p (client p (caller x)) x ≡ 0 → Edge p (caller x) (moveOf p x)
+    made (Begin c g) h e = let a = may-begin p (client p c) c g e in begins g (a .0) (a .1)
+    made (Step c) h e = step-edge p c h r (may-step p (client p c) c e)
+    made (Release c g) h e = let a = may-release p (client p c) c g e in release-edge p c h r g (a .0) (a .1)
