@@ -28,7 +28,7 @@ use Rattle.guarantee.specs.Sequential.{Place, Taker, Sequential, taker, 
 use Rattle.guarantee.specs.Claims.{OneCopy, HeldPinned, NoHeldEvicted}
 use Rattle.guarantee.proofs.Mirror.{Shows, is-member, Mirrors, view, mirrors-view}
 use Rattle.guarantee.proofs.Follow.{Followed, followed}
-use Rattle.guarantee.proofs.Frames.{same-frame}
+use Rattle.guarantee.proofs.Frames.{same-frame, Grant, held-grant, held-pinned}
 use Rattle.guarantee.proofs.Places.{there, shows}
 
 -- what holds of every reached pool holds throughout a run
@@ -42,25 +42,6 @@ one-copy p r c d i j a b e =
     let u = r .outline .grant-named c i a in
     let v = r .outline .grant-named d j b in
     same-frame p r (grantFrame p c i) (grantFrame p d j) (grantPage p d j) u v (r .outline .granted c i u ∙ ap suc e) (r .outline .granted d j v)
-
--- a held frame has a grant
-record Grant (p : Pool) (f : ℕ) : Type 0 where
-  client-of : ℕ
-  place : ℕ
-  inside : place < client p client-of .held
-  names : grantFrame p client-of place ≡ f
-
-held-grant : (p : Pool) (f : ℕ) → held p f ≡ true → Grant p f
-unfolding held holds
-held-grant p f h =
-    let c = some-true (holds p f) (clientCount p) h in
-    let i = some-true (λ j. eqb (grantFrame p (c .0) j) f) (client p (c .0) .held) (c .2) in
-    record { client-of = c .0; place = i .0; inside = i .1; names = eqb-true _ _ (i .2) }
-
-pub held-pinned : (p : Pool) → Reached p → HeldPinned p
-held-pinned p r f h =
-    let g = held-grant p f h in
-    rw (g .names) at (grant-live p r (g .client-of) (g .place) (r .outline .grant-named (g .client-of) (g .place) (g .inside)))
 
 -- ---- a page with a grant stays
 

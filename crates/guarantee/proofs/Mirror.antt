@@ -20,6 +20,7 @@ use Rattle.pool.specs.declared.Client.{Client}
 use Rattle.laws.specs.Choices.{by-test, chosen, passed}
 use Rattle.invariant.proofs.Reached.{one, sumTo, mapped, pinsFound, Shape}
 use Rattle.invariant.proofs.After.{slot-past, pins-past, client-past}
+use Rattle.invariant.proofs.Searches.{none-evicted}
 use Rattle.invariant.proofs.Grants.{grantsOf}
 use Rattle.guarantee.specs.Sequential.{Place, empty, holds, Taker, Sequential, place, resting, taker, member, without}
 
@@ -208,9 +209,6 @@ view-taken k l n =
           λ g. by-test (λ (x : List ℕ). times g x ≡ times g l + one (pinsFound (k .stage) && eqb (k .page) g))
           (λ e. rw e refl) (λ e. omega (arith, one-and (pinsFound (k .stage)) (eqb (k .page) g) e));
     }
-
-pub none-evicted : (p : Pool) → Shape p → pins p none ≡ evicted
-none-evicted p s = pins-past p none (omega (arith, s .size-high, s .clients-high))
 
 pub mirrors-view : (p : Pool) → Shape p → Mirrors p (view p)
 unfolding view grantsOf viewTaker choose downFrom

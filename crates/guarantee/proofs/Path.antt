@@ -26,10 +26,10 @@ use Rattle.pool.specs.declared.Call.the-variants.{Step}
 use Rattle.pool.specs.declared.Answer.the-variants.{Working, Granted, Refused}
 use Rattle.pool.specs.declared.Write.the-variants.{TakeFrame}
 use Rattle.invariant.proofs.Reached.{one, filling, Reached}
-use Rattle.invariant.proofs.After.{slot-kept, pins-else, pins-past}
+use Rattle.invariant.proofs.After.{slot-kept, pins-else}
 use Rattle.invariant.proofs.Sums.{sum-zero, sum-has}
 use Rattle.invariant.proofs.Writes.{silent, keepsTable, untouched, lookup-kept}
-use Rattle.invariant.proofs.Searches.{few-frames, free-found, Fresh, fresh-means}
+use Rattle.invariant.proofs.Searches.{none-evicted, free-found, Fresh, fresh-means}
 use Rattle.invariant.proofs.Never.{finds-some}
 use Rattle.invariant.proofs.Flags.{T-false}
 use Rattle.invariant.proofs.Steps.{around-ok}
@@ -37,7 +37,8 @@ use Rattle.guarantee.specs.Claims.{AllHeld}
 use Rattle.guarantee.proofs.Steps.{On, Goes, answer-is, on-next, go1, go1-found, go2, go3, go4, go5, go5-none, go6, go7, go8, go8-on, go9, go10, go11, go12-dead, go12-idle, go12-busy, go12-full, go13-zero, go13-more, go14, go15, go16, go17-out, go17-not, go18}
 use Rattle.guarantee.proofs.Base.{Base, slot-still, pins-still, base-still, emptied}
 use Rattle.guarantee.proofs.Solo.{next-is, absent-next, some-empty, no-ghost}
-use Rattle.guarantee.proofs.Sweep.{held-pins, pins-held, Behind, behind-none, behind-next, behind-all}
+use Rattle.guarantee.proofs.Frames.{held-pinned}
+use Rattle.guarantee.proofs.Sweep.{pins-held, Behind, behind-none, behind-next, behind-all}
 
 -- the sweep is to visit slot i, and each of the r slots before it names a pinned frame
 pub record Sweep (p : Pool) (i r : ℕ) : Type 0 where
@@ -234,7 +235,7 @@ module _ (p₀ : Pool) (b g : ℕ) (reached : Reached p₀) (rest : (c : ℕ) �
 
     -- a slot whose frame has no pins is not held
     not-held : Base p₀ p g → (i : ℕ) → i < p .size → pins p (slot p i) < pinned 1 → Not
-    not-held h i l e f = omega (arith, held-pins p₀ reached (slot p₀ i) (f .1 i (omega (arith, h .size)) .1), pins-same h i)
+    not-held h i l e f = omega (arith, held-pinned p₀ reached (slot p₀ i) (f .1 i (omega (arith, h .size)) .1), pins-same h i)
 
     -- no slot is empty where none is free and nobody fills one
     no-empty : {i : ℕ} → On p b g i → T (not (filling i)) → p .free ≡ 0 → (j : ℕ) → j < p .size → slot p j ≢ none
@@ -293,7 +294,7 @@ module _ (p₀ : Pool) (b g : ℕ) (reached : Reached p₀) (rest : (c : ℕ) �
     absent₀ : Early p 12 → resident p₀ g ≡ false
     unfolding resident
     absent₀ e =
-        ap not (eq-eqb _ evicted (ap (pins p₀) (sym (e .base .looked) ∙ e .absent) ∙ pins-past p₀ none (omega (arith, few-frames p₀ (reached .shape)))))
+        ap not (eq-eqb _ evicted (ap (pins p₀) (sym (e .base .looked) ∙ e .absent) ∙ none-evicted p₀ (reached .shape)))
 
     next12 : Early p 12 → Swept p → Seen p → Next (callOf p (Step b))
     unfolding freeAfter

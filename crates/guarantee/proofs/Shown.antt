@@ -15,8 +15,9 @@ use Rattle.invariant.proofs.Reached.{Reached, mapped}
 use Rattle.invariant.proofs.After.{slot-kept, slot-here, slot-else, slot-in, pins-kept, pins-here, pins-else}
 use Rattle.invariant.proofs.Writes.{silent, untouched}
 use Rattle.invariant.proofs.Table.{mapped-none, mapped-kept, put-other, put-new}
+use Rattle.invariant.proofs.Searches.{none-evicted}
 use Rattle.guarantee.specs.Sequential.{Place, empty, holds}
-use Rattle.guarantee.proofs.Mirror.{seen, seen-evicted, seen-unmapped, seen-full, seen-same, none-evicted}
+use Rattle.guarantee.proofs.Mirror.{seen, seen-evicted, seen-unmapped, seen-full, seen-same}
 
 -- every place is shown as it was
 abbrev pub Kept : Pool → ℕ → Move → Type 0

@@ -28,8 +28,9 @@ use Rattle.invariant.proofs.Sums.{sum-zero}
 use Rattle.invariant.proofs.Facts.{own-pins, grant-live}
 use Rattle.invariant.proofs.Grants.{grantsOf, Granting, keeps, opens, grantsOf-other, grantsOf-keeps, grantsOf-opens}
 use Rattle.invariant.proofs.Table.{suc-not, some-suc}
+use Rattle.invariant.proofs.Searches.{live-named}
 use Rattle.guarantee.specs.Sequential.{Place, empty, holds, Taker, Sequential, place, resting, taker, member, Absent, Unused, adding, admitting, answering, StepRule, adds, admits, drops, answers, moves, refuses}
-use Rattle.guarantee.proofs.Mirror.{seen, seen-unmapped, seen-full, not-member, Taken, open-many, open-grants, taken-as, Mirrors, none-evicted}
+use Rattle.guarantee.proofs.Mirror.{seen, seen-unmapped, seen-full, not-member, Taken, open-many, open-grants, taken-as, Mirrors}
 use Rattle.guarantee.proofs.Takers.{Outward, outward, working, gotten, denied, Quiet, Stays, Gets, rests, stays, pins-more, answered, admitted}
 use Rattle.guarantee.proofs.Frames.{same-frame, live-found, found-pinned}
 use Rattle.guarantee.proofs.Places.{there, shows}
@@ -217,7 +218,7 @@ module _ {p : Pool} {c : ℕ} {q : Sequential} (acting : Acting p c q) where
         absent : Absent q (t .wants)
         absent f at =
             let v = shows r mirror at in
-            v .live (gone (slot p (at .0)) (λ z. v .live (ap (pins p) z ∙ none-evicted p (r .shape))) (v .entry ∙ ap suc (taken .wants busy)))
+            v .live (gone (slot p (at .0)) (live-named p (r .shape) _ (v .live)) (v .entry ∙ ap suc (taken .wants busy)))
 
         unused : Unused q (k .own)
         unused g at = let v = shows r mirror at in suc-not (v .entry) (ap (mapped p) (v .frame) ∙ unmapped)

@@ -18,14 +18,13 @@ use Rattle.pool.specs.declared.Counted.the-variants.{Nothing, Hit, Join, Admitt
 use Rattle.pool.specs.declared.GrantChange.the-variants.{Same}
 use Rattle.pool.specs.declared.Write.the-variants.{PutPins}
 use Rattle.invariant.proofs.Reached.{Reached, Knows}
-use Rattle.invariant.proofs.Searches.{lookup-found, unused-found, free-found, fresh-means}
+use Rattle.invariant.proofs.Searches.{lookup-found, unused-found, free-found, fresh-means, none-evicted}
 use Rattle.invariant.proofs.Table.{mapped-lookup}
 use Rattle.invariant.proofs.Never.{know}
 use Rattle.invariant.proofs.Edges.{Edge, on, found1, found18, lost2, lost22, pins2, pins19, gets3, gets21, takes, fills, swaps, gives-up, drops}
 use Rattle.invariant.proofs.Edges.{removes, admits, revives, evicts20, evicts23, begins, releases}
 use Rattle.invariant.proofs.Effects.{quiet-silent}
 use Rattle.guarantee.specs.Sequential.{Sequential}
-use Rattle.guarantee.proofs.Mirror.{none-evicted}
 use Rattle.guarantee.proofs.Takers.{working, outward, quiet, quiet-means, onward-quiet}
 use Rattle.guarantee.proofs.Shown.{Kept, as-was, pins-put, taken-frame, slot-put, entry-gone}
 use Rattle.guarantee.proofs.Simulate.{Simulates, Acting, quietly, adds-one, answers-one, admits-one, refuses-one, drops-one}

@@ -28,11 +28,11 @@ use Rattle.pool.specs.declared.Write.{Write}
 use Rattle.pool.specs.declared.Write.the-variants.{Keep, PutSlot, PutPins, PutCount, TakeFrame, PutEntry, PutHand, PutFree}
 use Rattle.laws.specs.Choices.{by-test}
 use Rattle.invariant.proofs.Reached.{one, sumTo, filling, Leaves, Shape, Reached}
-use Rattle.invariant.proofs.After.{pins-kept, pins-past, slot-kept}
+use Rattle.invariant.proofs.After.{pins-kept, slot-kept}
 use Rattle.invariant.proofs.Writes.{keepsTable, lookup-kept}
-use Rattle.invariant.proofs.Searches.{few-frames}
+use Rattle.invariant.proofs.Searches.{live-named}
 use Rattle.invariant.proofs.Table.{suc-not, lookup-mapped}
-use Rattle.invariant.proofs.Sums.{sum-zero, sum-has, sum-some}
+use Rattle.invariant.proofs.Sums.{sum-zero, sum-has, some-one}
 use Rattle.invariant.proofs.Calls.{reached-calls}
 use Rattle.guarantee.specs.Runs.{events, At}
 use Rattle.guarantee.specs.Claims.{GrantedWithin, Claim-limits}
@@ -140,14 +140,6 @@ adm8 (suc d) p b g i on a h =
           (next-is on w (λ q k. Ahead q (k .place) i d) (ahead-next p b _ (on .reached .shape) refl (closer p _ i d h)))))
     ]
 
--- a sum of tests that is not 0 has one that passes
-pub some-one : (t : ℕ → Bool) (n : ℕ) → sumTo (λ i. one (t i)) n ≢ 0 → (i : ℕ) × (i < n) × (t i ≡ true)
-some-one t n z = let r = sum-some (λ i. one (t i)) n z in (r .0, r .1, passes (t (r .0)) (r .2))
-  where
-    passes : (b : Bool) → one b ≢ 0 → b ≡ true
-    passes true _ = refl
-    passes false n = absurd (n refl)
-
 -- some slot is empty where the empty slots are not none
 pub some-empty : (p : Pool) → sumTo (λ i. one (eqb (slot p i) none)) (p .size) ≢ 0 → (i : ℕ) × (i < p .size) × (slot p i ≡ none)
 some-empty p z = let r = some-one (λ i. eqb (slot p i) none) (p .size) z in (r .0, r .1, eqb-true _ none (r .2))
@@ -229,7 +221,7 @@ module _ (p : Pool) (r : Reached p) (rest : (c : ℕ) → client p c .stage ≡ 
   unfolding resident
   resident-found g e =
       let live = eqb-false _ evicted (not-true _ e) in
-      ((λ z. live (ap (pins p) z ∙ pins-past p none (omega (arith, few-frames p (r .shape))))), live)
+      (live-named p (r .shape) _ live, live)
 
   pub absent-found : (g : ℕ) → resident p g ≡ false → lookup p g ≡ none
   unfolding resident

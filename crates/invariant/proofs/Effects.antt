@@ -41,7 +41,7 @@ module _ (p : Pool) (c : ℕ) (m : Move) where
   pub data OwnOk : Type 0 where
     forgot : m .next .own ≡ none → OwnOk
     kept : m .next .own ≡ k .own → T (imp (unplaced (m .next .stage)) (unplaced (k .stage))) → OwnOk
-    taken : k .own ≡ none → m .next .own ≢ none → m .next .own < total p → referenced p (m .next .own) ≡ false
+    taken : k .stage ≡ 4 → k .own ≡ none → m .next .own ≢ none → m .next .own < total p → referenced p (m .next .own) ≡ false
         → m .write ≡ TakeFrame (m .next .own) (m .next .page) (pinned 1) 1 → OwnOk
 
   -- the slot at i is empty, or the client takes its evicted victim out of it
@@ -250,7 +250,7 @@ module _ (p : Pool) (c : ℕ) (here : c < clientCount p) (r : Reached p) where
   effect (takes e z) =
       let f = free-found p (r .shape) z in
       record {
-        own = taken (r .counts .owns-none c (rw e tt)) z (f .0) (f .1) refl;
+        own = taken e (r .counts .owns-none c (rw e tt)) z (f .0) (f .1) refl;
         slot = slots-stay refl;
         pins = pins-put (freeFrame p) (pinned 1) refl (f .0) z (takes-one refl (f .1) refl);
         found = found-stays refl;

@@ -236,7 +236,7 @@ module _ (p : Pool) (c : ℕ) (here : c < clientCount p) (r : Reached p) (m : Mo
     where
       mine : OwnOk p c m → m .next .own ≢ none → page q (m .next .own) ≡ m .next .page
       mine (forgot e) z = absurd (z e)
-      mine (taken _ _ h _ w) z = page-here p c m (r .shape) (m .next .own) (m .next .page) (rw w refl) h
+      mine (taken _ _ _ h _ w) z = page-here p c m (r .shape) (m .next .own) (m .next .page) (rw w refl) h
       mine (kept e _) z =
           let o : k .own ≢ none = λ y. z (e ∙ y) in
           ap (page q) e ∙ page-next p c here r m x (k .own) o (by-own p c here r m x (k .own) o c refl) ∙ r .outline .own-page c o ∙ sym (t .wants o e)

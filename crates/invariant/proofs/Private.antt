@@ -69,7 +69,7 @@ module _ (p : Pool) (c : ℕ) (here : c < clientCount p) (r : Reached p) (m : Mo
             ungranted = λ d i w. r .private .own-ungranted c d i o (w ∙ e);
             not-left = λ w. absurd (z w);
           }
-      mine (taken _ _ _ e _) z =
+      mine (taken _ _ _ _ e _) z =
           let f = fresh-means p (m .next .own) z e in
           record { unmapped = mapped-zero p (m .next .own) (f .no-entry); unfound = f .no-found; ungranted = f .no-grant; not-left = λ _. f .no-own c }
 

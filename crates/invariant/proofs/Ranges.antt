@@ -232,7 +232,7 @@ module _ (p : Pool) (c : ℕ) (here : c < clientCount p) (r : Reached p) (m : Mo
   own-range : OwnOk p c m → m .next .own ≢ none → m .next .own < total p
   own-range (forgot w) z = absurd (z w)
   own-range (kept w _) z = rw w (r .ranges .own-ok c (λ n. z (w ∙ n)))
-  own-range (taken _ _ h _ _) z = h
+  own-range (taken _ _ _ h _ _) z = h
 
   found-range : FoundOk p c m → m .next .found ≢ none → m .next .found < total p
   found-range (found-stays w) z = rw w (r .ranges .found-ok c (λ n. z (w ∙ n)))

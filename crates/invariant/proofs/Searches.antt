@@ -10,7 +10,7 @@ use native.Mathlib.Decide.{ℕ-discrete, decLt}
 use lib.Dec.{eqb}
 use borrow.Author.Tests.{eqb-true, eqb-false, eq-eqb, ne-eqb, not-true, not-false, le-ltb}
 use Rattle.pool.specs.Choose.{some}
-use Rattle.pool.specs.State.{none, clientCount, total, slot, entryPage, entryFrame, client, ofClient, grantPage, grantFrame}
+use Rattle.pool.specs.State.{none, evicted, clientCount, total, slot, pins, entryPage, entryFrame, client, ofClient, grantPage, grantFrame}
 use Rattle.pool.specs.Table.{maps, entryOf, lookup, unusedEntry}
 use Rattle.pool.specs.Grants.{grantOf, holds}
 use Rattle.pool.specs.Frames.{names, referenced, firstTried, tried, freeFrame}
@@ -19,7 +19,7 @@ use Rattle.pool.specs.declared.Client.{Client}
 use Rattle.laws.specs.Choices.{by-test, passed, scan-ind}
 use Rattle.laws.specs.Scans.{both-true, both-yes, either-false, scan-none, some-not, first-found, first-none}
 use Rattle.invariant.proofs.Reached.{Shape}
-use Rattle.invariant.proofs.After.{slot-past, entryFrame-past, entry-in, client-past}
+use Rattle.invariant.proofs.After.{slot-past, pins-past, entryFrame-past, entry-in, client-past}
 
 -- ---- the table
 
@@ -29,6 +29,13 @@ module _ (p : Pool) (shape : Shape p) where
 
   pub some-frames : 0 < total p
   some-frames = let a = shape .size-low in omega arith
+
+  -- what is not a frame counts as evicted, so what is not evicted is a frame
+  pub none-evicted : pins p none ≡ evicted
+  none-evicted = pins-past p none (omega (arith, few-frames))
+
+  pub live-named : (f : ℕ) → pins p f ≢ evicted → f ≢ none
+  live-named f live z = live (ap (pins p) z ∙ none-evicted)
 
   module _ (g : ℕ) where
     entry-found : entryOf p g ≢ none → (entryOf p g < total p) × (entryPage p (entryOf p g) ≡ g) × (entryFrame p (entryOf p g) ≢ none)
