@@ -1,19 +1,17 @@
 -- What stays as it was at a begin while its client runs alone: slots, look-up, and the pins of the frames in slots, under every write that they do
 -- not see. Assumes nothing.
-use mathlib.Core.Path.{_≡_, refl, sym, ap, subst, _∙_}
+use mathlib.Core.Path.{_≡_, sym, ap, subst, _∙_}
 use mathlib.Core.Logic.{_≢_}
-use mathlib.Core.Bool.{Bool, true, false}
-use mathlib.Core.List.{List, []}
+use mathlib.Core.List.{[]}
 use Prim.Native.Nat.{ℕ, _<_}
 use native.Mathlib.Decide.{ℕ-discrete}
 use lib.Dec.{T}
 use Rattle.pool.specs.State.{none, total, slot, pins, entryFrame}
 use Rattle.pool.specs.Table.{entryOf, lookup}
-use Rattle.pool.specs.Apply.{stored, slotsAfter, pinsAfter, entryPagesAfter, entryFramesAfter, apply}
+use Rattle.pool.specs.Apply.{stored, entryPagesAfter, entryFramesAfter, apply}
 use Rattle.pool.specs.declared.Pool.{Pool}
 use Rattle.pool.specs.declared.Move.{Move}
-use Rattle.pool.specs.declared.Write.{Write}
-use Rattle.pool.specs.declared.Write.the-variants.{Keep, PutSlot, PutPins, PutCount, TakeFrame, PutEntry, PutHand, PutFree}
+use Rattle.pool.specs.declared.Write.the-variants.{PutEntry}
 use Rattle.invariant.proofs.Reached.{Reached}
 use Rattle.invariant.proofs.After.{shape-next, slot-kept, pins-kept, entryPage-else, entryFrame-here, entryFrame-else}
 use Rattle.invariant.proofs.Writes.{silent, untouched, lookup-kept}

@@ -4,19 +4,17 @@ use mathlib.Core.Path.{_≡_, refl, sym, ap, _∙_}
 use mathlib.Core.Logic.{_≢_}
 use mathlib.Core.Bool.{Bool, true, false, true≢false}
 use mathlib.Core.List.{List, [], _∷_}
-use Prim.Native.Nat.{ℕ, zero, suc, _<_}
+use Prim.Native.Nat.{ℕ, zero, suc}
 use native.Mathlib.Omega.{arith}
 use lib.Dec.{eqb}
 use lib.ListN.{getD}
 use lib.Seq.{getD-set-other}
-use borrow.Author.Tests.{eqb-true}
-use Rattle.pool.specs.State.{none, evicted, clientCount, slot, pins, client, grantPage, grantFrame}
+use Rattle.pool.specs.State.{none, evicted, slot, pins, client, grantPage, grantFrame}
 use Rattle.pool.specs.Grants.{holds, held}
 use Rattle.pool.specs.Calls.{callOf}
 use Rattle.pool.specs.declared.Pool.{Pool}
 use Rattle.pool.specs.declared.Call.{Call}
 use Rattle.pool.specs.declared.Answer.{Answer}
-use Rattle.laws.specs.Scans.{some-true}
 use Rattle.invariant.proofs.Reached.{Reached, one}
 use Rattle.invariant.proofs.Sums.{one-is, sum-has}
 use Rattle.invariant.proofs.Facts.{grant-live}

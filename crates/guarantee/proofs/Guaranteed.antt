@@ -1,7 +1,6 @@
 -- All that `Claims.antt` states, put together: a pool that was set up is reached, and so is every pool after it. Assumes nothing.
 use mathlib.Core.Path.{_≡_}
 use mathlib.Core.Bool.{true}
-use mathlib.Core.List.{List}
 use Prim.Native.Nat.{ℕ, _<_}
 use native.Mathlib.Omega.{arith}
 use Rattle.pool.specs.State.{total, client}
@@ -9,8 +8,6 @@ use Rattle.pool.specs.Frames.{freeFrame}
 use Rattle.pool.specs.Valid.{valid}
 use Rattle.pool.specs.Calls.{setupOf}
 use Rattle.pool.specs.declared.Pool.{Pool}
-use Rattle.pool.specs.declared.Call.{Call}
-use Rattle.pool.specs.declared.Answer.the-variants.{Done}
 use Rattle.invariant.proofs.Reached.{Reached}
 use Rattle.invariant.proofs.After.{client-here}
 use Rattle.invariant.proofs.Valid.{valid-reached}

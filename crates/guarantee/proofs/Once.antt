@@ -1,6 +1,6 @@
 -- Once a stage 15 has replaced a frame, and until a stage 4 takes it, the frame stands in no slot and is nobody's own (`Out`). So between two stages
 -- 15 that replace it a stage 4 takes it. Assumes nothing.
-use mathlib.Core.Path.{_≡_, refl, sym, ap, subst, _∙_}
+use mathlib.Core.Path.{_≡_, sym, ap, subst, _∙_}
 use mathlib.Core.Logic.{_≢_, _⊎_, inl, inr}
 use mathlib.Core.List.{List, [], _∷_}
 use Prim.Native.Nat.{ℕ, zero, suc, _<_}

@@ -16,7 +16,7 @@ use Rattle.pool.specs.Table.{lookup, resident}
 use Rattle.pool.specs.Frames.{freeFrame}
 use Rattle.pool.specs.Moves.{withOwn, works}
 use Rattle.pool.specs.Apply.{slotsAfter, pinsAfter, freeAfter, entryPagesAfter, entryFramesAfter, apply}
-use Rattle.pool.specs.Stages.{around, stage16}
+use Rattle.pool.specs.Stages.{stage16}
 use Rattle.pool.specs.Calls.{callOf}
 use Rattle.pool.specs.declared.Pool.{Pool}
 use Rattle.pool.specs.declared.Client.{Client}

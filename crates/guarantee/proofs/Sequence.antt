@@ -1,29 +1,19 @@
 -- The sequential pool follows every list of calls. Assumes nothing.
-use mathlib.Core.Path.{_≡_, refl, sym, ap, _∙_}
+use mathlib.Core.Path.{_≡_, refl, ap}
 use mathlib.Core.Bool.{true}
 use mathlib.Core.List.{List, [], _∷_}
-use Prim.Native.Nat.{ℕ, zero, suc, _+_, _*_, _<_}
-use native.Mathlib.Decide.{ℕ-discrete, decLt}
-use native.Mathlib.Omega.{arith}
-use lib.Dec.{ltb}
-use lib.ListN.{getD, replicate, getD-replicate}
-use borrow.Author.Tests.{lt-ltb}
+use Prim.Native.Nat.{ℕ, zero, suc}
+use lib.ListN.{replicate}
 use Rattle.pool.specs.Choose.{choose}
-use Rattle.pool.specs.State.{evicted, within, slot, pins, client, no-client, grantPage}
-use Rattle.pool.specs.State as State
-use Rattle.pool.specs.Answers.{refusalOf}
+use Rattle.pool.specs.State.{slot, client, grantPage}
 use Rattle.pool.specs.Valid.{numbersOk}
-use Rattle.pool.specs.Calls.{fresh, refusal, callOf, setupOf}
+use Rattle.pool.specs.Calls.{fresh, setupOf}
 use Rattle.pool.specs.declared.Pool.{Pool}
 use Rattle.pool.specs.declared.Call.{Call}
-use Rattle.pool.specs.declared.Outcome.{Outcome}
 use Rattle.pool.specs.declared.Answer.the-variants.{Done}
-use Rattle.laws.specs.Choices.{by-test, chosen}
-use Rattle.invariant.proofs.Reached.{Reached, Shape}
-use Rattle.invariant.proofs.After.{client-past}
-use Rattle.invariant.proofs.Valid.{valid-reached}
+use Rattle.invariant.proofs.Reached.{Reached}
 use Rattle.invariant.proofs.Setup.{pins-none, rests}
-use Rattle.invariant.proofs.Calls.{never-stuck, call-moves, call-turned, reached-call}
+use Rattle.invariant.proofs.Calls.{reached-call}
 use Rattle.guarantee.specs.Sequential.{Sequential, empty, resting, start}
 use Rattle.guarantee.specs.Claims.{Follows, ends, goes}
 use Rattle.guarantee.proofs.Mirror.{seen, seen-evicted, Mirrors, upTo, downFrom, viewTaker, view, mirrors-view}

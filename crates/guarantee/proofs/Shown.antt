@@ -1,7 +1,6 @@
 -- What each write leaves of the sequential pool's places: all of them as they were, unless a page is admitted or dropped. Assumes nothing.
 use mathlib.Core.Path.{_≡_, refl, sym, ap, _∙_}
 use mathlib.Core.Logic.{_≢_, _⊎_, inl, inr}
-use mathlib.Core.Bool.{Bool, true, false}
 use Prim.Native.Nat.{ℕ, _<_}
 use native.Mathlib.Decide.{ℕ-discrete}
 use lib.Dec.{T, eqb}
@@ -9,8 +8,7 @@ use Rattle.pool.specs.State.{none, evicted, total, slot, pins, entryFrame}
 use Rattle.pool.specs.Apply.{slotsAfter, pinsAfter, entryPagesAfter, entryFramesAfter, apply}
 use Rattle.pool.specs.declared.Pool.{Pool}
 use Rattle.pool.specs.declared.Move.{Move}
-use Rattle.pool.specs.declared.Write.{Write}
-use Rattle.pool.specs.declared.Write.the-variants.{Keep, PutSlot, PutPins, PutCount, TakeFrame, PutEntry, PutHand, PutFree}
+use Rattle.pool.specs.declared.Write.the-variants.{PutSlot, PutPins, TakeFrame, PutEntry}
 use Rattle.invariant.proofs.Reached.{Reached, mapped}
 use Rattle.invariant.proofs.After.{slot-kept, slot-here, slot-else, slot-in, pins-kept, pins-here, pins-else}
 use Rattle.invariant.proofs.Writes.{silent, untouched}

@@ -16,7 +16,6 @@ use Rattle.pool.specs.Apply.{apply}
 use Rattle.pool.specs.declared.Pool.{Pool}
 use Rattle.pool.specs.declared.Client.{Client}
 use Rattle.pool.specs.declared.Move.{Move}
-use Rattle.pool.specs.declared.Answer.the-variants.{Refused}
 use Rattle.pool.specs.declared.Counted.{Counted}
 use Rattle.pool.specs.declared.Counted.the-variants.{Nothing, Drop}
 use Rattle.pool.specs.declared.GrantChange.the-variants.{Same}

@@ -7,7 +7,7 @@ use Prim.Native.Nat.{ℕ, _<_}
 use native.Mathlib.Omega.{arith}
 use lib.Dec.{T}
 use Rattle.pool.specs.State.{none, evicted, pinned, page, pins, client}
-use Rattle.pool.specs.Table.{entryOf, lookup, unusedEntry}
+use Rattle.pool.specs.Table.{entryOf, unusedEntry}
 use Rattle.pool.specs.Frames.{freeFrame}
 use Rattle.pool.specs.Moves.{withOwn, works}
 use Rattle.pool.specs.declared.Pool.{Pool}

@@ -3,7 +3,7 @@
 -- it is d places on. Assumes nothing.
 use mathlib.Core.Path.{_≡_, refl, sym, ap, _∙_}
 use mathlib.Core.Logic.{_≢_, _⊎_, inl, inr}
-use mathlib.Core.Bool.{Bool, true, false}
+use mathlib.Core.Bool.{true, false}
 use mathlib.Core.List.{List, [], _∷_}
 use Prim.Native.Nat.{ℕ, zero, suc, _+_, _-_, _≤_, _<_, _%_}
 use native.Mathlib.Decide.{ℕ-discrete, decLt}
@@ -11,10 +11,10 @@ use native.Mathlib.Nat.{mod-lt}
 use native.Mathlib.Omega.{arith}
 use lib.Dec.{T, eqb}
 use borrow.Author.Tests.{eqb-true, eqb-false, ltb-true, ltb-false, not-true, not-false}
-use Rattle.pool.specs.State.{none, evicted, clientCount, total, slot, pins, entryPage, entryFrame, client}
-use Rattle.pool.specs.Table.{maps, entryOf, lookup, resident}
+use Rattle.pool.specs.State.{none, evicted, clientCount, slot, pins, client}
+use Rattle.pool.specs.Table.{lookup, resident}
 use Rattle.pool.specs.Moves.{works, withPlace}
-use Rattle.pool.specs.Apply.{slotsAfter, pinsAfter, freeAfter, entryPagesAfter, entryFramesAfter, apply}
+use Rattle.pool.specs.Apply.{slotsAfter, pinsAfter, freeAfter, apply}
 use Rattle.pool.specs.Stages.{around}
 use Rattle.pool.specs.Calls.{setupOf, beginMove, callOf, poolAfter}
 use Rattle.pool.specs.declared.Pool.{Pool}
@@ -24,8 +24,7 @@ use Rattle.pool.specs.declared.Outcome.{Outcome}
 use Rattle.pool.specs.declared.Call.{Call}
 use Rattle.pool.specs.declared.Call.the-variants.{Begin, Step}
 use Rattle.pool.specs.declared.Answer.the-variants.{Done, Granted}
-use Rattle.pool.specs.declared.Write.{Write}
-use Rattle.pool.specs.declared.Write.the-variants.{Keep, PutSlot, PutPins, PutCount, TakeFrame, PutEntry, PutHand, PutFree}
+use Rattle.pool.specs.declared.Write.the-variants.{Keep}
 use Rattle.laws.specs.Choices.{by-test}
 use Rattle.invariant.proofs.Reached.{one, sumTo, filling, Leaves, Shape, Reached}
 use Rattle.invariant.proofs.After.{pins-kept, slot-kept}
@@ -37,7 +36,7 @@ use Rattle.invariant.proofs.Calls.{reached-calls}
 use Rattle.guarantee.specs.Runs.{events, At}
 use Rattle.guarantee.specs.Claims.{GrantedWithin, Claim-limits}
 use Rattle.guarantee.proofs.Start.{starts}
-use Rattle.guarantee.proofs.Turned.{other-answer, down, by-move, went}
+use Rattle.guarantee.proofs.Turned.{down, by-move, went}
 use Rattle.guarantee.proofs.Steps.{On, Goes, begun-is, begun-on, answer-is, onto, on-next, go1, go1-found, go2, go3, go4, go5, go6, go7, go8, go8-on, go9, go18}
 
 -- ---- the pool after a step

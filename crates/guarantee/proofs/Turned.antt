@@ -2,18 +2,16 @@
 -- refusal 15, which is claimed to be `refused15`, and stuck ones, which are answered by 8 and change nothing. Assumes nothing.
 use mathlib.Core.Path.{_≡_, refl, sym, ap, _∙_}
 use mathlib.Core.Logic.{_≢_, _⊎_, inl, inr}
-use mathlib.Core.Bool.{true, not}
-use Prim.Native.Nat.{ℕ, _<_}
+use mathlib.Core.Bool.{not}
+use Prim.Native.Nat.{ℕ}
 use native.Mathlib.Omega.{arith}
 use lib.Dec.{T, eqb}
-use borrow.Author.Tests.{eqb-true, eqb-false, eq-eqb, ltb-true, not-true}
+use borrow.Author.Tests.{eqb-true, eqb-false, not-true}
 use Rattle.pool.specs.Answers.{refusalOf}
-use Rattle.pool.specs.State.{none, clientCount, client}
-use Rattle.pool.specs.Grants.{grantOf}
+use Rattle.pool.specs.State.{client}
 use Rattle.pool.specs.Moves.{refused15, stuck}
 use Rattle.pool.specs.Apply.{apply}
-use Rattle.pool.specs.Valid.{valid}
-use Rattle.pool.specs.Calls.{turnedDown, caller, refusalAt, refusal, releaseMove, moveOf, finished, callOf}
+use Rattle.pool.specs.Calls.{turnedDown, caller, refusal, releaseMove, moveOf, finished, callOf}
 use Rattle.pool.specs.declared.Pool.{Pool}
 use Rattle.pool.specs.declared.Client.{Client}
 use Rattle.pool.specs.declared.Move.{Move}

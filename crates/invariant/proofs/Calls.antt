@@ -15,9 +15,7 @@ use Rattle.pool.specs.Apply.{apply}
 use Rattle.pool.specs.Valid.{numbersOk}
 use Rattle.pool.specs.Calls.{turnedDown, fresh, caller, refusalAt, refusal, moveOf, finished, callOf, poolAfter}
 use Rattle.pool.specs.declared.Pool.{Pool}
-use Rattle.pool.specs.declared.Client.{Client}
 use Rattle.pool.specs.declared.Call.{Call}
-use Rattle.pool.specs.declared.Call.the-variants.{Begin, Step, Release}
 use Rattle.pool.specs.declared.Move.{Move}
 use Rattle.pool.specs.declared.Outcome.{Outcome}
 use Rattle.pool.specs.declared.Answer.the-variants.{Refused}

@@ -1,13 +1,12 @@
 -- Every call that is not turned down in a reached pool makes one of the moves of `Edges`. Assumes nothing.
 use mathlib.Core.Path.{_≡_, refl, sym, ap, _∙_}
 use mathlib.Core.Logic.{_≢_, inl, inr}
-use mathlib.Core.Bool.{Bool, true, false, not}
+use mathlib.Core.Bool.{not}
 use Prim.Native.Nat.{ℕ, _+_, _-_, _≤_, _<_, _%_}
 use native.Mathlib.Nat.{mod-lt}
 use native.Mathlib.Omega.{arith}
 use lib.Dec.{T, eqb}
 use borrow.Author.Tests.{eqb-true, eqb-false, lt-ltb, ltb-true}
-use Rattle.pool.specs.Choose.{choose}
 use Rattle.pool.specs.State.{none, evicted, clientCount, slot, page, pins, count, client, grantFrame}
 use Rattle.pool.specs.Table.{entryOf, lookup, unusedEntry}
 use Rattle.pool.specs.Frames.{freeFrame}
