@@ -22,14 +22,11 @@ use Rattle.guarantee.proofs.Start.{starts}
 use Rattle.guarantee.proofs.Follow.{followed}
 
 -- from any pool that the sequential pool mirrors
-pub follows-on : {p : Pool} {q : Sequential} (calls : List Call) → Reached p → Mirrors p q → Follows p q calls
+follows-on : {p : Pool} {q : Sequential} (calls : List Call) → Reached p → Mirrors p q → Follows p q calls
 follows-on [] r mirror = ends (same-pages r mirror)
 follows-on {p} {q} (x ∷ calls) r mirror =
     let f = followed r mirror x in
     goes (same-pages r mirror) (f .rule) (follows-on calls (reached-call p x r) (f .mirrors))
-
-pub follows : (p : Pool) (calls : List Call) → Reached p → Follows p (view p) calls
-follows p calls r = follows-on calls r (mirrors-view p (r .shape))
 
 -- ---- from setup
 

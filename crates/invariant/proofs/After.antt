@@ -25,6 +25,9 @@ use Rattle.invariant.proofs.Reached.{Shape}
 
 -- ---- a list of which the first n count
 
+pub inside : (i n : ℕ) → (n ≤ i → ⊥) → i < n
+inside i n z = elim (decLt i n) [ yes h ↦ h | no h ↦ absurd (z (omega arith)) ]
+
 pub within-in : (l : List ℕ) (n d i : ℕ) → i < n → within l n d i ≡ getD l i 0
 unfolding within
 within-in l n d i h = chosen _ _ _ (lt-ltb i n h)
@@ -168,11 +171,7 @@ client-past p c h = passed _ _ _ (le-ltb c (clientCount p) h)
 
 -- a client of which anything is known that does not hold of one at rest is one of the pool's
 pub client-here : (p : Pool) (P : Client → Type 0) (c : ℕ) → P (client p c) → (P (resting 0) → ⊥) → c < clientCount p
-client-here p P c h no-rest = go (decLt c (clientCount p))
-  where
-    go : Dec (c < clientCount p) → c < clientCount p
-    go (yes l) = l
-    go (no l) = absurd (no-rest (rw (client-past p c (omega arith)) at h))
+client-here p P c h no-rest = inside c (clientCount p) (λ l. no-rest (rw (client-past p c l) at h))
 
 module _ (p : Pool) (c : ℕ) (m : Move) (shape : Shape p) where
   pub client-same : c < clientCount p → client (apply p c m) c ≡ m .next
@@ -302,25 +301,13 @@ pub entryFrame-past : (p : Pool) (i : ℕ) → total p ≤ i → entryFrame p i 
 unfolding entryFrame
 entryFrame-past p i h = within-past (p .«table_frames») (total p) none i h
 
+-- what is not neutral stands in the pool
 module _ (p : Pool) (i : ℕ) where
-  -- what is not neutral stands in the pool
   pub slot-in : slot p i ≢ none → i < p .size
-  slot-in z = go (decLt i (p .size))
-    where
-      go : Dec (i < p .size) → i < p .size
-      go (yes h) = h
-      go (no h) = absurd (z (slot-past p i (omega arith)))
+  slot-in z = inside i (p .size) (λ h. z (slot-past p i h))
 
   pub pins-in : pins p i ≢ evicted → i < total p
-  pins-in z = go (decLt i (total p))
-    where
-      go : Dec (i < total p) → i < total p
-      go (yes h) = h
-      go (no h) = absurd (z (pins-past p i (omega arith)))
+  pins-in z = inside i (total p) (λ h. z (pins-past p i h))
 
   pub entry-in : entryFrame p i ≢ none → i < total p
-  entry-in z = go (decLt i (total p))
-    where
-      go : Dec (i < total p) → i < total p
-      go (yes h) = h
-      go (no h) = absurd (z (entryFrame-past p i (omega arith)))
+  entry-in z = inside i (total p) (λ h. z (entryFrame-past p i h))

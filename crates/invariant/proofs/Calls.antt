@@ -18,7 +18,6 @@ use Rattle.pool.specs.declared.Pool.{Pool}
 use Rattle.pool.specs.declared.Call.{Call}
 use Rattle.pool.specs.declared.Move.{Move}
 use Rattle.pool.specs.declared.Outcome.{Outcome}
-use Rattle.pool.specs.declared.Answer.the-variants.{Refused}
 use Rattle.laws.specs.Choices.{by-test, chosen, passed}
 use Rattle.laws.specs.Scans.{both-yes}
 use Rattle.invariant.proofs.Reached.{Reached}
@@ -109,21 +108,13 @@ module _ (p : Pool) (x : Call) where
       go (yes e) = subst (λ (o : Outcome). Reached (o .pool)) (sym (call-moves r e)) (reached-next r e)
       go (no e) = subst (λ (o : Outcome). Reached (o .pool)) (sym (call-turned (refusal p x) refl e)) r
 
-  -- 8 is no refusal of a reached pool, and no answer of one
+  -- 8 is no refusal of a reached pool
   pub refusal-not-8 : Reached p → refusal p x ≢ 8
   unfolding refusal
   refusal-not-8 r e = go x (sym (chosen _ _ 8 (valid-reached p r)) ∙ e)
     where
       go : (x : Call) → choose (ltb (caller x) (clientCount p)) (refusalAt p (client p (caller x)) x) 9 ≡ 8 → ⊥
       go x = by-test (λ (n : ℕ). n ≡ 8 → ⊥) (λ _. refusal-at p (client p (caller x)) x .1) (λ _. differ 9 8 tt)
-
-  pub never-8 : Reached p → callOf p x .answer ≢ Refused 8
-  unfolding refusalOf
-  never-8 r w = go (ℕ-discrete (refusal p x) 0)
-    where
-      go : Dec (refusal p x ≡ 0) → ⊥
-      go (yes e) = never-stuck r e (ap refusalOf (sym (ap (λ (o : Outcome). o .answer) (call-moves r e)) ∙ w))
-      go (no e) = refusal-not-8 r (ap refusalOf (sym (ap (λ (o : Outcome). o .answer) (call-turned (refusal p x) refl e)) ∙ w))
 
 -- ---- lists of calls
 

@@ -13,7 +13,7 @@ use Rattle.pool.specs.Frames.{referenced, freeFrame}
 use Rattle.pool.specs.Grants.{grantOf}
 use Rattle.pool.specs.Moves.{withOwn, works}
 use Rattle.pool.specs.Stages.{raised}
-use Rattle.pool.specs.Apply.{slotsAfter, pagesAfter, pinsAfter, entryPagesAfter, entryFramesAfter}
+use Rattle.pool.specs.Apply.{slotsAfter, pagesAfter, pinsAfter, countsAfter, entryPagesAfter, entryFramesAfter, freeAfter, lastAfter}
 use Rattle.pool.specs.declared.Pool.{Pool}
 use Rattle.pool.specs.declared.Client.{Client}
 use Rattle.pool.specs.declared.Move.{Move}
@@ -22,7 +22,7 @@ use Rattle.pool.specs.declared.Counted.the-variants.{Hit, Join, Admitted, Reviv
 use Rattle.pool.specs.declared.GrantChange.the-variants.{Same, Open, End}
 use Rattle.pool.specs.declared.Write.{Write}
 use Rattle.pool.specs.declared.Write.the-variants.{PutSlot, PutPins, PutCount, TakeFrame, PutEntry}
-use Rattle.invariant.proofs.After.{SlotsStay, PinsStay, PinsPut, PagesStay, PagesPut, EntryPagesStay, EntryFramesStay}
+use Rattle.invariant.proofs.After.{SlotsStay, PinsStay, PinsPut, PagesStay, PagesPut, CountsStay, CountsPut, EntryPagesStay, EntryFramesStay}
 use Rattle.invariant.proofs.Writes.{silent, Untouched, untouched}
 use Rattle.invariant.proofs.Reached.{Reached, mapped, Seated, Knows, unplaced, pinsFound, leaving}
 use Rattle.invariant.proofs.Searches.{lookup-found, lookup-none, unused-found, grantOf-found, free-found}
@@ -30,8 +30,18 @@ use Rattle.invariant.proofs.Table.{suc-not, lookup-mapped}
 use Rattle.invariant.proofs.Grants.{Granting, keeps, opens, ends}
 use Rattle.invariant.proofs.Never.{know}
 use Rattle.invariant.proofs.Flags.{differ, imp}
-use Rattle.invariant.proofs.Facts.{own-pins, grant-live, found-live, one-more}
+use Rattle.invariant.proofs.Facts.{raised-ok, own-pins, grant-live, found-live, one-more}
 use Rattle.invariant.proofs.Edges.{Quiet, keep, hand, counts, free, Edge, on, grants, found1, found18, lost2, lost22, pins2, pins19, gets3, gets21, takes, fills, swaps, gives-up, drops, removes, admits, revives, evicts20, evicts23, begins, releases}
+
+-- a write keeps free, the last frame taken and the counts in their ranges
+pub data CountOk (p : Pool) (w : Write) : Type 0 where
+  counts-stay : CountsStay p w → CountOk p w
+  counts-put : (f x : ℕ) → CountsPut p w f x → x ≤ p .cap → CountOk p w
+
+pub record Written (p : Pool) (w : Write) : Type 0 where
+  pub free-ok : freeAfter (p .free) w ≤ p .size
+  pub last-ok : (lastAfter (p .last) w ≡ none) ⊎ (lastAfter (p .last) w < total p)
+  pub count-ok : CountOk p w
 
 module _ (p : Pool) (c : ℕ) (m : Move) where
   abbrev k : Client
@@ -97,6 +107,7 @@ module _ (p : Pool) (c : ℕ) (m : Move) where
     pub opened : (g f : ℕ) → m .grants ≡ Open (k .held) g f → Opened g f
     pub entries : EntryOk
     pub pages : PageOk
+    pub written : Written p (m .write)
 
 -- ---- a quiet write leaves the lists
 
@@ -124,6 +135,17 @@ module _ (p : Pool) (c : ℕ) (here : c < clientCount p) (r : Reached p) where
   kn : (i : ℕ) → client p c .stage ≡ i → Knows i p me
   kn = know p r c
 
+  -- free, the last frame taken and the counts are not written
+  unwritten : {w : Write} → freeAfter (p .free) w ≡ p .free → lastAfter (p .last) w ≡ p .last → CountsStay p w → Written p w
+  unwritten a b e = record { free-ok = rw a (r .ranges .free-ok); last-ok = rw b (r .ranges .last-ok); count-ok = counts-stay e }
+
+  quiet-written : {w : Write} → Quiet p w → Written p w
+  unfolding freeAfter lastAfter countsAfter
+  quiet-written keep = unwritten refl refl refl
+  quiet-written hand = unwritten refl refl refl
+  quiet-written (counts {f} {x} h) = record { free-ok = r .ranges .free-ok; last-ok = r .ranges .last-ok; count-ok = counts-put f x refl h }
+  quiet-written (free h) = record { free-ok = h; last-ok = r .ranges .last-ok; count-ok = counts-stay refl }
+
   -- a quiet write: only the client changes
   quietly : {m : Move} → Quiet p (m .write) → OwnOk p c m → FoundOk p c m → m .grants ≡ Same → m .next .held ≡ me .held → Effect p c m
   quietly {m} w o f g h =
@@ -136,12 +158,13 @@ module _ (p : Pool) (c : ℕ) (here : c < clientCount p) (r : Reached p) where
         opened = λ _ _ e. no-open (sym g ∙ e);
         entries = entries-stay (unseen _ _ w .entry-pages) (unseen _ _ w .entry-frames);
         pages = pages-stay (unseen _ _ w .pages);
+        written = quiet-written w;
       }
 
   -- one frame's pins change, and no grant
   pinning : {m : Move} (f x : ℕ) → m .write ≡ PutPins f x → f < total p → f ≢ none → PinChange p c m f x → OwnOk p c m → m .next .found ≡ me .found
       → Granting p c m → ((g y : ℕ) → m .grants ≡ Open (me .held) g y → Opened p c m g y) → Effect p c m
-  unfolding slotsAfter pinsAfter entryPagesAfter entryFramesAfter pagesAfter
+  unfolding slotsAfter pinsAfter entryPagesAfter entryFramesAfter pagesAfter freeAfter lastAfter countsAfter
   pinning f x e h z ch o fo g op =
       record {
         own = o;
@@ -152,12 +175,13 @@ module _ (p : Pool) (c : ℕ) (here : c < clientCount p) (r : Reached p) where
         opened = op;
         entries = entries-stay (rw e refl) (rw e refl);
         pages = pages-stay (rw e refl);
+        written = unwritten (rw e refl) (rw e refl) (rw e refl);
       }
 
   -- the own frame goes into a slot
   placing : {m : Move} (i : ℕ) → m .write ≡ PutSlot i (me .own) → SlotOk p c m → OwnOk p c m → m .next .found ≡ me .found
       → m .grants ≡ Same → m .next .held ≡ me .held → Effect p c m
-  unfolding slotsAfter pinsAfter entryPagesAfter entryFramesAfter pagesAfter
+  unfolding slotsAfter pinsAfter entryPagesAfter entryFramesAfter pagesAfter freeAfter lastAfter countsAfter
   placing i e s o f g h =
       record {
         own = o;
@@ -168,12 +192,13 @@ module _ (p : Pool) (c : ℕ) (here : c < clientCount p) (r : Reached p) where
         opened = λ _ _ x. no-open (sym g ∙ x);
         entries = entries-stay (rw e refl) (rw e refl);
         pages = pages-stay (rw e refl);
+        written = unwritten (rw e refl) (rw e refl) (rw e refl);
       }
 
   -- one entry of the table changes
   entering : {m : Move} (i g f : ℕ) → m .write ≡ PutEntry i g f → EntryOk p c m → OwnOk p c m → FoundOk p c m → Granting p c m
       → ((g y : ℕ) → m .grants ≡ Open (me .held) g y → Opened p c m g y) → Effect p c m
-  unfolding slotsAfter pinsAfter pagesAfter
+  unfolding slotsAfter pinsAfter pagesAfter freeAfter lastAfter countsAfter
   entering i g f e en o fo gr op =
       record {
         own = o;
@@ -184,6 +209,7 @@ module _ (p : Pool) (c : ℕ) (here : c < clientCount p) (r : Reached p) where
         opened = op;
         entries = en;
         pages = pages-stay (rw e refl);
+        written = unwritten (rw e refl) (rw e refl) (rw e refl);
       }
 
   -- what a look-up finds
@@ -209,7 +235,7 @@ module _ (p : Pool) (c : ℕ) (here : c < clientCount p) (r : Reached p) where
   gets-found : (i : ℕ) (u : Counted) → client p c .stage ≡ i → T (not (eqb i 0)) → T (pinsFound i) → me .found ≢ none
       → (pins p (me .found) ≢ evicted → mapped p (me .found) ≡ suc (me .page))
       → Effect p c (grants me (me .found) (PutCount (me .found) (raised (p .cap) (count p (me .found)))) u)
-  unfolding slotsAfter pinsAfter entryPagesAfter entryFramesAfter pagesAfter
+  unfolding slotsAfter pinsAfter entryPagesAfter entryFramesAfter pagesAfter freeAfter lastAfter countsAfter
   gets-found i u e w t z live =
       let two = found-live p r c (rw e t) z in
       record {
@@ -222,6 +248,7 @@ module _ (p : Pool) (c : ℕ) (here : c < clientCount p) (r : Reached p) where
             of-found b (λ n. z (sym b ∙ n)) (ap (mapped p) b ∙ live (λ n. let y : ⊥ = omega arith in y) ∙ ap suc a) (rw b two);
         entries = entries-stay refl refl;
         pages = pages-stay refl;
+        written = quiet-written (counts (raised-ok _ _ (r .ranges .count-ok (me .found))));
       }
 
   -- the page is mapped to the own frame, which is granted
@@ -237,7 +264,7 @@ module _ (p : Pool) (c : ℕ) (here : c < clientCount p) (r : Reached p) where
       (λ _ _ x. no-open x)
 
   pub effect : {m : Move} → Edge p c m → Effect p c m
-  unfolding slotsAfter pinsAfter entryPagesAfter entryFramesAfter pagesAfter
+  unfolding slotsAfter pinsAfter entryPagesAfter entryFramesAfter pagesAfter freeAfter lastAfter countsAfter
   effect (on n j w h) = quietly (h .quiet) (kept (h .same .own) (h .stages .from-unplaced)) (found-stays (h .same .found)) refl (h .same .held)
   effect (found1 e z) = let l = looking (me .page) z in quietly keep (kept refl tt) (looked z (l .0) (l .1)) refl refl
   effect (found18 e z) = let l = looking (me .page) z in quietly keep (kept refl tt) (looked z (l .0) (l .1)) refl refl
@@ -258,6 +285,7 @@ module _ (p : Pool) (c : ℕ) (here : c < clientCount p) (r : Reached p) where
         opened = λ _ _ x. no-open x;
         entries = entries-stay refl refl;
         pages = paged (freeFrame p) (f .1) (f .0) refl refl;
+        written = record { free-ok = r .ranges .free-ok; last-ok = inr (f .0); count-ok = counts-put _ 1 refl (r .shape .cap-low) };
       }
   effect (fills e s) = placing (me .place) refl (puts (me .place) refl (r .ranges .place-ok c) (rw e tt) tt refl (kn 8 e) (inl s)) (kept refl tt) refl refl refl
   effect (swaps e s) =

@@ -162,13 +162,13 @@ module _ (p : Pool) (r : Reached p) where
 
   -- an entry that stage 17 does not find is gone
   pub entry-gone : (v : ℕ) → v ≢ none → lookup p (page p v) ≢ v → mapped p v ≡ 0
-  entry-gone v z n = go (ℕ-discrete (mapped p v) 0)
-    where
-      go : Dec (mapped p v ≡ 0) → mapped p v ≡ 0
-      go (yes e) = e
-      go (no w) =
-          let s = some-suc (mapped p v) w in
-          absurd (n (ap (lookup p) (r .outline .page-true v (s .0) z (s .1)) ∙ mapped-lookup p (r .shape) (r .outline .pages-apart) v (s .0) z (s .1) .1))
+  entry-gone v z n =
+      elim (ℕ-discrete (mapped p v) 0) [
+        | yes e ↦ e
+        | no w ↦
+            let s = some-suc (mapped p v) w in
+            absurd (n (ap (lookup p) (r .outline .page-true v (s .0) z (s .1)) ∙ mapped-lookup p (r .shape) (r .outline .pages-apart) v (s .0) z (s .1) .1))
+      ]
 
   -- an own frame that has no slot yet is nobody's victim while that hunts
   pub own-not-victim : (c d : ℕ) → T (unplaced (client p c .stage)) → client p c .own ≢ none → T (hunting (client p d .stage))

@@ -1,6 +1,7 @@
 pub mod Reached
 pub mod After
 pub mod Writes
+pub mod Apart
 pub mod Sums
 pub mod Searches
 pub mod Each

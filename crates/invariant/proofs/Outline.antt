@@ -16,6 +16,7 @@ use Rattle.pool.specs.declared.Move.{Move}
 use Rattle.pool.specs.declared.Write.the-variants.{PutEntry}
 use Rattle.invariant.proofs.Reached.{Reached, Apart, Outline, mapped, Seated, Knows, Orphan, foundless, victimless}
 use Rattle.invariant.proofs.After.{client-same, client-other, all-clients, pins-kept, pins-here, page-here, entryPage-kept, entryFrame-kept}
+use Rattle.invariant.proofs.Apart.{apart-used, apart-same}
 use Rattle.invariant.proofs.Searches.{Fresh, fresh-means, grant-in, lookup-found, unused-found}
 use Rattle.invariant.proofs.Table.{suc-not, some-suc, mapped-none, mapped-zero, mapped-kept, put-frame, put-page, else-frame, else-page, put-other, put-apart, put-new, put-gone, put-cases}
 use Rattle.invariant.proofs.Never.{know}
@@ -63,51 +64,28 @@ module _ (p : Pool) (c : ℕ) (here : c < clientCount p) (r : Reached p) (m : Mo
   entries-next = go (x .entries)
     where
       go : EntryOk p c m → Apart (entryFrame q) none
-      go (entries-stay _ w) =
-          let s : (i : ℕ) → entryFrame q i ≡ entryFrame p i = entryFrame-kept p c m (r .shape) w in
-          λ i j z e. r .outline .entries-apart i j (λ n. z (s i ∙ n)) (sym (s i) ∙ e ∙ s j)
+      go (entries-stay _ w) = apart-same (entryFrame p) (entryFrame q) none (r .outline .entries-apart) (entryFrame-kept p c m (r .shape) w)
       go (maps i w h z _ _ _ _) = put-apart p c m (r .shape) i (k .page) (k .own) w h (r .outline .entries-apart) (λ _ j _. own-only z j)
       go (unmaps i g w h _ _ _) = put-apart p c m (r .shape) i g none w h (r .outline .entries-apart) (λ z. absurd (z refl))
 
   pages-next : (i j : ℕ) → entryFrame q i ≢ none → entryFrame q j ≢ none → entryPage q i ≡ entryPage q j → i ≡ j
-  pages-next i j a b e = go (x .entries)
+  pages-next = go (x .entries)
     where
-      go : EntryOk p c m → i ≡ j
+      -- the entry at n is put, with page g and frame f
+      put : (n g f : ℕ) → m .write ≡ PutEntry n g f → n < total p → (f ≢ none → (i : ℕ) → i ≢ n → entryFrame p i ≢ none → entryPage p i ≢ g)
+          → (i j : ℕ) → entryFrame q i ≢ none → entryFrame q j ≢ none → entryPage q i ≡ entryPage q j → i ≡ j
+      put n g f w h new =
+          apart-used (λ i. entryFrame p i ≢ none) (λ i. entryFrame q i ≢ none) (entryPage p) (entryPage q) n (r .outline .pages-apart)
+          (λ i o z y. z (else-frame p c m (r .shape) n g f w h i o ∙ y)) (else-page p c m (r .shape) n g f w h)
+          (λ z i o y e. new (λ v. z (put-frame p c m (r .shape) n g f w h ∙ v)) i o y (e ∙ put-page p c m (r .shape) n g f w h))
+
+      go : EntryOk p c m → (i j : ℕ) → entryFrame q i ≢ none → entryFrame q j ≢ none → entryPage q i ≡ entryPage q j → i ≡ j
       go (entries-stay v w) =
           let s : (i : ℕ) → entryFrame q i ≡ entryFrame p i = entryFrame-kept p c m (r .shape) w in
           let t : (i : ℕ) → entryPage q i ≡ entryPage p i = entryPage-kept p c m (r .shape) v in
-          r .outline .pages-apart i j (λ n. a (s i ∙ n)) (λ n. b (s j ∙ n)) (sym (t i) ∙ e ∙ t j)
-      go (maps n w h z _ _ _ o) = by (ℕ-discrete i n) (ℕ-discrete j n)
-        where
-          fr : (i : ℕ) → i ≢ n → entryFrame q i ≡ entryFrame p i
-          fr = else-frame p c m (r .shape) n (k .page) (k .own) w h
-
-          pg : (i : ℕ) → i ≢ n → entryPage q i ≡ entryPage p i
-          pg = else-page p c m (r .shape) n (k .page) (k .own) w h
-
-          new : entryPage q n ≡ k .page
-          new = put-page p c m (r .shape) n (k .page) (k .own) w h
-
-          by : Dec (i ≡ n) → Dec (j ≡ n) → i ≡ j
-          by (yes u) (yes v) = u ∙ sym v
-          by (no u) (no v) = r .outline .pages-apart i j (λ y. a (fr i u ∙ y)) (λ y. b (fr j v ∙ y)) (sym (pg i u) ∙ e ∙ pg j v)
-          by (yes u) (no v) = absurd (o j v (λ y. b (fr j v ∙ y)) (sym (pg j v) ∙ sym e ∙ ap (entryPage q) u ∙ new))
-          by (no u) (yes v) = absurd (o i u (λ y. a (fr i u ∙ y)) (sym (pg i u) ∙ e ∙ ap (entryPage q) v ∙ new))
-      go (unmaps n g w h _ _ _) = by (ℕ-discrete i n) (ℕ-discrete j n)
-        where
-          fr : (i : ℕ) → i ≢ n → entryFrame q i ≡ entryFrame p i
-          fr = else-frame p c m (r .shape) n g none w h
-
-          pg : (i : ℕ) → i ≢ n → entryPage q i ≡ entryPage p i
-          pg = else-page p c m (r .shape) n g none w h
-
-          gone : (i : ℕ) → i ≡ n → entryFrame q i ≡ none
-          gone i u = ap (entryFrame q) u ∙ put-frame p c m (r .shape) n g none w h
-
-          by : Dec (i ≡ n) → Dec (j ≡ n) → i ≡ j
-          by (no u) (no v) = r .outline .pages-apart i j (λ y. a (fr i u ∙ y)) (λ y. b (fr j v ∙ y)) (sym (pg i u) ∙ e ∙ pg j v)
-          by (yes u) _ = absurd (a (gone i u))
-          by (no u) (yes v) = absurd (b (gone j v))
+          λ i j a b e. r .outline .pages-apart i j (λ n. a (s i ∙ n)) (λ n. b (s j ∙ n)) (sym (t i) ∙ e ∙ t j)
+      go (maps n w h _ _ _ _ o) = put n (k .page) (k .own) w h (λ _. o)
+      go (unmaps n g w h _ _ _) = put n g none w h (λ z. absurd (z refl))
 
   module _ (f : ℕ) (z : f ≢ none) where
     -- an entry that is new is that of the own frame, which stands in a slot

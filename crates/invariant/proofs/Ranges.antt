@@ -1,28 +1,26 @@
 -- Every number stays in its range. Pins are at most 128 because no client claims a frame more than 8 times (`one-more`). Assumes nothing.
 use mathlib.Core.Path.{_≡_, refl, sym, ap, _∙_}
-use mathlib.Core.Logic.{_≢_, _⊎_, inl, inr}
+use mathlib.Core.Logic.{_≢_, inl, inr}
 use Prim.Native.Nat.{ℕ, _+_, _≤_, _<_}
 use native.Mathlib.Omega.{arith}
 use native.Mathlib.Decide.{ℕ-discrete, decLt}
 use lib.Dec.{T, eqb, leb}
 use mathlib.Core.Bool.{not}
 use Rattle.pool.specs.State.{none, pinned, clientCount, total, slot, pins, count, entryFrame, client, grantFrame}
-use Rattle.pool.specs.Apply.{countsAfter, freeAfter, lastAfter, apply}
+use Rattle.pool.specs.Apply.{apply}
 use Rattle.pool.specs.declared.Pool.{Pool}
 use Rattle.pool.specs.declared.Client.{Client}
 use Rattle.pool.specs.declared.Move.{Move}
-use Rattle.pool.specs.declared.Write.{Write}
 use Rattle.invariant.proofs.Reached.{Reached, Ranges}
-use Rattle.invariant.proofs.After.{CountsStay, CountsPut, all-clients, pins-kept, pins-here, pins-else, pins-in, count-kept, count-here, count-else, count-past, entryFrame-kept}
-use Rattle.invariant.proofs.Searches.{grant-in, free-found}
+use Rattle.invariant.proofs.After.{all-clients, pins-kept, pins-here, pins-else, pins-in, count-kept, count-here, count-else, count-past, entryFrame-kept}
+use Rattle.invariant.proofs.Searches.{grant-in}
 use Rattle.invariant.proofs.Table.{put-frame, else-frame}
 use Rattle.invariant.proofs.Flags.{differ, at-most}
-use Rattle.invariant.proofs.Facts.{raised-ok}
-use Rattle.invariant.proofs.Edges.{Quiet, keep, hand, counts, free, Edge, on, found1, found18, lost2, lost22, pins2, pins19, gets3, gets21, takes, fills, swaps, gives-up, drops, removes, admits, revives, evicts20, evicts23, begins, releases}
-use Rattle.invariant.proofs.Effects.{OwnOk, forgot, kept, taken, PinChange, adds, lowers, drops-victim, drops-own, takes-one, PinsOk, pins-stay, pins-put, FoundOk, found-stays, lost, looked, Opened, of-found, of-own, EntryOk, entries-stay, maps, unmaps, Effect}
+use Rattle.invariant.proofs.Edges.{Edge, on, found1, found18, lost2, lost22, pins2, pins19, gets3, gets21, takes, fills, swaps, gives-up, drops, removes, admits, revives, evicts20, evicts23, begins, releases}
+use Rattle.invariant.proofs.Effects.{CountOk, counts-stay, counts-put, OwnOk, forgot, kept, taken, PinChange, adds, lowers, drops-victim, drops-own, takes-one, PinsOk, pins-stay, pins-put, FoundOk, found-stays, lost, looked, Opened, of-found, of-own, EntryOk, entries-stay, maps, unmaps, Effect}
 use Rattle.invariant.proofs.Next.{SlotNow, slot-now, all-grants}
 
--- ---- what a move has to show: the numbers of the next record, and those that it writes
+-- ---- what a move has to show of the next record
 
 record Numbers (p : Pool) (n : Client) : Type 0 where
   stage-ok : n .stage ≤ 23
@@ -33,56 +31,11 @@ record Numbers (p : Pool) (n : Client) : Type 0 where
   working-held : n .stage ≢ 0 → n .held ≤ 7
   victim-ok : n .victim ≢ none → n .victim < total p
 
-data CountOk (p : Pool) (w : Write) : Type 0 where
-  counts-stay : CountsStay p w → CountOk p w
-  counts-put : (f x : ℕ) → CountsPut p w f x → x ≤ p .cap → CountOk p w
-
-record Written (p : Pool) (w : Write) : Type 0 where
-  free-ok : freeAfter (p .free) w ≤ p .size
-  last-ok : (lastAfter (p .last) w ≡ none) ⊎ (lastAfter (p .last) w < total p)
-  count-ok : CountOk p w
-
 -- ---- each kind of move shows it
 
 module _ (p : Pool) (c : ℕ) (r : Reached p) where
   abbrev k : Client
   k = client p c
-
-  -- free, the last frame taken and the counts are not written
-  unwritten : {w : Write} → freeAfter (p .free) w ≡ p .free → lastAfter (p .last) w ≡ p .last → CountsStay p w → Written p w
-  unwritten a b e = record { free-ok = rw a (r .ranges .free-ok); last-ok = rw b (r .ranges .last-ok); count-ok = counts-stay e }
-
-  quiet-written : {w : Write} → Quiet p w → Written p w
-  unfolding freeAfter lastAfter countsAfter
-  quiet-written keep = unwritten refl refl refl
-  quiet-written hand = unwritten refl refl refl
-  quiet-written (counts {f} {x} h) = record { free-ok = r .ranges .free-ok; last-ok = r .ranges .last-ok; count-ok = counts-put f x refl h }
-  quiet-written (free h) = record { free-ok = h; last-ok = r .ranges .last-ok; count-ok = counts-stay refl }
-
-  written : {m : Move} → Edge p c m → Written p (m .write)
-  unfolding freeAfter lastAfter countsAfter
-  written (on n j w h) = quiet-written (h .quiet)
-  written (found1 _ _) = unwritten refl refl refl
-  written (found18 _ _) = unwritten refl refl refl
-  written (lost2 _ _) = unwritten refl refl refl
-  written (lost22 _ _) = unwritten refl refl refl
-  written (pins2 _ _) = unwritten refl refl refl
-  written (pins19 _ _) = unwritten refl refl refl
-  written (gets3 _) = quiet-written (counts (raised-ok _ _ (r .ranges .count-ok (k .found))))
-  written (gets21 _) = quiet-written (counts (raised-ok _ _ (r .ranges .count-ok (k .found))))
-  written (takes _ z) =
-      record { free-ok = r .ranges .free-ok; last-ok = inr (free-found p (r .shape) z .0); count-ok = counts-put _ 1 refl (r .shape .cap-low) }
-  written (fills _ _) = unwritten refl refl refl
-  written (swaps _ _) = unwritten refl refl refl
-  written (gives-up _ _) = unwritten refl refl refl
-  written (drops _ _) = unwritten refl refl refl
-  written (removes _ _) = unwritten refl refl refl
-  written (admits _ _ _) = unwritten refl refl refl
-  written (revives _ _) = unwritten refl refl refl
-  written (evicts20 _) = unwritten refl refl refl
-  written (evicts23 _) = unwritten refl refl refl
-  written (begins _ _ _) = unwritten refl refl refl
-  written (releases _ _ _) = unwritten refl refl refl
 
   -- a client at work goes on with its numbers
   as-was : (n : Client) (i : ℕ) → k .stage ≡ i → T (not (eqb i 0)) → T (leb (n .stage) 23) → n .place ≡ k .place → n .busy ≡ k .busy
@@ -195,7 +148,7 @@ module _ (p : Pool) (c : ℕ) (here : c < clientCount p) (r : Reached p) (m : Mo
 
   count-range : (f : ℕ) → count q f ≤ p .cap
   unfolding apply
-  count-range f = go (written p c r e .count-ok)
+  count-range f = go (x .written .count-ok)
     where
       go : CountOk p (m .write) → count q f ≤ p .cap
       go (counts-stay w) = rw (count-kept p c m (r .shape) w f) (r .ranges .count-ok f)
@@ -251,7 +204,7 @@ module _ (p : Pool) (c : ℕ) (here : c < clientCount p) (r : Reached p) (m : Mo
   unfolding apply
   ranges-next =
       let n = numbers p c r e in
-      let w = written p c r e in
+      let w = x .written in
       record {
         free-ok = w .free-ok;
         last-ok = w .last-ok;

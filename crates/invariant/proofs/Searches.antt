@@ -19,7 +19,7 @@ use Rattle.pool.specs.declared.Client.{Client}
 use Rattle.laws.specs.Choices.{by-test, passed, scan-ind}
 use Rattle.laws.specs.Scans.{both-true, both-yes, either-false, scan-none, some-not, first-found, first-none}
 use Rattle.invariant.proofs.Reached.{Shape}
-use Rattle.invariant.proofs.After.{slot-past, pins-past, entryFrame-past, entry-in, client-past}
+use Rattle.invariant.proofs.After.{inside, slot-past, pins-past, entryFrame-past, entry-in, client-past}
 
 -- ---- the table
 
@@ -98,11 +98,7 @@ unfolding grantFrame ofClient
 grantFrame-past p c i h = passed _ _ _ (le-ltb i (client p c .held) h)
 
 pub grant-in : (p : Pool) (c i : ℕ) → grantFrame p c i ≢ none → i < client p c .held
-grant-in p c i z = go (decLt i (client p c .held))
-  where
-    go : Dec (i < client p c .held) → i < client p c .held
-    go (yes h) = h
-    go (no h) = absurd (z (grantFrame-past p c i (omega arith)))
+grant-in p c i z = inside i (client p c .held) (λ h. z (grantFrame-past p c i h))
 
 pub grantOf-found : (p : Pool) (c g : ℕ) → grantOf p c g ≢ none → (grantOf p c g < client p c .held) × (grantPage p c (grantOf p c g) ≡ g)
 unfolding grantOf

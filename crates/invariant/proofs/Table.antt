@@ -16,6 +16,7 @@ use Rattle.laws.specs.Choices.{scan-ind}
 use Rattle.laws.specs.Scans.{scan-none, scan-same, scan-only}
 use Rattle.invariant.proofs.Reached.{Apart, mapped, Shape}
 use Rattle.invariant.proofs.After.{EntryPagesStay, EntryFramesStay, entry-in, entryPage-kept, entryFrame-kept, entryPage-here, entryPage-else, entryFrame-here, entryFrame-else}
+use Rattle.invariant.proofs.Apart.{apart-put}
 use Rattle.invariant.proofs.Searches.{lookup-found, lookup-is}
 
 -- one more than a number is not 0
@@ -44,11 +45,7 @@ module _ (p : Pool) (f : ℕ) where
       (λ _ _ _ q. let c : ⊥ = omega arith in c) e i (omega arith) (omega arith)) w
 
   pub mapped-zero : ((i : ℕ) → entryFrame p i ≢ f) → mapped p f ≡ 0
-  mapped-zero h = go (ℕ-discrete (mapped p f) 0)
-    where
-      go : Dec (mapped p f ≡ 0) → mapped p f ≡ 0
-      go (yes e) = e
-      go (no n) = let r = mapped-entry n in absurd (h (r .0) (r .1))
+  mapped-zero h = elim (ℕ-discrete (mapped p f) 0) [ yes e ↦ e | no n ↦ (let r = mapped-entry n in absurd (h (r .0) (r .1))) ]
 
   pub mapped-is : Apart (entryFrame p) none → f ≢ none → (i : ℕ) → entryFrame p i ≡ f → mapped p f ≡ suc (entryPage p i)
   unfolding mapped
@@ -133,17 +130,8 @@ module _ (p : Pool) (c : ℕ) (m : Move) (shape : Shape p) where
     -- the frame put is in no other entry
     module _ (apart : Apart (entryFrame p) none) (only : f ≢ none → (i : ℕ) → i ≢ j → entryFrame p i ≢ f) where
       pub put-apart : Apart (entryFrame q) none
-      put-apart a b z w = go (ℕ-discrete a j) (ℕ-discrete b j)
-        where
-          go : Dec (a ≡ j) → Dec (b ≡ j) → a ≡ b
-          go (yes x) (yes y) = x ∙ sym y
-          go (no x) (no y) = apart a b (λ n. z (else-frame a x ∙ n)) (sym (else-frame a x) ∙ w ∙ else-frame b y)
-          go (yes x) (no y) =
-              let h : entryFrame q a ≡ f = ap (entryFrame q) x ∙ put-frame in
-              absurd (only (λ n. z (h ∙ n)) b y (sym (else-frame b y) ∙ sym w ∙ h))
-          go (no x) (yes y) =
-              let h : entryFrame q b ≡ f = ap (entryFrame q) y ∙ put-frame in
-              absurd (only (λ n. z (w ∙ h ∙ n)) a x (sym (else-frame a x) ∙ w ∙ h))
+      put-apart =
+          apart-put (entryFrame p) (entryFrame q) none apart j else-frame (λ z i o w. only (λ n. z (put-frame ∙ n)) i o (w ∙ put-frame))
 
       pub put-new : f ≢ none → mapped q f ≡ suc g
       put-new z = mapped-is q f put-apart z j put-frame ∙ ap suc put-page
