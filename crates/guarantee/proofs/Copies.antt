@@ -35,7 +35,7 @@ unfolding Throughout
 throughout P h p [] r = h p r
 throughout P h p (x ∷ calls) r = (h p r, throughout P h (callOf p x .pool) calls (reached-call p x r))
 
-pub one-copy : (p : Pool) → Reached p → OneCopy p
+one-copy : (p : Pool) → Reached p → OneCopy p
 one-copy p r c d i j a b e =
     let u = r .outline .grant-named c i a in
     let v = r .outline .grant-named d j b in

@@ -51,7 +51,7 @@ module _ (p₀ : Pool) (b g : ℕ) (reached : Reached p₀) (rest : (c : ℕ) �
   abbrev pub Full : Type 0
   Full = (resident p₀ g ≡ false) × AllHeld p₀
 
-  abbrev pub Not : Type 0
+  abbrev Not : Type 0
   Not = Full → ⊥
 
   -- at stage i, the page not found; before and after it is settled that the request will be granted
@@ -66,10 +66,10 @@ module _ (p₀ : Pool) (b g : ℕ) (reached : Reached p₀) (rest : (c : ℕ) �
     pub not : Not
 
   -- its sweep so far; its victim stands in the slot it visits
-  abbrev pub Swept : Pool → Type 0
+  abbrev Swept : Pool → Type 0
   Swept p = Sweep p (client p b .place) (client p b .busy)
 
-  abbrev pub Seen : Pool → Type 0
+  abbrev Seen : Pool → Type 0
   Seen p = slot p (client p b .place) ≡ client p b .victim
 
   pub data Path (p : Pool) : Type 0 where

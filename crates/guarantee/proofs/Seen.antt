@@ -44,10 +44,10 @@ seen p x c s = go (went p x) (ℕ-discrete c (caller x))
 
 -- ---- a resting client: it rests on, or its begin is done; its steps are turned down
 
-abbrev pub Rests : Pool → Call → ℕ → Type 0
+abbrev Rests : Pool → Call → ℕ → Type 0
 Rests p x c = ((client (callOf p x .pool) c .stage ≡ 0) × (x ≡ Step c → TurnedDown (happens p x))) ⊎ Begins c (happens p x)
 
-pub rests : (p : Pool) (x : Call) (c : ℕ) → Shape p → client p c .stage ≡ 0 → Rests p x c
+rests : (p : Pool) (x : Call) (c : ℕ) → Shape p → client p c .stage ≡ 0 → Rests p x c
 unfolding caller moveOf
 rests p x c s z = go x (seen p x c s)
   where

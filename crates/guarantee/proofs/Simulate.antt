@@ -62,7 +62,7 @@ module _ {p : Pool} {c : ℕ} {q : Sequential} (acting : Acting p c q) where
   mirror : Mirrors p q
   mirror = acting .mirror
 
-  abbrev pub k : Client
+  abbrev k : Client
   k = client p c
 
   abbrev t : Taker
@@ -71,7 +71,7 @@ module _ {p : Pool} {c : ℕ} {q : Sequential} (acting : Acting p c q) where
   abbrev After : Move → List Place → Taker → Type 0
   After m places next = Mirrors (apply p c m) (record { places = places; takers = set (q .takers) c next })
 
-  pub taken : Taken k (grantsOf p c) t
+  taken : Taken k (grantsOf p c) t
   taken = mirror .takers c
 
   -- the pools after a move are alike if the places and the acting client are

@@ -216,13 +216,13 @@ module _ (p : Pool) (r : Reached p) (rest : (c : ℕ) → client p c .stage ≡ 
       go (c, (_, inr h)) = let q : _≡_ {A = ℕ} 0 15 = sym (rest c) ∙ h .0 in omega arith
 
   -- so a page is resident exactly if the look-up finds it
-  pub resident-found : (g : ℕ) → resident p g ≡ true → (lookup p g ≢ none) × (pins p (lookup p g) ≢ evicted)
+  resident-found : (g : ℕ) → resident p g ≡ true → (lookup p g ≢ none) × (pins p (lookup p g) ≢ evicted)
   unfolding resident
   resident-found g e =
       let live = eqb-false _ evicted (not-true _ e) in
       (live-named p (r .shape) _ live, live)
 
-  pub absent-found : (g : ℕ) → resident p g ≡ false → lookup p g ≡ none
+  absent-found : (g : ℕ) → resident p g ≡ false → lookup p g ≡ none
   unfolding resident
   absent-found g e =
       elim (ℕ-discrete (lookup p g) none) [ yes q ↦ q | no z ↦ absurd (no-ghost g z (eqb-true _ evicted (not-false _ e))) ]
@@ -238,7 +238,7 @@ module _ (p : Pool) (r : Reached p) (rest : (c : ℕ) → client p c .stage ≡ 
         sum-zero (λ c. one (filling (client p c .stage))) (clientCount p) (λ c _. ap (λ (x : ℕ). one (filling x)) (rest c)),
       )
 
-  pub limits-from : (n b g : ℕ) → p .size ≡ n → callOf p (Begin b g) .answer ≡ Done g
+  limits-from : (n b g : ℕ) → p .size ≡ n → callOf p (Begin b g) .answer ≡ Done g
       → (resident p g ≡ true → GrantedWithin (callOf p (Begin b g) .pool) b 3)
       × (resident p g ≡ false → (i : ℕ) → i < p .size → slot p i ≡ none → GrantedWithin (callOf p (Begin b g) .pool) b (n + 7))
   unfolding apply pinsAfter freeAfter

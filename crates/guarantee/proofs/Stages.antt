@@ -55,7 +55,7 @@ given i k = cond (eqb i 3 || eqb i 21) (k .found) (k .own)
 
 -- ---- what holds at each granting stage, and a test that each edge passes
 
-abbrev pub AllOf : (ℕ → Type 0) → List ℕ → Type 0
+abbrev AllOf : (ℕ → Type 0) → List ℕ → Type 0
 AllOf P [] = Unit {0}
 AllOf P (x ∷ xs) = P x × AllOf P xs
 
@@ -70,11 +70,11 @@ among-all P (x ∷ xs) a j h = go (eqb j x) refl h (among-all P xs (a .1) j)
 pub on-grants : (P : ℕ → Type 0) → P 3 → P 18 → P 21 → P 22 → (i : ℕ) → T (among i granting) → P i
 on-grants P a b c d i h = among-all P granting (a, (b, (c, (d, tt)))) i h
 
-abbrev pub forAll : (ℕ → Bool) → List ℕ → Bool
+abbrev forAll : (ℕ → Bool) → List ℕ → Bool
 forAll t [] = true
 forAll t (x ∷ xs) = t x && forAll t xs
 
-abbrev pub forEdges : (ℕ → ℕ → Bool) → ℕ → List (List ℕ) → Bool
+abbrev forEdges : (ℕ → ℕ → Bool) → ℕ → List (List ℕ) → Bool
 forEdges t i [] = true
 forEdges t i (l ∷ ls) = forAll (t i) l && forEdges t (suc i) ls
 

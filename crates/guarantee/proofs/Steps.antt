@@ -54,7 +54,7 @@ pub record Goes (p : Pool) (b : ℕ) (m : Move) : Type 0 where
   pub is : callOf p (Step b) ≡ did p b m
 
 module _ {p : Pool} {b g i : ℕ} (on : On p b g (suc i)) where
-  pub stage-is : stageMove p (client p b) ≡ getD stages (suc i) noStage p (client p b)
+  stage-is : stageMove p (client p b) ≡ getD stages (suc i) noStage p (client p b)
   unfolding stageMove
   stage-is = ap (λ (x : ℕ). getD stages x noStage p (client p b)) (on .stage)
 
@@ -62,13 +62,13 @@ module _ {p : Pool} {b g i : ℕ} (on : On p b g (suc i)) where
   allows = stepped p b (on .reached) (on .here) (λ z. let q : suc i ≡ 0 = sym (on .stage) ∙ z in omega arith)
 
   -- where the stage comes to m, the step is m
-  pub goes : {m : Move} → getD stages (suc i) noStage p (client p b) ≡ m → Goes p b m
+  goes : {m : Move} → getD stages (suc i) noStage p (client p b) ≡ m → Goes p b m
   unfolding moveOf caller
   goes {m} e =
       record { is = call-moves p (Step b) (on .reached) allows ∙ ap (did p b) (stage-is ∙ e) }
 
   -- a stuck branch is not taken
-  pub past : (n v : ℕ) {m : Move} → getD stages (suc i) noStage p (client p b) ≡ choose (eqb n v) (stuck (client p b)) m
+  past : (n v : ℕ) {m : Move} → getD stages (suc i) noStage p (client p b) ≡ choose (eqb n v) (stuck (client p b)) m
       → getD stages (suc i) noStage p (client p b) ≡ m
   unfolding moveOf refusalOf
   past n v e =
@@ -141,7 +141,7 @@ module _ (p : Pool) (b g : ℕ) (done : callOf p (Begin b g) .answer ≡ Done g)
 -- ---- the steps, one by one
 
 -- client k, which is to rest, is granted frame f
-abbrev pub gets : Client → ℕ → Write → Counted → Move
+abbrev gets : Client → ℕ → Write → Counted → Move
 gets k f w counted = record { next = resting (k .held + 1); grants = Open (k .held) (k .page) f; write = w; answer = Granted f; counted = counted }
 
 -- a working client has room for a grant

@@ -54,7 +54,7 @@ module _ (P : ℕ → Bool) (g : ℕ → ℕ) (n b : ℕ) (few : b ≤ none) (lo
       go true a e = record { has = a; is = e }
       go false a e = absurd (omega arith)
 
-  pub same-count : Apart g none → ((f : ℕ) → P f ≡ true → (i : ℕ) × (i < n) × (g i ≡ f)) → sumTo (λ f. one (P f)) b ≡ sumTo (λ i. one (P (g i))) n
+  same-count : Apart g none → ((f : ℕ) → P f ≡ true → (i : ℕ) × (i < n) × (g i ≡ f)) → sumTo (λ f. one (P f)) b ≡ sumTo (λ i. one (P (g i))) n
   unfolding below
   same-count apart stands =
       sum-same (equal picked n) _ b (λ f h. once f h (P f) refl)
@@ -88,7 +88,7 @@ how-many t (suc n) = go (t n) (how-many t n)
     go true e = omega arith
     go false e = omega arith
 
-pub residents-kept : (p : Pool) (q : Sequential) → Reached p → Mirrors p q → residents p ≡ kept (q .places)
+residents-kept : (p : Pool) (q : Sequential) → Reached p → Mirrors p q → residents p ≡ kept (q .places)
 unfolding residents
 residents-kept p q r mirror =
     how-many _ (total p)

@@ -31,13 +31,13 @@ use Rattle.guarantee.proofs.Stages.{Fits, goes, grants, refuses, sticks
 
 -- ---- answers and calls of different kinds
 
-abbrev pub answerKind : Answer → ℕ
+abbrev answerKind : Answer → ℕ
 answerKind (Done n) = 0
 answerKind (Working n) = 1
 answerKind (Granted n) = 2
 answerKind (Refused n) = 3
 
-abbrev pub callKind : Call → ℕ
+abbrev callKind : Call → ℕ
 callKind (Begin c g) = 0
 callKind (Step c) = 1
 callKind (Release c g) = 2
@@ -65,7 +65,7 @@ abbrev pub moved : Pool → Call → Outcome
 moved p x = did p (caller x) (moveOf p x)
 
 -- by a check before its action, or by 8 after it
-abbrev pub Down : Pool → Call → ℕ → Type 0
+abbrev Down : Pool → Call → ℕ → Type 0
 Down p x n = ((refusal p x ≡ n) × (n ≢ 0)) ⊎ (n ≡ 8)
 
 pub data Went (p : Pool) (x : Call) (o : Outcome) : Type 0 where

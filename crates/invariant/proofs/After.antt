@@ -157,10 +157,10 @@ module _ (p : Pool) (w : Write) where
     abbrev pub CountsPut : Type 0
     CountsPut = countsAfter (total p) (p .counts) w ≡ stored (p .counts) (total p) i v
 
-    abbrev pub EntryPagesPut : Type 0
+    abbrev EntryPagesPut : Type 0
     EntryPagesPut = entryPagesAfter (total p) (p .«table_pages») w ≡ stored (p .«table_pages») (total p) i v
 
-    abbrev pub EntryFramesPut : Type 0
+    abbrev EntryFramesPut : Type 0
     EntryFramesPut = entryFramesAfter (total p) (p .«table_frames») w ≡ stored (p .«table_frames») (total p) i v
 
 -- ---- clients

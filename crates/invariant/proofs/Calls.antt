@@ -38,7 +38,7 @@ use Rattle.invariant.proofs.Setup.{reached-setup}
 
 -- ---- a move
 
-pub reached-move : (p : Pool) (c : ℕ) (m : Move) → c < clientCount p → Reached p → Edge p c m → Reached (apply p c m)
+reached-move : (p : Pool) (c : ℕ) (m : Move) → c < clientCount p → Reached p → Edge p c m → Reached (apply p c m)
 reached-move p c m h r e =
     let x : Effect p c m = effect p c h r e in
     record {
@@ -86,7 +86,7 @@ module _ (p : Pool) (x : Call) where
   pub never-stuck : Reached p → refusal p x ≡ 0 → refusalOf (moveOf p x .answer) ≢ 8
   never-stuck r e = edge-answer p (caller x) (call-edge p x r e .1)
 
-  pub reached-next : Reached p → refusal p x ≡ 0 → Reached (apply p (caller x) (moveOf p x))
+  reached-next : Reached p → refusal p x ≡ 0 → Reached (apply p (caller x) (moveOf p x))
   reached-next r e = let w = call-edge p x r e in reached-move p (caller x) (moveOf p x) (w .0) r (w .1)
 
   -- a call that is not turned down makes its move

@@ -121,7 +121,7 @@ module _ (p : Pool) (c : ℕ) (here : c < clientCount p) (r : Reached p) (m : Mo
       secret : Secret p c (m .next) f
       secret = record { unmapped = o .unmapped; unfound = o .unfound; ungranted = o .ungranted; not-left = λ _. o .unowned c }
 
-  pub orphan-next : (f : ℕ) → f ≢ none → Orphan p f → Orphan q f ⊎ ((claimed p f ≡ 0) × (1 ≤ claims q c f))
+  orphan-next : (f : ℕ) → f ≢ none → Orphan p f → Orphan q f ⊎ ((claimed p f ≡ 0) × (1 ≤ claims q c f))
   orphan-next f z o = go (ℕ-discrete (m .next .own) f)
     where
       go : Dec (m .next .own ≡ f) → Orphan q f ⊎ ((claimed p f ≡ 0) × (1 ≤ claims q c f))

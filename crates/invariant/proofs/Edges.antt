@@ -63,7 +63,7 @@ abbrev pub grants : Client → ℕ → Write → Counted → Move
 grants k f w counted = record { next = resting (k .held + 1); grants = Open (k .held) (k .page) f; write = w; answer = Granted f; counted = counted }
 
 module _ (p : Pool) (c : ℕ) where
-  abbrev pub k : Client
+  abbrev k : Client
   k = client p c
 
   -- its first grant on page g ends, and its last takes that place

@@ -49,7 +49,7 @@ orphan-claims p f o =
     sum-zero (λ c. claims p c f) (clientCount p) (λ c _. foreign-claims p c f (o .unfound c) (o .ungranted c) ∙ one-not _ _ (o .unowned c))
 
 -- what a grant claims
-pub grant-claims : (p : Pool) (c i : ℕ) → grantFrame p c i ≢ none → 1 ≤ grantsOn p c (grantFrame p c i)
+grant-claims : (p : Pool) (c i : ℕ) → grantFrame p c i ≢ none → 1 ≤ grantsOn p c (grantFrame p c i)
 unfolding grantsOn
 grant-claims p c i z =
     let f : ℕ = grantFrame p c i in
@@ -58,7 +58,7 @@ grant-claims p c i z =
 module _ (p : Pool) (r : Reached p) where
   -- an own frame is pinned once, by its owner
   module _ (c : ℕ) (z : client p c .own ≢ none) where
-    pub own-here : c < clientCount p
+    own-here : c < clientCount p
     own-here = client-here p (λ k. k .own ≢ none) c z (λ w. w refl)
 
     own-claimed : claimed p (client p c .own) ≡ 1
@@ -86,7 +86,7 @@ module _ (p : Pool) (r : Reached p) where
     own-live e = let y : ⊥ = omega (arith, own-pins) in y
 
   -- a claimed frame is pinned
-  pub claimed-live : (c f : ℕ) → f ≢ none → 1 ≤ claims p c f → pinned 1 ≤ pins p f
+  claimed-live : (c f : ℕ) → f ≢ none → 1 ≤ claims p c f → pinned 1 ≤ pins p f
   unfolding claimed
   claimed-live c f z h = go (r .counts .balance f z)
     where

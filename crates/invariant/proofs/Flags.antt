@@ -66,7 +66,7 @@ alike-same false false h = refl
 
 -- ---- from stage i to stage j
 
-abbrev pub pinsOrDrops : ℕ → ℕ → Bool
+abbrev pinsOrDrops : ℕ → ℕ → Bool
 pinsOrDrops i j = ((eqb i 2 && eqb j 3) || (eqb i 19 && eqb j 20)) || (eqb i 14 && eqb j 15)
 
 -- A client may go from the one to the other with its own frame, its found frame and its claims as they are. The step is none of those at which a

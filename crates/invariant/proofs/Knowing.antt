@@ -74,7 +74,7 @@ module _ (p q : Pool) where
       both Placed Live stable-placed stable-live also
       stable-live also both Placed DeadFound stable-placed stable-dead-found also stable-placed also fin
 
-  pub stable : (s : ℕ) → Stable (Knows s)
+  stable : (s : ℕ) → Stable (Knows s)
   stable s = each-at (λ _ x. Stable x) Nothing (λ _. stable-nothing) knows stable-knows s
 
 -- ---- after a move
@@ -83,7 +83,7 @@ module _ (p : Pool) (c : ℕ) (here : c < clientCount p) (r : Reached p) (m : Mo
   abbrev q : Pool
   q = apply p c m
 
-  pub steady : (f : ℕ) → f ≢ none → (referenced p f ≡ false → ⊥) → Steady p q f
+  steady : (f : ℕ) → f ≢ none → (referenced p f ≡ false → ⊥) → Steady p q f
   steady f z n = record { dead = dead-next p c here r m x f z n; maps = maps-next p c here r m x f z; seats = seats-next p c here r m x f z }
 
   safe : (d : ℕ) → Safe p q (client p d)

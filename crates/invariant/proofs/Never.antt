@@ -32,7 +32,7 @@ module _ (p : Pool) (r : Reached p) where
   know c i e = subst (λ s. Knows s p (client p c)) e (r .outline .knowing c)
 
   -- no client has a found frame and a victim
-  pub not-both : (c : ℕ) → client p c .victim ≢ none → client p c .found ≡ none
+  not-both : (c : ℕ) → client p c .victim ≢ none → client p c .found ≡ none
   not-both c z = go (leb 12 s) (leb s 17) refl refl
     where
       s : ℕ

@@ -56,7 +56,7 @@ module _ (p : Pool) (c : ℕ) (here : c < clientCount p) (r : Reached p) (m : Mo
   own-only : k .own ≢ none → (i : ℕ) → entryFrame p i ≢ k .own
   own-only z = mapped-none p (k .own) z (r .private .own-unmapped c z)
 
-  pub own-mapped : (i g f : ℕ) → f ≡ k .own → f ≢ none → m .write ≡ PutEntry i g f → i < total p → mapped q f ≡ suc g
+  own-mapped : (i g f : ℕ) → f ≡ k .own → f ≢ none → m .write ≡ PutEntry i g f → i < total p → mapped q f ≡ suc g
   own-mapped i g f e z w h =
       put-new p c m (r .shape) i g f w h (r .outline .entries-apart) (λ _ j _ y. own-only (λ n. z (e ∙ n)) j (y ∙ e)) z
 
@@ -103,7 +103,7 @@ module _ (p : Pool) (c : ℕ) (here : c < clientCount p) (r : Reached p) (m : Mo
         go (unmaps i g w h _ _ _) = absurd (n (put-cases p c m (r .shape) i g none w h f z e z))
 
     -- an entry that was there and is there is as it was
-    pub entry-same : mapped p f ≢ 0 → mapped q f ≢ 0 → mapped q f ≡ mapped p f
+    entry-same : mapped p f ≢ 0 → mapped q f ≢ 0 → mapped q f ≡ mapped p f
     entry-same e n = go (x .entries)
       where
         go : EntryOk p c m → mapped q f ≡ mapped p f

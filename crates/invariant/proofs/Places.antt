@@ -25,7 +25,7 @@ module _ (p : Pool) (c : ℕ) (here : c < clientCount p) (r : Reached p) (m : Mo
   q = apply p c m
 
   -- the new own frame is nobody else's
-  pub own-new : (d : ℕ) → d ≢ c → m .next .own ≢ none → client p d .own ≢ m .next .own
+  own-new : (d : ℕ) → d ≢ c → m .next .own ≢ none → client p d .own ≢ m .next .own
   own-new d o z = go (x .own)
     where
       go : OwnOk p c m → client p d .own ≢ m .next .own

@@ -27,7 +27,7 @@ module _ (p : Pool) (shape : Shape p) where
   pub few-frames : total p ≤ 96
   few-frames = let a = shape .size-high in let b = shape .clients-high in omega arith
 
-  pub some-frames : 0 < total p
+  some-frames : 0 < total p
   some-frames = let a = shape .size-low in omega arith
 
   -- what is not a frame counts as evicted, so what is not evicted is a frame

@@ -320,7 +320,7 @@ module _ (p : Pool) (c : ℕ) (here : c < clientCount p) (r : Reached p) where
 
   -- ---- each call
 
-  pub step-edge : client p c .stage ≢ 0 → Edge p c (stageMove p k)
+  step-edge : client p c .stage ≢ 0 → Edge p c (stageMove p k)
   unfolding stageMove
   step-edge z = each-in At noStage stages steps (k .stage) (omega (arith, r .ranges .stage-ok c)) refl
     where
@@ -330,7 +330,7 @@ module _ (p : Pool) (c : ℕ) (here : c < clientCount p) (r : Reached p) where
           step1 also step2 also step3 also step4 also step5 also step6 also step7 also step8 also step9 also step10 also step11 also step12 also
           step13 also step14 also step15 also step16 also step17 also step18 also step19 also step20 also step21 also step22 also step23 also fin
 
-  pub release-edge : (g : ℕ) → client p c .stage ≡ 0 → grantOf p c g ≢ none → Edge p c (moveOf p (Release c g))
+  release-edge : (g : ℕ) → client p c .stage ≡ 0 → grantOf p c g ≢ none → Edge p c (moveOf p (Release c g))
   unfolding moveOf releaseMove
   release-edge g e z =
       let i : ℕ = grantOf p c g in
