@@ -22,7 +22,8 @@ use Rattle.invariant.proofs.Grants.{grantsOf}
 use Rattle.invariant.proofs.Calls.{reached-call}
 use Rattle.guarantee.specs.Runs.{At, Throughout, events}
 use Rattle.guarantee.specs.Sequential as Plain
-use Rattle.guarantee.specs.Sequential.{Place, Taker, Sequential, taker, member, Keeps, StepRule, adds, admits, drops, answers, moves, refuses, Rule, turns, begins, releases, steps}
+use Rattle.guarantee.specs.Sequential.{Place, Taker, Sequential, taker, member, Keeps, StepRule, adds, admits, drops, answers, moves, refuses, Rule}
+use Rattle.guarantee.specs.Sequential.{turns, begins, releases, steps}
 use Rattle.guarantee.specs.Claims.{OneCopy, HeldPinned, NoHeldEvicted}
 use Rattle.guarantee.proofs.Mirror.{Shows, is-member, Mirrors, view, mirrors-view}
 use Rattle.guarantee.proofs.Follow.{Followed, followed}

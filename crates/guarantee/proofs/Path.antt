@@ -34,7 +34,8 @@ use Rattle.invariant.proofs.Never.{finds-some}
 use Rattle.invariant.proofs.Flags.{T-false}
 use Rattle.invariant.proofs.Steps.{around-ok}
 use Rattle.guarantee.specs.Claims.{AllHeld}
-use Rattle.guarantee.proofs.Steps.{On, Goes, answer-is, on-next, go1, go1-found, go2, go3, go4, go5, go5-none, go6, go7, go8, go8-on, go9, go10, go11, go12-dead, go12-idle, go12-busy, go12-full, go13-zero, go13-more, go14, go15, go16, go17-out, go17-not, go18}
+use Rattle.guarantee.proofs.Steps.{On, Goes, answer-is, on-next, go1, go1-found, go2, go3, go4, go5, go5-none, go6, go7, go8, go8-on, go9, go10, go11}
+use Rattle.guarantee.proofs.Steps.{go12-dead, go12-idle, go12-busy, go12-full, go13-zero, go13-more, go14, go15, go16, go17-out, go17-not, go18}
 use Rattle.guarantee.proofs.Base.{Base, slot-still, pins-still, base-still, emptied}
 use Rattle.guarantee.proofs.Solo.{next-is, absent-next, some-empty, no-ghost}
 use Rattle.guarantee.proofs.Frames.{held-pinned}
@@ -320,7 +321,8 @@ module _ (p₀ : Pool) (b g : ℕ) (reached : Reached p₀) (rest : (c : ℕ) �
         go (no x) (no y) (no z) =
             let h : pinned 1 ≤ pins p (k .victim) = omega arith in
             let w = go12-busy p b g o h z in
-            goes-on 11 (answer-is w) (at11 (early 11 e w refl refl tt) (sweeps o w tt (s .none-free) (around-ok (p .size) (k .place) (o .reached .shape .size-low))
+            goes-on 11 (answer-is w) (at11 (early 11 e w refl refl tt)
+            (sweeps o w tt (s .none-free) (around-ok (p .size) (k .place) (o .reached .shape .size-low))
             (λ j l x. grown s (omega (arith, there)) j l (behind-next (k .place) (k .busy) (p .size) j (s .place) l x))))
         go (no x) (no y) (yes z) =
             let h : pinned 1 ≤ pins p (k .victim) = omega arith in

@@ -28,7 +28,8 @@ use Rattle.invariant.proofs.Facts.{own-pins, grant-live}
 use Rattle.invariant.proofs.Grants.{grantsOf, Granting, keeps, opens, grantsOf-other, grantsOf-keeps, grantsOf-opens}
 use Rattle.invariant.proofs.Table.{suc-not, some-suc}
 use Rattle.invariant.proofs.Searches.{live-named}
-use Rattle.guarantee.specs.Sequential.{Place, empty, holds, Taker, Sequential, place, resting, taker, member, Absent, Unused, adding, admitting, answering, StepRule, adds, admits, drops, answers, moves, refuses}
+use Rattle.guarantee.specs.Sequential.{Place, empty, holds, Taker, Sequential, place, resting, taker, member, Absent, Unused, adding, admitting}
+use Rattle.guarantee.specs.Sequential.{answering, StepRule, adds, admits, drops, answers, moves, refuses}
 use Rattle.guarantee.proofs.Mirror.{seen, seen-unmapped, seen-full, not-member, Taken, open-many, open-grants, taken-as, Mirrors}
 use Rattle.guarantee.proofs.Takers.{Outward, outward, working, gotten, denied, Quiet, Stays, Gets, rests, stays, pins-more, answered, admitted}
 use Rattle.guarantee.proofs.Frames.{same-frame, live-found, found-pinned}

@@ -37,7 +37,8 @@ use Rattle.guarantee.specs.Runs.{events, At}
 use Rattle.guarantee.specs.Claims.{GrantedWithin, Claim-limits}
 use Rattle.guarantee.proofs.Start.{starts}
 use Rattle.guarantee.proofs.Turned.{down, by-move, went}
-use Rattle.guarantee.proofs.Steps.{On, Goes, begun-is, begun-on, answer-is, onto, on-next, go1, go1-found, go2, go3, go4, go5, go6, go7, go8, go8-on, go9, go18}
+use Rattle.guarantee.proofs.Steps.{On, Goes, begun-is, begun-on, answer-is, onto, on-next, go1, go1-found, go2, go3, go4, go5, go6, go7, go8, go8-on}
+use Rattle.guarantee.proofs.Steps.{go9, go18}
 
 -- ---- the pool after a step
 
@@ -272,4 +273,5 @@ pub limits : Claim-limits
 limits s t c h e calls b g rest a =
     let first = starts s t c h e in
     let size = ap (λ (p : Pool). p .size) (first .fresh-pool) in
-    limits-from (poolAfter (setupOf s t c h .pool) calls) (reached-calls _ calls (first .reached)) rest s b g (size-after (setupOf s t c h .pool) calls ∙ size) a
+    limits-from (poolAfter (setupOf s t c h .pool) calls) (reached-calls _ calls (first .reached)) rest s b g
+    (size-after (setupOf s t c h .pool) calls ∙ size) a

@@ -10,7 +10,8 @@ use lib.ListN.{getD}
 use borrow.Author.Tests.{eqb-true}
 use Rattle.pool.specs.Choose.{choose}
 use Rattle.pool.specs.Moves.{stuck, granted, refused15}
-use Rattle.pool.specs.Stages.{busyVisit, evictOwn, Stage, noStage, stages, stageMove, stage1, stage2, stage3, stage4, stage5, stage6, stage7, stage8, stage9, stage10, stage11, stage12, stage13, stage14, stage15, stage16, stage17, stage18, stage19, stage20, stage21, stage22, stage23}
+use Rattle.pool.specs.Stages.{busyVisit, evictOwn, Stage, noStage, stages, stageMove, stage1, stage2, stage3, stage4, stage5, stage6, stage7, stage8, stage9}
+use Rattle.pool.specs.Stages.{stage10, stage11, stage12, stage13, stage14, stage15, stage16, stage17, stage18, stage19, stage20, stage21, stage22, stage23}
 use Rattle.pool.specs.declared.Pool.{Pool}
 use Rattle.pool.specs.declared.Client.{Client}
 use Rattle.pool.specs.declared.Move.{Move}
@@ -123,7 +124,8 @@ fork : {k : Client} (t : Bool) {x y : Move} → Fits k x → Fits k y → Fits k
 fork {k} t a b = by-test (Fits k) (λ _. a) (λ _. b)
 
 fits-stages : Each FitsAt 0 stages
-unfolding stage1 stage2 stage3 stage4 stage5 stage6 stage7 stage8 stage9 stage10 stage11 stage12 stage13 stage14 stage15 stage16 stage17 stage18 stage19 stage20 stage21 stage22 stage23
+unfolding stage1 stage2 stage3 stage4 stage5 stage6 stage7 stage8 stage9 stage10 stage11 stage12 stage13
+    stage14 stage15 stage16 stage17 stage18 stage19 stage20 stage21 stage22 stage23
 fits-stages =
     (λ p k e. sticks refl)
     also (λ p k e. fork _ (to e 4 tt refl refl refl) (to e 2 tt refl refl refl))

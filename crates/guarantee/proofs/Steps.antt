@@ -14,7 +14,8 @@ use Rattle.pool.specs.Table.{lookup, entryOf, unusedEntry}
 use Rattle.pool.specs.Frames.{freeFrame}
 use Rattle.pool.specs.Moves.{withOwn, withFound, withVictim, withSeen, withPlace, sweeping, works, worksAs, stuck, granted, refused15}
 use Rattle.pool.specs.Apply.{apply}
-use Rattle.pool.specs.Stages.{around, advanced, raised, nextSlot, busyVisit, noStage, stages, stageMove, stage1, stage2, stage3, stage4, stage5, stage6, stage7, stage8, stage9, stage10, stage11, stage12, stage13, stage14, stage15, stage16, stage17, stage18}
+use Rattle.pool.specs.Stages.{around, advanced, raised, nextSlot, busyVisit, noStage, stages, stageMove, stage1, stage2, stage3, stage4, stage5, stage6}
+use Rattle.pool.specs.Stages.{stage7, stage8, stage9, stage10, stage11, stage12, stage13, stage14, stage15, stage16, stage17, stage18}
 use Rattle.pool.specs.Calls.{caller, refusalAt, refusal, beginMove, moveOf, callOf}
 use Rattle.pool.specs.declared.Pool.{Pool}
 use Rattle.pool.specs.declared.Client.{Client}

@@ -24,7 +24,8 @@ use Rattle.invariant.proofs.Reached.{Reached}
 use Rattle.invariant.proofs.After.{shape-next}
 use Rattle.invariant.proofs.Flags.{differ}
 use Rattle.invariant.proofs.Allowed.{refusal-at}
-use Rattle.invariant.proofs.Edges.{Edge, on, found1, found18, lost2, lost22, pins2, pins19, gets3, gets21, takes, fills, swaps, gives-up, drops, removes, admits, revives, evicts20, evicts23, begins, releases}
+use Rattle.invariant.proofs.Edges.{Edge, on, found1, found18, lost2, lost22, pins2, pins19, gets3, gets21, takes, fills, swaps, gives-up, drops}
+use Rattle.invariant.proofs.Edges.{removes, admits, revives, evicts20, evicts23, begins, releases}
 use Rattle.invariant.proofs.Steps.{call-edge}
 use Rattle.invariant.proofs.Effects.{Effect, effect}
 use Rattle.invariant.proofs.Ranges.{ranges-next}

@@ -14,7 +14,8 @@ use Rattle.pool.specs.declared.Pool.{Pool}
 use Rattle.pool.specs.declared.Client.{Client}
 use Rattle.pool.specs.declared.Move.{Move}
 use Rattle.invariant.proofs.Reached.{Reached, Calm, Knows, one, sumTo, mapped, unplaced, leaving, filling, hunting, Leaves}
-use Rattle.invariant.proofs.After.{SlotsStay, SlotsPut, client-same, client-other, all-clients, slot-kept, slot-here, slot-else, pins-kept, pins-here, pins-else}
+use Rattle.invariant.proofs.After.{SlotsStay, SlotsPut, client-same, client-other, all-clients, slot-kept, slot-here, slot-else, pins-kept, pins-here}
+use Rattle.invariant.proofs.After.{pins-else}
 use Rattle.invariant.proofs.Sums.{one-not, sum-same, sum-put}
 use Rattle.invariant.proofs.Searches.{lookup-found}
 use Rattle.invariant.proofs.Table.{put-gone}
@@ -22,7 +23,8 @@ use Rattle.invariant.proofs.Never.{know}
 use Rattle.invariant.proofs.Flags.{T-not, never, differ, leavesNone, hunt-unplaced}
 use Rattle.invariant.proofs.Steps.{no-leaves}
 use Rattle.invariant.proofs.Facts.{own-live, own-not-victim}
-use Rattle.invariant.proofs.Edges.{Hunts, Edge, on, found1, found18, lost2, lost22, pins2, pins19, gets3, gets21, takes, fills, swaps, gives-up, drops, removes, admits, revives, evicts20, evicts23, begins, releases}
+use Rattle.invariant.proofs.Edges.{Hunts, Edge, on, found1, found18, lost2, lost22, pins2, pins19, gets3, gets21, takes, fills, swaps, gives-up, drops}
+use Rattle.invariant.proofs.Edges.{removes, admits, revives, evicts20, evicts23, begins, releases}
 use Rattle.invariant.proofs.Effects.{PinChange, adds, lowers, drops-victim, drops-own, takes-one, PinsOk, pins-stay, pins-put, unseen, Effect}
 use Rattle.invariant.proofs.Next.{SlotNow, TakenOut, slot-now, slot-or-out}
 use Rattle.invariant.proofs.Outline.{new-entry}

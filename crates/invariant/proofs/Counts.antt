@@ -17,7 +17,8 @@ use Rattle.pool.specs.declared.Pool.{Pool}
 use Rattle.pool.specs.declared.Client.{Client}
 use Rattle.pool.specs.declared.Move.{Move}
 use Rattle.pool.specs.declared.GrantChange.the-variants.{Same, Open}
-use Rattle.invariant.proofs.Reached.{Reached, Counts, Knows, one, grantsOn, claims, claimed, pinsFound, unplaced, ownless, Orphan, Balance, gone, held, orphan}
+use Rattle.invariant.proofs.Reached.{Reached, Counts, Knows, one, grantsOn, claims, claimed, pinsFound, unplaced, ownless, Orphan, Balance, gone, held}
+use Rattle.invariant.proofs.Reached.{orphan}
 use Rattle.invariant.proofs.After.{PinsStay, PinsPut, client-same, client-other, all-clients, slot-kept, pins-kept, pins-here, pins-else}
 use Rattle.invariant.proofs.Sums.{one-is, one-not, sum-zero, sum-put, sum-has}
 use Rattle.invariant.proofs.Searches.{Fresh, fresh-means, free-found, grantOf-found, grant-in}
@@ -26,7 +27,8 @@ use Rattle.invariant.proofs.Grants.{grantsOn-none, grantsOn-other, gran
 use Rattle.invariant.proofs.Never.{know}
 use Rattle.invariant.proofs.Facts.{none-own, foreign-claims, orphan-claims, own-pins, grant-live}
 use Rattle.invariant.proofs.Flags.{T-false, never, differ, imp-mp}
-use Rattle.invariant.proofs.Edges.{Edge, on, found1, found18, lost2, lost22, pins2, pins19, gets3, gets21, takes, fills, swaps, gives-up, drops, removes, admits, revives, evicts20, evicts23, begins, releases}
+use Rattle.invariant.proofs.Edges.{Edge, on, found1, found18, lost2, lost22, pins2, pins19, gets3, gets21, takes, fills, swaps, gives-up, drops}
+use Rattle.invariant.proofs.Edges.{removes, admits, revives, evicts20, evicts23, begins, releases}
 use Rattle.invariant.proofs.Effects.{no-open, unseen, Effect}
 use Rattle.invariant.proofs.Next.{slot-now, all-grants}
 use Rattle.invariant.proofs.Private.{Secret, secret-unmapped, secret-unfound, secret-ungranted}

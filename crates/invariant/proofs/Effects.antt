@@ -31,7 +31,8 @@ use Rattle.invariant.proofs.Grants.{Granting, keeps, opens, ends}
 use Rattle.invariant.proofs.Never.{know}
 use Rattle.invariant.proofs.Flags.{differ, imp}
 use Rattle.invariant.proofs.Facts.{raised-ok, own-pins, grant-live, found-live, one-more}
-use Rattle.invariant.proofs.Edges.{Quiet, keep, hand, counts, free, Edge, on, grants, found1, found18, lost2, lost22, pins2, pins19, gets3, gets21, takes, fills, swaps, gives-up, drops, removes, admits, revives, evicts20, evicts23, begins, releases}
+use Rattle.invariant.proofs.Edges.{Quiet, keep, hand, counts, free, Edge, on, grants, found1, found18, lost2, lost22, pins2, pins19, gets3, gets21}
+use Rattle.invariant.proofs.Edges.{takes, fills, swaps, gives-up, drops, removes, admits, revives, evicts20, evicts23, begins, releases}
 
 -- a write keeps free, the last frame taken and the counts in their ranges
 pub data CountOk (p : Pool) (w : Write) : Type 0 where

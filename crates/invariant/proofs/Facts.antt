@@ -13,7 +13,8 @@ use Rattle.pool.specs.Stages.{raised}
 use Rattle.pool.specs.declared.Pool.{Pool}
 use Rattle.pool.specs.declared.Client.{Client}
 use Rattle.laws.specs.Choices.{by-test}
-use Rattle.invariant.proofs.Reached.{one, mapped, Seated, grantsOn, claims, claimed, pinsFound, unplaced, hunting, Orphan, Balance, gone, held, orphan, Reached}
+use Rattle.invariant.proofs.Reached.{one, mapped, Seated, grantsOn, claims, claimed, pinsFound, unplaced, hunting, Orphan, Balance, gone, held, orphan}
+use Rattle.invariant.proofs.Reached.{Reached}
 use Rattle.invariant.proofs.Flags.{T-true, T-false, and-false, hunt-cases}
 use Rattle.invariant.proofs.After.{client-here}
 use Rattle.invariant.proofs.Sums.{one-is, one-not, one-least, sum-zero, sum-one, sum-has, sum-gap, sum-least}

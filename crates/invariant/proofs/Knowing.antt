@@ -17,7 +17,8 @@ use Rattle.invariant.proofs.Each.{Each, fin, _also_, each-at}
 use Rattle.invariant.proofs.Table.{mapped-kept, lookup-mapped}
 use Rattle.invariant.proofs.Never.{know}
 use Rattle.invariant.proofs.Facts.{own-live}
-use Rattle.invariant.proofs.Edges.{Quiet, Edge, on, found1, found18, lost2, lost22, pins2, pins19, gets3, gets21, takes, fills, swaps, gives-up, drops, removes, admits, revives, evicts20, evicts23, begins, releases}
+use Rattle.invariant.proofs.Edges.{Quiet, Edge, on, found1, found18, lost2, lost22, pins2, pins19, gets3, gets21, takes, fills, swaps, gives-up, drops}
+use Rattle.invariant.proofs.Edges.{removes, admits, revives, evicts20, evicts23, begins, releases}
 use Rattle.invariant.proofs.Effects.{unseen, Effect}
 use Rattle.invariant.proofs.Next.{dead-next, seats-next, maps-next, by-own, by-found, by-victim}
 

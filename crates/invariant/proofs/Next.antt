@@ -19,7 +19,8 @@ use Rattle.invariant.proofs.After.{client-same, client-other, slot-kept
 use Rattle.invariant.proofs.Searches.{fresh-means}
 use Rattle.invariant.proofs.Table.{suc-not, mapped-entry, mapped-kept, put-other, put-cases}
 use Rattle.invariant.proofs.Grants.{grantPage-other, grantFrame-other, Comes, old, new, past, comes}
-use Rattle.invariant.proofs.Effects.{Vacant, SlotOk, slots-stay, puts, PinChange, adds, lowers, drops-victim, drops-own, takes-one, PinsOk, pins-stay, pins-put, EntryOk, entries-stay, maps, unmaps, PageOk, pages-stay, paged, Effect}
+use Rattle.invariant.proofs.Effects.{Vacant, SlotOk, slots-stay, puts, PinChange, adds, lowers, drops-victim, drops-own, takes-one, PinsOk, pins-stay}
+use Rattle.invariant.proofs.Effects.{pins-put, EntryOk, entries-stay, maps, unmaps, PageOk, pages-stay, paged, Effect}
 
 module _ (p : Pool) (c : ℕ) (here : c < clientCount p) (r : Reached p) (m : Move) (x : Effect p c m) where
   abbrev k : Client

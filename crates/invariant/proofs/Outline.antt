@@ -18,11 +18,13 @@ use Rattle.invariant.proofs.Reached.{Reached, Apart, Outline, mapped, S
 use Rattle.invariant.proofs.After.{client-same, client-other, all-clients, pins-kept, pins-here, page-here, entryPage-kept, entryFrame-kept}
 use Rattle.invariant.proofs.Apart.{apart-used, apart-same}
 use Rattle.invariant.proofs.Searches.{Fresh, fresh-means, grant-in, lookup-found, unused-found}
-use Rattle.invariant.proofs.Table.{suc-not, some-suc, mapped-none, mapped-zero, mapped-kept, put-frame, put-page, else-frame, else-page, put-other, put-apart, put-new, put-gone, put-cases}
+use Rattle.invariant.proofs.Table.{suc-not, some-suc, mapped-none, mapped-zero, mapped-kept, put-frame, put-page, else-frame, else-page, put-other}
+use Rattle.invariant.proofs.Table.{put-apart, put-new, put-gone, put-cases}
 use Rattle.invariant.proofs.Never.{know}
 use Rattle.invariant.proofs.Facts.{grant-live}
 use Rattle.invariant.proofs.Flags.{never, imp-mp}
-use Rattle.invariant.proofs.Edges.{Edge, on, found1, found18, lost2, lost22, pins2, pins19, gets3, gets21, takes, fills, swaps, gives-up, drops, removes, admits, revives, evicts20, evicts23, begins, releases}
+use Rattle.invariant.proofs.Edges.{Edge, on, found1, found18, lost2, lost22, pins2, pins19, gets3, gets21, takes, fills, swaps, gives-up, drops}
+use Rattle.invariant.proofs.Edges.{removes, admits, revives, evicts20, evicts23, begins, releases}
 use Rattle.invariant.proofs.Effects.{OwnOk, forgot, kept, taken, Opened, of-found, of-own, EntryOk, entries-stay, maps, unmaps, Effect}
 use Rattle.invariant.proofs.Next.{dead-next, seats-next, maps-next, page-next, by-own, by-mapped, all-grants}
 use Rattle.invariant.proofs.Counts.{orphan-stays, stranded}

@@ -12,12 +12,16 @@ use Rattle.pool.specs.declared.Pool.{Pool}
 use Rattle.pool.specs.declared.Client.{Client}
 use Rattle.pool.specs.declared.Move.{Move}
 use Rattle.invariant.proofs.Reached.{Reached, Ranges}
-use Rattle.invariant.proofs.After.{all-clients, pins-kept, pins-here, pins-else, pins-in, count-kept, count-here, count-else, count-past, entryFrame-kept}
+use Rattle.invariant.proofs.After.{all-clients, pins-kept, pins-here, pins-else, pins-in, count-kept, count-here, count-else, count-past}
+use Rattle.invariant.proofs.After.{entryFrame-kept}
 use Rattle.invariant.proofs.Searches.{grant-in}
 use Rattle.invariant.proofs.Table.{put-frame, else-frame}
 use Rattle.invariant.proofs.Flags.{differ, at-most}
-use Rattle.invariant.proofs.Edges.{Edge, on, found1, found18, lost2, lost22, pins2, pins19, gets3, gets21, takes, fills, swaps, gives-up, drops, removes, admits, revives, evicts20, evicts23, begins, releases}
-use Rattle.invariant.proofs.Effects.{CountOk, counts-stay, counts-put, OwnOk, forgot, kept, taken, PinChange, adds, lowers, drops-victim, drops-own, takes-one, PinsOk, pins-stay, pins-put, FoundOk, found-stays, lost, looked, Opened, of-found, of-own, EntryOk, entries-stay, maps, unmaps, Effect}
+use Rattle.invariant.proofs.Edges.{Edge, on, found1, found18, lost2, lost22, pins2, pins19, gets3, gets21, takes, fills, swaps, gives-up, drops}
+use Rattle.invariant.proofs.Edges.{removes, admits, revives, evicts20, evicts23, begins, releases}
+use Rattle.invariant.proofs.Effects.{CountOk, counts-stay, counts-put, OwnOk, forgot, kept, taken, PinChange, adds, lowers, drops-victim, drops-own}
+use Rattle.invariant.proofs.Effects.{takes-one, PinsOk, pins-stay, pins-put, FoundOk, found-stays, lost, looked, Opened, of-found, of-own, EntryOk}
+use Rattle.invariant.proofs.Effects.{entries-stay, maps, unmaps, Effect}
 use Rattle.invariant.proofs.Next.{SlotNow, slot-now, all-grants}
 
 -- ---- what a move has to show of the next record

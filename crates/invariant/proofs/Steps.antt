@@ -13,7 +13,9 @@ use Rattle.pool.specs.Frames.{freeFrame}
 use Rattle.pool.specs.Grants.{grantOf}
 use Rattle.pool.specs.Moves.{standing, withOwn, withVictim, withSeen, withPlace, sweeping, works, granted}
 use Rattle.pool.specs.Apply.{freeAfter}
-use Rattle.pool.specs.Stages.{around, busyVisit, evictOwn, Stage, stages, noStage, stageMove, stage1, stage2, stage3, stage4, stage5, stage6, stage7, stage8, stage9, stage10, stage11, stage12, stage13, stage14, stage15, stage16, stage17, stage18, stage19, stage20, stage21, stage22, stage23}
+use Rattle.pool.specs.Stages.{around, busyVisit, evictOwn, Stage, stages, noStage, stageMove, stage1, stage2, stage3, stage4, stage5, stage6, stage7, stage8}
+use Rattle.pool.specs.Stages.{stage9, stage10, stage11, stage12, stage13, stage14, stage15, stage16, stage17, stage18, stage19, stage20, stage21, stage22}
+use Rattle.pool.specs.Stages.{stage23}
 use Rattle.pool.specs.Calls.{caller, refusalAt, refusal, releaseMove, moveOf}
 use Rattle.pool.specs.declared.Pool.{Pool}
 use Rattle.pool.specs.declared.Client.{Client}
@@ -31,7 +33,8 @@ use Rattle.invariant.proofs.Never.{know, finds-some, room}
 use Rattle.invariant.proofs.Flags.{T-false, never, differ, imp-mp, onward, onward-means, plainly, plainly-means, leavesNone, leaves-none, Visits}
 use Rattle.invariant.proofs.Allowed.{allowed, may-begin, may-step, may-release}
 use Rattle.invariant.proofs.Facts.{own-pins, grant-live, entry-gone}
-use Rattle.invariant.proofs.Edges.{Quiet, keep, hand, counts, free, Alike, grants, Edge, on, found1, found18, lost2, lost22, pins2, pins19, gets3, gets21, takes, fills, swaps, gives-up, drops, removes, admits, revives, evicts20, evicts23, begins, releases}
+use Rattle.invariant.proofs.Edges.{Quiet, keep, hand, counts, free, Alike, grants, Edge, on, found1, found18, lost2, lost22, pins2, pins19, gets3}
+use Rattle.invariant.proofs.Edges.{gets21, takes, fills, swaps, gives-up, drops, removes, admits, revives, evicts20, evicts23, begins, releases}
 
 pub around-ok : (s i : ℕ) → 0 < s → around s i < s
 unfolding around

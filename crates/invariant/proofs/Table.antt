@@ -15,7 +15,8 @@ use Rattle.pool.specs.declared.Write.the-variants.{PutEntry}
 use Rattle.laws.specs.Choices.{scan-ind}
 use Rattle.laws.specs.Scans.{scan-none, scan-same, scan-only}
 use Rattle.invariant.proofs.Reached.{Apart, mapped, Shape}
-use Rattle.invariant.proofs.After.{EntryPagesStay, EntryFramesStay, entry-in, entryPage-kept, entryFrame-kept, entryPage-here, entryPage-else, entryFrame-here, entryFrame-else}
+use Rattle.invariant.proofs.After.{EntryPagesStay, EntryFramesStay, entry-in, entryPage-kept, entryFrame-kept, entryPage-here, entryPage-else}
+use Rattle.invariant.proofs.After.{entryFrame-here, entryFrame-else}
 use Rattle.invariant.proofs.Apart.{apart-put}
 use Rattle.invariant.proofs.Searches.{lookup-found, lookup-is}
 
