@@ -74,12 +74,12 @@ turn-step p c r z = go (seen p (Step c) c (r .shape))
 
     by-fit : callOf p (Step c) .answer ≡ moveOf p (Step c) .answer → client (callOf p (Step c) .pool) c ≡ moveOf p (Step c) .next
         → Fits (client p c) (moveOf p (Step c)) → Turn c (happens p (Step c))
-    by-fit a n (goes j l w s _) =
+    by-fit a n (goes j l w s) =
         let at : client (callOf p (Step c) .pool) c .stage ≡ j = same-stage n ∙ s in
         let t = and-parts (not (eqb j 0)) _ (on-edges (λ i j. not (eqb j 0) && passes (pinsFound i) (adding i j) (pinsFound j)) tt i j l) in
         works (λ q. eqb-false j 0 (T-false (eqb j 0) (t .0)) (sym at ∙ q)) (λ g. other-answer (sym (a ∙ w) ∙ g .2) tt)
         (marks c (happens p (Step c)) (adding i j) _ _ refl (ap (takesEffect i) (a ∙ w)) (rw at (t .1)))
-    by-fit a n (grants f l _ w s _) =
+    by-fit a n (grants f l _ w s) =
         granted (same-stage n ∙ s)
         (marks c (happens p (Step c)) (admitting i) _ _ refl (ap (takesEffect i) (a ∙ w))
         (on-grants (λ i. T (passes (pinsFound i) (admitting i) true)) tt tt tt tt i l))

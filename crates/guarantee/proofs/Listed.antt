@@ -63,13 +63,13 @@ listed-move : (p : Pool) (x : Call) → Reached p → refusalOf (moveOf p x .ans
 unfolding moveOf refusalOf Listed
 listed-move p (Begin c g) r z = inl refl
 listed-move p (Release c g) r z =
-    elim (released p c g) [ ends e _ _ ↦ inl e | halts e ↦ absurd (z (ap (λ (m : Move). refusalOf (m .answer)) e)) ]
+    elim (released p c g) [ ends e _ ↦ inl e | halts e ↦ absurd (z (ap (λ (m : Move). refusalOf (m .answer)) e)) ]
 listed-move p (Step c) r z =
     elim (fits p (client p c)) [
-      | goes j l e _ _ ↦
+      | goes j l e _ ↦
           let t = and-parts (leb 1 j) (leb j 23) (on-edges (λ i j. leb 1 j && leb j 23) tt (client p c .stage) j l) in
           inl (j, e, leb→le 1 j (t .0), leb→le j 23 (t .1))
-      | grants f l w e _ _ ↦ inr (inl (f, e, rw w (given-in p c r l)))
+      | grants f l w e _ ↦ inr (inl (f, e, rw w (given-in p c r l)))
       | refuses e ↦ inr (inr (inr (inr (ap (λ (m : Move). m .answer) e))))
       | sticks e ↦ absurd (z (ap (λ (m : Move). refusalOf (m .answer)) e))
     ]

@@ -44,7 +44,7 @@ module _ (p : Pool) (r : Reached p) (f : ℕ) (z : f ≢ none) (unowned : (c : �
       by : OwnOk p c m → ⊥
       by (kept q _) = unowned c (sym q ∙ e)
       by (forgot q) = z (sym e ∙ q)
-      by (taken q _ _ _ _ _) = s q
+      by (taken q _ _ _) = s q
 
   -- then a move puts it into no slot, so it is out if every slot that named it does no more
   out-move : (c : ℕ) (m : Move) → c < clientCount p → Edge p c m → m .next .own ≢ f → ((i : ℕ) → slot p i ≡ f → slot (apply p c m) i ≢ f) → Out (apply p c m) f

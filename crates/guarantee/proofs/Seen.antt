@@ -56,7 +56,7 @@ rests p x c s z = go x (seen p x c s)
     go (Begin d g) (mine e a o n) = inr (g, ap (λ (i : ℕ). Begin i g) e, same-answer o)
     go (Step d) (mine e a o n) = absurd (may-step p (client p d) d (a .may) (ap (λ (i : ℕ). client p i .stage) e ∙ z))
     go (Release d g) (mine e a o n) =
-        inl (same-stage n ∙ (elim (released p d g) [ ends _ q _ ↦ q ∙ zd | halts q ↦ ap (λ (m : Move). m .next .stage) q ∙ zd ]), λ q. other-call q tt)
+        inl (same-stage n ∙ (elim (released p d g) [ ends _ q ↦ q ∙ zd | halts q ↦ ap (λ (m : Move). m .next .stage) q ∙ zd ]), λ q. other-call q tt)
       where
         zd : client p d .stage ≡ 0
         zd = ap (λ (i : ℕ). client p i .stage) e ∙ z

@@ -89,12 +89,12 @@ down-by p x n (inr r) z = omega arith
 
 -- a release is done, or stuck
 pub data Released (k : Client) (g : ℕ) (m : Move) : Type 0 where
-  ends : m .answer ≡ Done g → m .next .stage ≡ k .stage → m .next .own ≡ k .own → Released k g m
+  ends : m .answer ≡ Done g → m .next .stage ≡ k .stage → Released k g m
   halts : m ≡ stuck k → Released k g m
 
 pub released : (p : Pool) (c g : ℕ) → Released (client p c) g (moveOf p (Release c g))
 unfolding moveOf releaseMove
-released p c g = by-test (Released (client p c) g) (λ _. halts refl) (λ _. ends refl refl refl)
+released p c g = by-test (Released (client p c) g) (λ _. halts refl) (λ _. ends refl refl)
 
 abbrev RefusedBy : Pool → Call → ℕ → Type 0
 RefusedBy p x n = (n ≡ 8) ⊎ ((c : ℕ) × (x ≡ Step c) × (moveOf p x ≡ refused15 (client p c)))
@@ -105,14 +105,14 @@ refused-by p (Begin c g) n a = other-answer a tt
 refused-by p (Step c) n a = go (fits p (client p c))
   where
     go : Fits (client p c) (moveOf p (Step c)) → RefusedBy p (Step c) n
-    go (goes j _ e _ _) = other-answer (sym e ∙ a) tt
-    go (grants f _ _ e _ _) = other-answer (sym e ∙ a) tt
+    go (goes j _ e _) = other-answer (sym e ∙ a) tt
+    go (grants f _ _ e _) = other-answer (sym e ∙ a) tt
     go (refuses e) = inr (c, refl, e)
     go (sticks e) = inl (ap refusalOf (sym a ∙ ap (λ (m : Move). m .answer) e))
 refused-by p (Release c g) n a = go (released p c g)
   where
     go : Released (client p c) g (moveOf p (Release c g)) → RefusedBy p (Release c g) n
-    go (ends e _ _) = other-answer (sym e ∙ a) tt
+    go (ends e _) = other-answer (sym e ∙ a) tt
     go (halts e) = inl (ap refusalOf (sym a ∙ ap (λ (m : Move). m .answer) e))
 
 -- ---- the claims

@@ -86,17 +86,17 @@ module _ (p : Pool) (c : ℕ) (here : c < clientCount p) (r : Reached p) (m : Mo
       where
         go : PinsOk p c m → (pins p f ≡ evicted) ⊎ Leaves q (m .next) f
         go (pins-stay e) = inl (sym (pins-kept p c m (r .shape) e f) ∙ d)
-        go (pins-put g y e h _ ch) = by (ℕ-discrete f g) ch
+        go (pins-put g y e h ch) = by (ℕ-discrete f g) ch
           where
             now : f ≡ g → y ≡ evicted
             now w = sym (pins-here p c m (r .shape) g y e h) ∙ ap (pins q) (sym w) ∙ d
 
             by : Dec (f ≡ g) → PinChange p c m g y → (pins p f ≡ evicted) ⊎ Leaves q (m .next) f
             by (no w) _ = inl (sym (pins-else p c m (r .shape) g y e f w) ∙ d)
-            by (yes w) (adds _ _ v _) = absurd (let u = now w in let y : ⊥ = omega arith in y)
-            by (yes w) (lowers _ _ l v) = absurd (let u = now w in let y : ⊥ = omega arith in y)
-            by (yes w) (takes-one _ _ v) = absurd (let u = now w in let y : ⊥ = omega arith in y)
-            by (yes w) (drops-own v _ _ _) = absurd (n (ap (mapped p) (w ∙ v) ∙ r .private .own-unmapped c (λ u. z (w ∙ v ∙ u))))
+            by (yes w) (adds _ v _) = absurd (let u = now w in let y : ⊥ = omega arith in y)
+            by (yes w) (lowers l v) = absurd (let u = now w in let y : ⊥ = omega arith in y)
+            by (yes w) (takes-one _ v) = absurd (let u = now w in let y : ⊥ = omega arith in y)
+            by (yes w) (drops-own v _) = absurd (n (ap (mapped p) (w ∙ v) ∙ r .private .own-unmapped c (λ u. z (w ∙ v ∙ u))))
             by (yes w) (drops-victim v one-pin _ a st vi pl) = inr (vi ∙ sym (w ∙ v), inr (st, out (slot-or-out p c here r m x f (k .place) z stands)))
               where
                 kn : Knows 14 p k

@@ -7,7 +7,7 @@ use mathlib.Core.List.{List}
 use Prim.Native.Nat.{ℕ, suc, _+_, _-_, _≤_, _<_}
 use native.Mathlib.Omega.{arith}
 use lib.Dec.{T, eqb}
-use Rattle.pool.specs.State.{none, evicted, pinned, clientCount, total, slot, page, pins, count, entryPage, entryFrame, client, grantFrame}
+use Rattle.pool.specs.State.{none, evicted, pinned, clientCount, total, slot, page, pins, count, entryPage, entryFrame, client}
 use Rattle.pool.specs.Table.{entryOf, lookup}
 use Rattle.pool.specs.Frames.{referenced, freeFrame}
 use Rattle.pool.specs.Grants.{grantOf}
@@ -30,7 +30,7 @@ use Rattle.invariant.proofs.Table.{suc-not, lookup-mapped}
 use Rattle.invariant.proofs.Grants.{Granting, keeps, opens, ends}
 use Rattle.invariant.proofs.Never.{know}
 use Rattle.invariant.proofs.Flags.{differ, imp}
-use Rattle.invariant.proofs.Facts.{raised-ok, own-pins, grant-live, found-live, one-more}
+use Rattle.invariant.proofs.Facts.{raised-ok, grant-live, found-live, one-more}
 use Rattle.invariant.proofs.Edges.{Quiet, keep, hand, counts, free, Edge, on, grants, found1, found18, lost2, lost22, pins2, pins19, gets3, gets21}
 use Rattle.invariant.proofs.Edges.{takes, fills, swaps, gives-up, drops, removes, admits, revives, evicts20, evicts23, begins, releases}
 
@@ -52,7 +52,7 @@ module _ (p : Pool) (c : ℕ) (m : Move) where
   pub data OwnOk : Type 0 where
     forgot : m .next .own ≡ none → OwnOk
     kept : m .next .own ≡ k .own → T (imp (unplaced (m .next .stage)) (unplaced (k .stage))) → OwnOk
-    taken : k .stage ≡ 4 → k .own ≡ none → m .next .own ≢ none → m .next .own < total p → referenced p (m .next .own) ≡ false
+    taken : k .stage ≡ 4 → m .next .own < total p → referenced p (m .next .own) ≡ false
         → m .write ≡ TakeFrame (m .next .own) (m .next .page) (pinned 1) 1 → OwnOk
 
   -- the slot at i is empty, or the client takes its evicted victim out of it
@@ -63,41 +63,41 @@ module _ (p : Pool) (c : ℕ) (m : Move) where
   pub data SlotOk : Type 0 where
     slots-stay : SlotsStay p (m .write) → SlotOk
     puts : (i : ℕ) → m .write ≡ PutSlot i (k .own) → i < p .size → T (unplaced (k .stage)) → T (not (unplaced (m .next .stage)))
-        → m .next .own ≡ k .own → k .own ≢ none → Vacant i → SlotOk
+        → k .own ≢ none → Vacant i → SlotOk
 
   -- frame f gets pins x
   pub data PinChange (f x : ℕ) : Type 0 where
-    adds : f ≡ k .found → pins p f ≢ evicted → x ≡ pins p f + 1 → x ≤ pinned 128 → PinChange f x
-    lowers : (i : ℕ) → f ≡ grantFrame p c i → pinned 1 ≤ pins p f → x ≡ pins p f - 1 → PinChange f x
+    adds : pins p f ≢ evicted → x ≡ pins p f + 1 → x ≤ pinned 128 → PinChange f x
+    lowers : pinned 1 ≤ pins p f → x ≡ pins p f - 1 → PinChange f x
     drops-victim : f ≡ k .victim → pins p f ≡ pinned 0 → x ≡ evicted → k .stage ≡ 14 → m .next .stage ≡ 15 → m .next .victim ≡ k .victim
         → m .next .place ≡ k .place → PinChange f x
-    drops-own : f ≡ k .own → pins p f ≡ pinned 1 → x ≡ evicted → m .next .own ≡ none → PinChange f x
-    takes-one : f ≡ m .next .own → referenced p f ≡ false → x ≡ pinned 1 → PinChange f x
+    drops-own : f ≡ k .own → x ≡ evicted → PinChange f x
+    takes-one : referenced p f ≡ false → x ≡ pinned 1 → PinChange f x
 
   pub data PinsOk : Type 0 where
     pins-stay : PinsStay p (m .write) → PinsOk
-    pins-put : (f x : ℕ) → PinsPut p (m .write) f x → f < total p → f ≢ none → PinChange f x → PinsOk
+    pins-put : (f x : ℕ) → PinsPut p (m .write) f x → f < total p → PinChange f x → PinsOk
 
   pub data FoundOk : Type 0 where
     found-stays : m .next .found ≡ k .found → FoundOk
     lost : m .next .found ≡ none → FoundOk
-    looked : m .next .found ≢ none → m .next .found < total p → mapped p (m .next .found) ≢ 0 → FoundOk
+    looked : m .next .found < total p → mapped p (m .next .found) ≢ 0 → FoundOk
 
   -- whose frame f a new grant of page g names
   pub data Opened (g f : ℕ) : Type 0 where
     of-found : f ≡ k .found → f ≢ none → mapped p f ≡ suc g → pinned 1 ≤ pins p f → Opened g f
-    of-own : (i : ℕ) → f ≡ k .own → f ≢ none → g ≡ k .page → m .next .own ≡ none → m .write ≡ PutEntry i g f → i < total p → Opened g f
+    of-own : (i : ℕ) → f ≡ k .own → f ≢ none → m .next .own ≡ none → m .write ≡ PutEntry i g f → i < total p → Opened g f
 
   -- a page is mapped to the own frame, at a place that is unused or whose frame is evicted; or the evicted victim's entry is removed
   pub data EntryOk : Type 0 where
     entries-stay : EntryPagesStay p (m .write) → EntryFramesStay p (m .write) → EntryOk
     maps : (i : ℕ) → m .write ≡ PutEntry i (k .page) (k .own) → i < total p → k .own ≢ none → m .next .own ≡ none → Seated p (k .own)
         → (entryFrame p i ≡ none) ⊎ (pins p (entryFrame p i) ≡ evicted) → ((j : ℕ) → j ≢ i → entryFrame p j ≢ none → entryPage p j ≢ k .page) → EntryOk
-    unmaps : (i g : ℕ) → m .write ≡ PutEntry i g none → i < total p → k .victim ≢ none → entryFrame p i ≡ k .victim → pins p (k .victim) ≡ evicted → EntryOk
+    unmaps : (i g : ℕ) → m .write ≡ PutEntry i g none → i < total p → entryFrame p i ≡ k .victim → pins p (k .victim) ≡ evicted → EntryOk
 
   pub data PageOk : Type 0 where
     pages-stay : PagesStay p (m .write) → PageOk
-    paged : (f : ℕ) → referenced p f ≡ false → f < total p → PagesPut p (m .write) f (m .next .page) → f ≡ m .next .own → PageOk
+    paged : (f : ℕ) → referenced p f ≡ false → PagesPut p (m .write) f (m .next .page) → PageOk
 
   pub record Effect : Type 0 where
     pub own : OwnOk
@@ -163,14 +163,14 @@ module _ (p : Pool) (c : ℕ) (here : c < clientCount p) (r : Reached p) where
       }
 
   -- one frame's pins change, and no grant
-  pinning : {m : Move} (f x : ℕ) → m .write ≡ PutPins f x → f < total p → f ≢ none → PinChange p c m f x → OwnOk p c m → m .next .found ≡ me .found
+  pinning : {m : Move} (f x : ℕ) → m .write ≡ PutPins f x → f < total p → PinChange p c m f x → OwnOk p c m → m .next .found ≡ me .found
       → Granting p c m → ((g y : ℕ) → m .grants ≡ Open (me .held) g y → Opened p c m g y) → Effect p c m
   unfolding slotsAfter pinsAfter entryPagesAfter entryFramesAfter pagesAfter freeAfter lastAfter countsAfter
-  pinning f x e h z ch o fo g op =
+  pinning f x e h ch o fo g op =
       record {
         own = o;
         slot = slots-stay (rw e refl);
-        pins = pins-put f x (rw e refl) h z ch;
+        pins = pins-put f x (rw e refl) h ch;
         found = found-stays fo;
         grants = g;
         opened = op;
@@ -226,7 +226,7 @@ module _ (p : Pool) (c : ℕ) (here : c < clientCount p) (r : Reached p) where
       → me .found ≢ none → pins p (me .found) ≢ evicted → Effect p c (works me j (PutPins (me .found) (pins p (me .found) + 1)))
   pins-found i j e w t u z l =
       let few : pins p (me .found) < pinned 128 = one-more p r c here (λ s. differ i 0 w (sym e ∙ s)) (rw e t) z l in
-      pinning (me .found) _ refl (r .ranges .found-ok c z) z (adds refl l refl (omega arith)) (kept refl (rw e u)) refl (keeps refl refl)
+      pinning (me .found) _ refl (r .ranges .found-ok c z) (adds l refl (omega arith)) (kept refl (rw e u)) refl (keeps refl refl)
       (λ _ _ x. no-open x)
 
   -- a working client holds fewer than 8
@@ -257,18 +257,18 @@ module _ (p : Pool) (c : ℕ) (here : c < clientCount p) (r : Reached p) where
       → EntryOk p c (grants me (me .own) (PutEntry n (me .page) (me .own)) u) → Effect p c (grants me (me .own) (PutEntry n (me .page) (me .own)) u)
   gets-own i n u e w h z en =
       entering n (me .page) (me .own) refl en (forgot refl) (lost refl) (opens (me .page) (me .own) refl refl (few i e w))
-      (λ g f x. let a : g ≡ me .page = cc in let b : f ≡ me .own = cc in of-own n b (λ y. z (sym b ∙ y)) a refl (rw (a, b) refl) h)
+      (λ g f x. let a : g ≡ me .page = cc in let b : f ≡ me .own = cc in of-own n b (λ y. z (sym b ∙ y)) refl (rw (a, b) refl) h)
 
   evicts-own : (j : ℕ) → me .own ≢ none → Effect p c (works (withOwn me none) j (PutPins (me .own) evicted))
   evicts-own j z =
-      pinning (me .own) evicted refl (r .ranges .own-ok c z) z (drops-own refl (own-pins p r c z) refl refl) (forgot refl) refl (keeps refl refl)
+      pinning (me .own) evicted refl (r .ranges .own-ok c z) (drops-own refl refl) (forgot refl) refl (keeps refl refl)
       (λ _ _ x. no-open x)
 
   pub effect : {m : Move} → Edge p c m → Effect p c m
   unfolding slotsAfter pinsAfter entryPagesAfter entryFramesAfter pagesAfter freeAfter lastAfter countsAfter
   effect (on n j w h) = quietly (h .quiet) (kept (h .same .own) (h .stages .from-unplaced)) (found-stays (h .same .found)) refl (h .same .held)
-  effect (found1 e z) = let l = looking (me .page) z in quietly keep (kept refl tt) (looked z (l .0) (l .1)) refl refl
-  effect (found18 e z) = let l = looking (me .page) z in quietly keep (kept refl tt) (looked z (l .0) (l .1)) refl refl
+  effect (found1 e z) = let l = looking (me .page) z in quietly keep (kept refl tt) (looked (l .0) (l .1)) refl refl
+  effect (found18 e z) = let l = looking (me .page) z in quietly keep (kept refl tt) (looked (l .0) (l .1)) refl refl
   effect (lost2 e d) = quietly keep (kept refl tt) (lost refl) refl refl
   effect (lost22 e _) = quietly keep (kept refl tt) (lost refl) refl refl
   effect (pins2 e l) = pins-found 2 3 e tt tt tt (kn 2 e .0) l
@@ -278,29 +278,29 @@ module _ (p : Pool) (c : ℕ) (here : c < clientCount p) (r : Reached p) where
   effect (takes e z) =
       let f = free-found p (r .shape) z in
       record {
-        own = taken e (r .counts .owns-none c (rw e tt)) z (f .0) (f .1) refl;
+        own = taken e (f .0) (f .1) refl;
         slot = slots-stay refl;
-        pins = pins-put (freeFrame p) (pinned 1) refl (f .0) z (takes-one refl (f .1) refl);
+        pins = pins-put (freeFrame p) (pinned 1) refl (f .0) (takes-one (f .1) refl);
         found = found-stays refl;
         grants = keeps refl refl;
         opened = λ _ _ x. no-open x;
         entries = entries-stay refl refl;
-        pages = paged (freeFrame p) (f .1) (f .0) refl refl;
+        pages = paged (freeFrame p) (f .1) refl;
         written = record { free-ok = r .ranges .free-ok; last-ok = inr (f .0); count-ok = counts-put _ 1 refl (r .shape .cap-low) };
       }
-  effect (fills e s) = placing (me .place) refl (puts (me .place) refl (r .ranges .place-ok c) (rw e tt) tt refl (kn 8 e) (inl s)) (kept refl tt) refl refl refl
+  effect (fills e s) = placing (me .place) refl (puts (me .place) refl (r .ranges .place-ok c) (rw e tt) tt (kn 8 e) (inl s)) (kept refl tt) refl refl refl
   effect (swaps e s) =
-      placing (me .place) refl (puts (me .place) refl (r .ranges .place-ok c) (rw e tt) tt refl (kn 15 e .0) (inr (s, kn 15 e .1 .1, tt, refl)))
+      placing (me .place) refl (puts (me .place) refl (r .ranges .place-ok c) (rw e tt) tt (kn 15 e .0) (inr (s, kn 15 e .1 .1, tt, refl)))
       (kept refl tt) refl refl refl
   effect (gives-up v _) = quietly keep (forgot refl) (lost refl) refl refl
   effect (drops e h) =
       let z = kn 14 e .1 .0 in
-      pinning (me .victim) evicted refl (r .ranges .victim-ok c z) z (drops-victim refl h refl e refl refl refl) (kept refl (rw e tt)) refl
+      pinning (me .victim) evicted refl (r .ranges .victim-ok c z) (drops-victim refl h refl e refl refl refl) (kept refl (rw e tt)) refl
       (keeps refl refl) (λ _ _ x. no-open x)
   effect (removes e h) =
       let z = kn 17 e .1 .0 in
       let f = lookup-found p (r .shape) (page p (me .victim)) (λ w. z (sym h ∙ w)) in
-      entering _ _ none refl (unmaps _ _ refl (f .place) z (f .entry-frame ∙ h) (kn 17 e .1 .1)) (kept refl tt) (found-stays refl) (keeps refl refl)
+      entering _ _ none refl (unmaps _ _ refl (f .place) (f .entry-frame ∙ h) (kn 17 e .1 .1)) (kept refl tt) (found-stays refl) (keeps refl refl)
       (λ _ _ x. no-open x)
   effect (admits e l u) =
       let f = unused-found p (r .shape) u in
@@ -320,5 +320,5 @@ module _ (p : Pool) (c : ℕ) (here : c < clientCount p) (r : Reached p) where
       let i : ℕ = grantOf p c g in
       let h = grantOf-found p c g z .0 in
       let n = r .outline .grant-named c i h in
-      pinning _ _ refl (r .ranges .grant-ok c i n) n (lowers i refl (grant-live p r c i n) refl) (kept refl (rw e tt)) refl (ends i refl refl h)
+      pinning _ _ refl (r .ranges .grant-ok c i n) (lowers (grant-live p r c i n) refl) (kept refl (rw e tt)) refl (ends i refl refl h)
       (λ _ _ x. ends-no-open x)

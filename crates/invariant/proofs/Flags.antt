@@ -133,7 +133,6 @@ leaves-none i t = let a = or-parts (leaving i) (eqb i 15) t in (T-not (leaving i
 -- a stage of the sweep at which a busy visit may end it
 pub record Visits (i : ℕ) : Type 0 where
   pub is-unplaced : T (unplaced i)
-  pub is-foundless : T (foundless i)
   pub no-pin : pinsFound i ≡ false
   pub no-fill : filling i ≡ false
   pub no-leave : T (leavesNone i)

@@ -22,7 +22,6 @@ use Rattle.laws.specs.Choices.{chosen, passed}
 use Rattle.invariant.proofs.Reached.{Shape, one, sumTo, grantsOn}
 use Rattle.invariant.proofs.After.{within-in, raw-here, raw-else, client-same, client-other}
 use Rattle.invariant.proofs.Sums.{sum-same, sum-put, sum-zero}
-use Rattle.invariant.proofs.Searches.{grantFrame-past}
 
 -- client c's open grants of page g, as `grantsOn` counts those on a frame
 unfoldable pub grantsOf : Pool → ℕ → ℕ → ℕ
@@ -237,7 +236,7 @@ module _ (p : Pool) (c : ℕ) (m : Move) (shape : Shape p) (here : c < clientCou
   pub data Comes (j : ℕ) : Type 0 where
     old : (i : ℕ) → i < n → grantPage q c j ≡ grantPage p c i → grantFrame q c j ≡ grantFrame p c i → Comes j
     new : (g f : ℕ) → m .grants ≡ Open n g f → grantPage q c j ≡ g → grantFrame q c j ≡ f → Comes j
-    past : m .next .held ≤ j → grantFrame q c j ≡ none → Comes j
+    past : m .next .held ≤ j → Comes j
 
   pub comes : Granting p c m → (j : ℕ) → Comes j
   unfolding grantPage grantFrame
@@ -270,7 +269,7 @@ module _ (p : Pool) (c : ℕ) (m : Move) (shape : Shape p) (here : c < clientCou
 
       by : Dec (j < m .next .held) → Comes j
       by (yes h) = how-to h how
-      by (no h) = past (omega arith) (grantFrame-past q c j (omega (arith, held-next)))
+      by (no h) = past (omega arith)
 
 -- a client that has no grant on a frame
 pub grantsOn-none : (p : Pool) (c f : ℕ) → ((i : ℕ) → grantFrame p c i ≢ f) → grantsOn p c f ≡ 0

@@ -45,7 +45,7 @@ module _ (p : Pool) (c : ℕ) (here : c < clientCount p) (r : Reached p) (m : Mo
     where
       go : SlotOk p c m → SlotNow i
       go (slots-stay e) = inl (slot-kept p c m (r .shape) e i)
-      go (puts j e h u v _ z _) = by (ℕ-discrete i j)
+      go (puts j e h u v z _) = by (ℕ-discrete i j)
         where
           by : Dec (i ≡ j) → SlotNow i
           by (yes w) = inr (ap (slot q) w ∙ slot-here p c m (r .shape) j (k .own) (rw e refl) h, u, v, z)
@@ -57,7 +57,7 @@ module _ (p : Pool) (c : ℕ) (here : c < clientCount p) (r : Reached p) (m : Mo
     where
       go : SlotOk p c m → (slot q i ≡ f) ⊎ TakenOut f
       go (slots-stay e) = inl (slot-kept p c m (r .shape) e i ∙ s)
-      go (puts j e h _ _ _ _ v) = by (ℕ-discrete i j) v
+      go (puts j e h _ _ _ v) = by (ℕ-discrete i j) v
         where
           by : Dec (i ≡ j) → Vacant p c m j
               → (slot q i ≡ f) ⊎ TakenOut f
@@ -76,18 +76,18 @@ module _ (p : Pool) (c : ℕ) (here : c < clientCount p) (r : Reached p) (m : Mo
       where
         go : PinsOk p c m → pins q f ≡ evicted
         go (pins-stay e) = pins-kept p c m (r .shape) e f ∙ d
-        go (pins-put g y e h _ ch) = by (ℕ-discrete f g) ch
+        go (pins-put g y e h ch) = by (ℕ-discrete f g) ch
           where
             at : f ≡ g → y ≡ evicted → pins q f ≡ evicted
             at w v = ap (pins q) w ∙ pins-here p c m (r .shape) g y e h ∙ v
 
             by : Dec (f ≡ g) → PinChange p c m g y → pins q f ≡ evicted
             by (no w) _ = pins-else p c m (r .shape) g y e f w ∙ d
-            by (yes w) (adds _ l _ _) = absurd (l (ap (pins p) (sym w) ∙ d))
-            by (yes w) (lowers _ _ l _) = absurd (let n : pins p g ≡ evicted = ap (pins p) (sym w) ∙ d in let y : ⊥ = omega arith in y)
+            by (yes w) (adds l _ _) = absurd (l (ap (pins p) (sym w) ∙ d))
+            by (yes w) (lowers l _) = absurd (let n : pins p g ≡ evicted = ap (pins p) (sym w) ∙ d in let y : ⊥ = omega arith in y)
             by (yes w) (drops-victim _ _ v _ _ _ _) = at w v
-            by (yes w) (drops-own _ _ v _) = at w v
-            by (yes w) (takes-one _ ref′ _) = absurd (ref (ap (referenced p) w ∙ ref′))
+            by (yes w) (drops-own _ v) = at w v
+            by (yes w) (takes-one ref′ _) = absurd (ref (ap (referenced p) w ∙ ref′))
 
     pub seats-next : pins p f ≢ evicted → Seated p f → Seated q f
     seats-next l s = go (slot-or-out f (s .0) z (s .1))
@@ -109,7 +109,7 @@ module _ (p : Pool) (c : ℕ) (here : c < clientCount p) (r : Reached p) (m : Mo
             other : (entryFrame p i ≡ none) ⊎ (pins p (entryFrame p i) ≡ evicted) → f ≢ entryFrame p i
             other (inl n) y = z (y ∙ n)
             other (inr n) y = l (ap (pins p) y ∙ n)
-        go (unmaps i a w h _ v d) = put-other p c m (r .shape) i a none w h f z (λ y. l (ap (pins p) (y ∙ v) ∙ d)) ∙ e
+        go (unmaps i a w h v d) = put-other p c m (r .shape) i a none w h f z (λ y. l (ap (pins p) (y ∙ v) ∙ d)) ∙ e
 
     -- a frame that is not mapped to is not mapped to now, unless it is the own one
     pub unmapped-next : mapped p f ≡ 0 → (m .next .own ≡ none → k .own ≢ f) → mapped q f ≡ 0
@@ -118,7 +118,7 @@ module _ (p : Pool) (c : ℕ) (here : c < clientCount p) (r : Reached p) (m : Mo
         go : EntryOk p c m → mapped q f ≡ 0
         go (entries-stay a b) = mapped-kept p c m (r .shape) a b f ∙ e
         go (maps i w h _ n _ _ _) = put-cases p c m (r .shape) i (k .page) (k .own) w h f z e (λ y. o n (sym y))
-        go (unmaps i a w h _ _ _) = put-cases p c m (r .shape) i a none w h f z e z
+        go (unmaps i a w h _ _) = put-cases p c m (r .shape) i a none w h f z e z
 
     -- a frame's page changes only where it is taken
     pub page-next : (referenced p f ≡ false → ⊥) → page q f ≡ page p f
@@ -126,7 +126,7 @@ module _ (p : Pool) (c : ℕ) (here : c < clientCount p) (r : Reached p) (m : Mo
       where
         go : PageOk p c m → page q f ≡ page p f
         go (pages-stay e) = page-kept p c m (r .shape) e f
-        go (paged g a _ e _) = page-else p c m (r .shape) g _ e f (λ w. ref (ap (referenced p) w ∙ a))
+        go (paged g a e) = page-else p c m (r .shape) g _ e f (λ w. ref (ap (referenced p) w ∙ a))
 
   -- ---- who is named
 
@@ -155,7 +155,7 @@ module _ (p : Pool) (c : ℕ) (here : c < clientCount p) (r : Reached p) (m : Mo
       mine : Comes p c m (r .shape) here few i → i < m .next .held → P (grantPage q c i) (grantFrame q c i)
       mine (old j l a b) _ = rw (a, b) (olds c j l)
       mine (new g f e a b) _ = rw (a, b) (opened g f e)
-      mine (past l _) u = absurd (let y : ⊥ = omega arith in y)
+      mine (past l) u = absurd (let y : ⊥ = omega arith in y)
 
       go : Dec (d ≡ c) → P (grantPage q d i) (grantFrame q d i)
       go (yes e) =

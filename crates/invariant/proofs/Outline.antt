@@ -68,7 +68,7 @@ module _ (p : Pool) (c : ℕ) (here : c < clientCount p) (r : Reached p) (m : Mo
       go : EntryOk p c m → Apart (entryFrame q) none
       go (entries-stay _ w) = apart-same (entryFrame p) (entryFrame q) none (r .outline .entries-apart) (entryFrame-kept p c m (r .shape) w)
       go (maps i w h z _ _ _ _) = put-apart p c m (r .shape) i (k .page) (k .own) w h (r .outline .entries-apart) (λ _ j _. own-only z j)
-      go (unmaps i g w h _ _ _) = put-apart p c m (r .shape) i g none w h (r .outline .entries-apart) (λ z. absurd (z refl))
+      go (unmaps i g w h _ _) = put-apart p c m (r .shape) i g none w h (r .outline .entries-apart) (λ z. absurd (z refl))
 
   pages-next : (i j : ℕ) → entryFrame q i ≢ none → entryFrame q j ≢ none → entryPage q i ≡ entryPage q j → i ≡ j
   pages-next = go (x .entries)
@@ -87,7 +87,7 @@ module _ (p : Pool) (c : ℕ) (here : c < clientCount p) (r : Reached p) (m : Mo
           let t : (i : ℕ) → entryPage q i ≡ entryPage p i = entryPage-kept p c m (r .shape) v in
           λ i j a b e. r .outline .pages-apart i j (λ n. a (s i ∙ n)) (λ n. b (s j ∙ n)) (sym (t i) ∙ e ∙ t j)
       go (maps n w h _ _ _ _ o) = put n (k .page) (k .own) w h (λ _. o)
-      go (unmaps n g w h _ _ _) = put n g none w h (λ z. absurd (z refl))
+      go (unmaps n g w h _ _) = put n g none w h (λ z. absurd (z refl))
 
   module _ (f : ℕ) (z : f ≢ none) where
     -- an entry that is new is that of the own frame, which stands in a slot
@@ -102,7 +102,7 @@ module _ (p : Pool) (c : ℕ) (here : c < clientCount p) (r : Reached p) (m : Mo
             by : Dec (f ≡ k .own) → (f ≡ k .own) × Seated p f × (mapped q f ≡ suc (k .page)) × (pins q f ≡ pins p f)
             by (yes v) = (v, (s .0, s .1 ∙ sym v), ap (mapped q) v ∙ own-mapped i (k .page) (k .own) refl o w h, pins-kept p c m (r .shape) (rw w refl) f)
             by (no v) = absurd (n (put-cases p c m (r .shape) i (k .page) (k .own) w h f z e v))
-        go (unmaps i g w h _ _ _) = absurd (n (put-cases p c m (r .shape) i g none w h f z e z))
+        go (unmaps i g w h _ _) = absurd (n (put-cases p c m (r .shape) i g none w h f z e z))
 
     -- an entry that was there and is there is as it was
     entry-same : mapped p f ≢ 0 → mapped q f ≢ 0 → mapped q f ≡ mapped p f
@@ -120,7 +120,7 @@ module _ (p : Pool) (c : ℕ) (here : c < clientCount p) (r : Reached p) (m : Mo
             by (yes v) =
                 absurd (n (ap (mapped q) v ∙ put-gone p c m (r .shape) i (k .page) (k .own) w h (r .outline .entries-apart) (λ _ j _. own-only o j)
                 (λ y. z (v ∙ y)) (λ y. not-own (v ∙ y))))
-        go (unmaps i g w h _ _ _) = by (ℕ-discrete f (entryFrame p i))
+        go (unmaps i g w h _ _) = by (ℕ-discrete f (entryFrame p i))
           where
             by : Dec (f ≡ entryFrame p i) → mapped q f ≡ mapped p f
             by (no v) = put-other p c m (r .shape) i g none w h f z v
@@ -199,14 +199,14 @@ module _ (p : Pool) (c : ℕ) (here : c < clientCount p) (r : Reached p) (m : Mo
     where
       new : {g f : ℕ} → Opened p c m g f → f ≢ none → mapped q f ≡ suc g
       new {g} {f} (of-found _ _ e two) n = maps-next p c here r m x f n (λ w. let y : ⊥ = omega arith in y) g e
-      new {g} {f} (of-own i e n _ _ w h) _ = own-mapped i g f e n w h
+      new {g} {f} (of-own i e n _ w h) _ = own-mapped i g f e n w h
 
   named-next : (d i : ℕ) → i < client q d .held → grantFrame q d i ≢ none
   named-next = all-grants p c here r m x (λ _ f. f ≢ none) (r .outline .grant-named) (λ g f w. new (x .opened g f w))
     where
       new : {g f : ℕ} → Opened p c m g f → f ≢ none
       new (of-found _ z _ _) = z
-      new (of-own _ _ z _ _ _ _) = z
+      new (of-own _ _ z _ _ _) = z
 
   own-page-next : Tells p c m → (d : ℕ) → client q d .own ≢ none → page q (client q d .own) ≡ client q d .page
   unfolding pagesAfter
@@ -216,7 +216,7 @@ module _ (p : Pool) (c : ℕ) (here : c < clientCount p) (r : Reached p) (m : Mo
     where
       mine : OwnOk p c m → m .next .own ≢ none → page q (m .next .own) ≡ m .next .page
       mine (forgot e) z = absurd (z e)
-      mine (taken _ _ _ h _ w) z = page-here p c m (r .shape) (m .next .own) (m .next .page) (rw w refl) h
+      mine (taken _ h _ w) z = page-here p c m (r .shape) (m .next .own) (m .next .page) (rw w refl) h
       mine (kept e _) z =
           let o : k .own ≢ none = λ y. z (e ∙ y) in
           ap (page q) e ∙ page-next p c here r m x (k .own) o (by-own p c here r m x (k .own) o c refl) ∙ r .outline .own-page c o ∙ sym (t .wants o e)

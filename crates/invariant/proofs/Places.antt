@@ -31,7 +31,7 @@ module _ (p : Pool) (c : ℕ) (here : c < clientCount p) (r : Reached p) (m : Mo
       go : OwnOk p c m → client p d .own ≢ m .next .own
       go (forgot e) = absurd (z e)
       go (kept e _) = λ h. o (r .places .owns-apart d c (λ n. z (sym h ∙ n)) (h ∙ e))
-      go (taken _ _ _ _ e _) = fresh-means p (m .next .own) z e .no-own d
+      go (taken _ _ e _) = fresh-means p (m .next .own) z e .no-own d
 
   owns-next : Apart (λ d. client q d .own) none
   owns-next =
@@ -49,7 +49,7 @@ module _ (p : Pool) (c : ℕ) (here : c < clientCount p) (r : Reached p) (m : Mo
     where
       go : SlotOk p c m → Apart (slot q) none
       go (slots-stay w) = apart-same (slot p) (slot q) none (r .places .slots-apart) (slot-kept p c m (r .shape) w)
-      go (puts j w h u _ _ o _) =
+      go (puts j w h u _ o _) =
           apart-put (slot p) (slot q) none (r .places .slots-apart) j (slot-else p c m (r .shape) j (k .own) (rw w refl))
           (λ _ i _ e. r .places .unplaced-out c i u o (e ∙ slot-here p c m (r .shape) j (k .own) (rw w refl) h))
 
@@ -71,7 +71,7 @@ module _ (p : Pool) (c : ℕ) (here : c < clientCount p) (r : Reached p) (m : Mo
           by (forgot n) (inl e) = absurd (z n)
           by (kept n u) (inl e) =
               λ h. r .places .unplaced-out c i (imp-mp (unplaced (m .next .stage)) (unplaced (k .stage)) u t) (λ w. z (n ∙ w)) (sym e ∙ h ∙ n)
-          by (taken _ _ _ _ n _) (inl e) = λ h. fresh-means p (m .next .own) z n .no-slot i (sym e ∙ h)
+          by (taken _ _ n _) (inl e) = λ h. fresh-means p (m .next .own) z n .no-slot i (sym e ∙ h)
 
   pub places-next : Places q
   places-next = record { slots-apart = slots-next; owns-apart = owns-next; unplaced-out = out-next }

@@ -37,7 +37,7 @@ module _ (p : Pool) (c : ℕ) (here : c < clientCount p) (r : Reached p) (m : Mo
         mine : FoundOk p c m → m .next .found ≢ f
         mine (found-stays e) = λ w. s .unfound c (sym e ∙ w)
         mine (lost e) = λ w. z (sym w ∙ e)
-        mine (looked _ _ n) = λ w. n (ap (mapped p) w ∙ s .unmapped)
+        mine (looked _ n) = λ w. n (ap (mapped p) w ∙ s .unmapped)
 
     pub secret-ungranted : (d i : ℕ) → grantFrame q d i ≢ f
     secret-ungranted d i w =
@@ -45,7 +45,7 @@ module _ (p : Pool) (c : ℕ) (here : c < clientCount p) (r : Reached p) (m : Mo
       where
         new : {g y : ℕ} → Opened p c m g y → y ≢ f
         new (of-found e _ _ _) = λ w. s .unfound c (sym e ∙ w)
-        new (of-own _ e _ _ o _ _) = λ w. s .not-left o (sym e ∙ w)
+        new (of-own _ e _ o _ _) = λ w. s .not-left o (sym e ∙ w)
 
   own-secret : (d : ℕ) → client q d .own ≢ none → Secret p c (m .next) (client q d .own)
   own-secret = all-clients p c m (r .shape) (λ _ n. n .own ≢ none → Secret p c (m .next) (n .own)) here others (mine (x .own))
@@ -69,7 +69,7 @@ module _ (p : Pool) (c : ℕ) (here : c < clientCount p) (r : Reached p) (m : Mo
             ungranted = λ d i w. r .private .own-ungranted c d i o (w ∙ e);
             not-left = λ w. absurd (z w);
           }
-      mine (taken _ _ _ _ e _) z =
+      mine (taken _ _ e _) z =
           let f = fresh-means p (m .next .own) z e in
           record { unmapped = mapped-zero p (m .next .own) (f .no-entry); unfound = f .no-found; ungranted = f .no-grant; not-left = λ _. f .no-own c }
 

@@ -137,14 +137,14 @@ module _ (p : Pool) (c : ℕ) (here : c < clientCount p) (r : Reached p) (m : Mo
     where
       go : PinsOk p c m → pins q f ≤ pinned 128
       go (pins-stay w) = rw (pins-kept p c m (r .shape) w f) (r .ranges .pins-ok f)
-      go (pins-put g y w h _ ch) = by (ℕ-discrete f g)
+      go (pins-put g y w h ch) = by (ℕ-discrete f g)
         where
           least : PinChange p c m g y → y ≤ pinned 128
-          least (adds _ _ _ l) = l
-          least (lowers _ _ _ v) = omega (arith, r .ranges .pins-ok g)
+          least (adds _ _ l) = l
+          least (lowers _ v) = omega (arith, r .ranges .pins-ok g)
           least (drops-victim _ _ v _ _ _ _) = omega arith
-          least (drops-own _ _ v _) = omega arith
-          least (takes-one _ _ v) = omega arith
+          least (drops-own _ v) = omega arith
+          least (takes-one _ v) = omega arith
 
           by : Dec (f ≡ g) → pins q f ≤ pinned 128
           by (yes v) = rw (ap (pins q) v ∙ pins-here p c m (r .shape) g y w h) (least ch)
@@ -180,7 +180,7 @@ module _ (p : Pool) (c : ℕ) (here : c < clientCount p) (r : Reached p) (m : Mo
           by : Dec (i ≡ j) → entryFrame q i < total p
           by (yes v) = rw (ap (entryFrame q) v ∙ put-frame p c m (r .shape) j _ _ w h) (r .ranges .own-ok c o)
           by (no v) = let s = else-frame p c m (r .shape) j _ _ w h i v in rw s (r .ranges .entry-ok i (λ n. z (s ∙ n)))
-      go (unmaps j _ w h _ _ _) = by (ℕ-discrete i j)
+      go (unmaps j _ w h _ _) = by (ℕ-discrete i j)
         where
           by : Dec (i ≡ j) → entryFrame q i < total p
           by (yes v) = absurd (z (ap (entryFrame q) v ∙ put-frame p c m (r .shape) j _ _ w h))
@@ -189,12 +189,12 @@ module _ (p : Pool) (c : ℕ) (here : c < clientCount p) (r : Reached p) (m : Mo
   own-range : OwnOk p c m → m .next .own ≢ none → m .next .own < total p
   own-range (forgot w) z = absurd (z w)
   own-range (kept w _) z = rw w (r .ranges .own-ok c (λ n. z (w ∙ n)))
-  own-range (taken _ _ _ h _ _) z = h
+  own-range (taken _ h _ _) z = h
 
   found-range : FoundOk p c m → m .next .found ≢ none → m .next .found < total p
   found-range (found-stays w) z = rw w (r .ranges .found-ok c (λ n. z (w ∙ n)))
   found-range (lost w) z = absurd (z w)
-  found-range (looked _ h _) z = h
+  found-range (looked h _) z = h
 
   grant-range : (d i : ℕ) → grantFrame q d i ≢ none → grantFrame q d i < total p
   grant-range d i z =
@@ -202,7 +202,7 @@ module _ (p : Pool) (c : ℕ) (here : c < clientCount p) (r : Reached p) (m : Mo
     where
       new : {g f : ℕ} → Opened p c m g f → f ≢ none → f < total p
       new {g} {f} (of-found _ _ _ l) _ = pins-in p f (λ n. let y : ⊥ = omega arith in y)
-      new (of-own _ w _ _ _ _ _) z = rw w (r .ranges .own-ok c (λ n. z (w ∙ n)))
+      new (of-own _ w _ _ _ _) z = rw w (r .ranges .own-ok c (λ n. z (w ∙ n)))
 
   pub ranges-next : Ranges q
   unfolding apply

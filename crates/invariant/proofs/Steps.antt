@@ -203,10 +203,10 @@ module _ (p : Pool) (c : ℕ) (here : c < clientCount p) (r : Reached p) where
   next i n w e h q fr t fl a o = sweeps i (k .start) _ n w e (around-ok _ _ small) h q fr t fl (no-leaves p k i e a) o
 
   visits11 : Visits 11
-  visits11 = record { is-unplaced = tt; is-foundless = tt; no-pin = refl; no-fill = refl; no-leave = tt }
+  visits11 = record { is-unplaced = tt; no-pin = refl; no-fill = refl; no-leave = tt }
 
   visits12 : Visits 12
-  visits12 = record { is-unplaced = tt; is-foundless = tt; no-pin = refl; no-fill = refl; no-leave = tt }
+  visits12 = record { is-unplaced = tt; no-pin = refl; no-fill = refl; no-leave = tt }
 
   visit : (i : ℕ) → client p c .stage ≡ i → T (onward i 11) → T (leavesNone i) → T (not (filling i)) → Visits i → k .own ≢ none → Goes (busyVisit k (p .size))
   unfolding busyVisit freeAfter
