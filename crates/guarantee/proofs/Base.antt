@@ -1,5 +1,5 @@
--- What stays as it was at a begin while its client runs alone: slots, look-up, and the pins of the frames in slots, under every write that they do
--- not see. Assumes nothing.
+-- What stays as it was at a begin while its client runs alone and has written nothing that shows: slots, look-up, and the pins of the frames in slots.
+-- Every silent write leaves them, and emptying an entry leaves an absent page absent. Assumes nothing.
 use mathlib.Core.Path.{_≡_, sym, ap, subst, _∙_}
 use mathlib.Core.Logic.{_≢_}
 use mathlib.Core.List.{[]}

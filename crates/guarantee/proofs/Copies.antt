@@ -28,7 +28,7 @@ use Rattle.guarantee.specs.Claims.{OneCopy, HeldPinned, NoHeldEvicted}
 use Rattle.guarantee.proofs.Mirror.{Shows, is-member, Mirrors, view, mirrors-view}
 use Rattle.guarantee.proofs.Follow.{Followed, followed}
 use Rattle.guarantee.proofs.Frames.{same-frame, Grant, held-grant, held-pinned}
-use Rattle.guarantee.proofs.Places.{there, shows}
+use Rattle.guarantee.proofs.Pages.{there, shows}
 
 -- what holds of every reached pool holds throughout a run
 pub throughout : (P : Pool → Type 0) → ((p : Pool) → Reached p → P p) → (p : Pool) (calls : List Call) → Reached p → Throughout P p calls

@@ -1,5 +1,5 @@
--- A call of the pool is one of the sequential pool that mirrors it, with the same answer; so the sequential pool can follow every list of
--- calls. Assumes nothing.
+-- A call of the pool is one of the sequential pool that mirrors it, with the same answer. Both turn the same calls down, as stages, page wanted and
+-- numbers of grants are alike; a begin and a release change the client alone; and a step is a step there (`SimulateMoves`). Assumes nothing.
 use mathlib.Core.Path.{_≡_, refl, sym, ap, _∙_}
 use mathlib.Core.Logic.{_≢_, inl}
 use mathlib.Core.Bool.{Bool, true, false}

@@ -1,4 +1,5 @@
--- What the invariant says of a page's frame and of a client's found frame, as the theorems use it. Assumes nothing.
+-- What the invariant says of a page's frame, of a held frame and of a client's found frame, as the theorems use it: a page has one frame, as it has
+-- one entry; a held frame is a grant's, so pinned; a found frame is its page's where it is pinned for the client. Assumes nothing.
 use mathlib.Core.Path.{_≡_, refl, sym, _∙_}
 use mathlib.Core.Logic.{_≢_}
 use mathlib.Core.Bool.{Bool, true, false, _||_, true≢false}

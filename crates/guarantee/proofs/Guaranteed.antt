@@ -1,4 +1,5 @@
--- All that `Claims.antt` states, put together: a pool that was set up is reached, and so is every pool after it. Assumes nothing.
+-- All that `Claims.antt` states, put together: a pool that was set up is reached, every pool after it is, and each claim holds from any reached pool
+-- on. Assumes nothing.
 use mathlib.Core.Path.{_≡_}
 use mathlib.Core.Bool.{true}
 use Prim.Native.Nat.{ℕ, _<_}
@@ -17,7 +18,7 @@ use Rattle.guarantee.proofs.Copies.{throughout, one-copies, helds-pinne
 use Rattle.guarantee.proofs.Sequence.{sequential}
 use Rattle.guarantee.proofs.Sum.{sum}
 use Rattle.guarantee.proofs.Once.{taken-out-once}
-use Rattle.guarantee.proofs.Effect.{one-effect}
+use Rattle.guarantee.proofs.OneEffect.{one-effect}
 use Rattle.guarantee.proofs.Alone.{refused-alone}
 use Rattle.guarantee.proofs.Listed.{listed}
 use Rattle.guarantee.proofs.Turned.{turned, refused}

@@ -1,4 +1,5 @@
--- Every call of a pool from setup and calls ends with a listed answer. Assumes nothing.
+-- Every call of a pool from setup and calls ends with a listed answer: the checks turn down by the numbers of their list, 8 is never met, and a stage
+-- leads on to a stage, grants a frame of the pool, or refuses by 15 (`Stages`). Assumes nothing.
 use mathlib.Core.Path.{_≡_, refl, sym, ap, subst}
 use mathlib.Core.Logic.{_≢_, inl, inr}
 use mathlib.Core.Bool.{Bool, _&&_}

@@ -1,4 +1,5 @@
--- The sequential pool follows every list of calls. Assumes nothing.
+-- The sequential pool follows every list of calls: it mirrors the fresh pool when both are empty, and each call leaves two pools that are alike again
+-- (`Follow`). Assumes nothing.
 use mathlib.Core.Path.{_≡_, refl, ap}
 use mathlib.Core.Bool.{true}
 use mathlib.Core.List.{List, [], _∷_}
@@ -17,7 +18,7 @@ use Rattle.invariant.proofs.Calls.{reached-call}
 use Rattle.guarantee.specs.Sequential.{Sequential, empty, resting, start}
 use Rattle.guarantee.specs.Claims.{Follows, ends, goes}
 use Rattle.guarantee.proofs.Mirror.{seen, seen-evicted, Mirrors, upTo, downFrom, viewTaker, view, mirrors-view}
-use Rattle.guarantee.proofs.Places.{same-pages}
+use Rattle.guarantee.proofs.Pages.{same-pages}
 use Rattle.guarantee.proofs.Start.{starts}
 use Rattle.guarantee.proofs.Follow.{followed}
 

@@ -1,4 +1,5 @@
--- What each write leaves of the sequential pool's places: all of them as they were, unless a page is admitted or dropped. Assumes nothing.
+-- What each write leaves of the sequential pool's places. A place shows the page of a frame that stands in its slot, is not evicted and has an entry:
+-- so a write changes a place only where it evicts such a frame or gives an entry to a frame in a slot, and then that place alone. Assumes nothing.
 use mathlib.Core.Path.{_≡_, refl, sym, ap, _∙_}
 use mathlib.Core.Logic.{_≢_, _⊎_, inl, inr}
 use Prim.Native.Nat.{ℕ, _<_}

@@ -1,5 +1,7 @@
--- A move of the pool as a step of the sequential pool that mirrors it. Each stage is one of six kinds of move: it is quiet, adds a grant, answers
--- one, admits a page, drops a page, or refuses; and each write is one of those that leave every place as it was, or change one. Assumes nothing.
+-- A move of the pool as a step of the sequential pool that mirrors it. Each is one of six kinds: it is quiet, adds a grant, answers one, admits a
+-- page, drops a page, or refuses; and each write leaves every place as it was, or changes one. The premises of the sequential rules are clauses of the
+-- invariant: the wanted page is there because its frame is not evicted, absent because the look-up finds none or an evicted frame, and a dropped page
+-- has no grants because its frame has no pins. Assumes nothing.
 use mathlib.Core.Path.{_≡_, refl, sym, ap, _∙_}
 use mathlib.Core.Logic.{_≢_, _⊎_, inl, inr}
 use mathlib.Core.Bool.{Bool, true, false, _&&_}
@@ -33,7 +35,7 @@ use Rattle.guarantee.specs.Sequential.{answering, StepRule, adds, admits
 use Rattle.guarantee.proofs.Mirror.{seen, seen-unmapped, seen-full, not-member, Taken, open-many, open-grants, taken-as, Mirrors}
 use Rattle.guarantee.proofs.Takers.{Outward, outward, working, gotten, denied, Quiet, Stays, Gets, rests, stays, pins-more, answered, admitted}
 use Rattle.guarantee.proofs.Frames.{same-frame, live-found, found-pinned}
-use Rattle.guarantee.proofs.Places.{there, shows}
+use Rattle.guarantee.proofs.Pages.{there, shows}
 use Rattle.guarantee.proofs.Weights.{full, kept-set, gained, lost, Weighs}
 use Rattle.guarantee.proofs.Shown.{Kept, Changed, as-was, pins-put, pins-out, entry-new}
 

@@ -37,8 +37,8 @@ use Rattle.guarantee.specs.Runs.{events, At}
 use Rattle.guarantee.specs.Claims.{GrantedWithin, Claim-limits}
 use Rattle.guarantee.proofs.Start.{starts}
 use Rattle.guarantee.proofs.Turned.{down, by-move, went}
-use Rattle.guarantee.proofs.Steps.{On, Goes, begun-is, begun-on, answer-is, onto, on-next, go1, go1-found, go2, go3, go4, go5, go6, go7, go8, go8-on}
-use Rattle.guarantee.proofs.Steps.{go9, go18}
+use Rattle.guarantee.proofs.SoloSteps.{On, Goes, begun-is, begun-on, answer-is, onto, on-next, go1, go1-found, go2, go3, go4, go5, go6, go7, go8, go8-on}
+use Rattle.guarantee.proofs.SoloSteps.{go9, go18}
 
 -- ---- the pool after a step
 

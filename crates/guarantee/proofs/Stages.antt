@@ -1,4 +1,4 @@
--- What each stage answers and where its client stands then: one line for each of the 23. `edges` says which stages an
+-- What each stage answers and where its client stands then, of every pool, a handed one too: one line for each of the 23. `edges` says which stages an
 -- answer `Working` leads to and `granting` which stages grant; a fact about these is then checked on the lists alone (`on-edges`, `on-grants`).
 -- Assumes nothing.
 use mathlib.Core.Path.{_≡_, refl}

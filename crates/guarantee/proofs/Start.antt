@@ -1,4 +1,4 @@
--- A setup that is done gives a fresh pool, and that is reached. Assumes nothing.
+-- A setup that is done has numbers in range and gives a fresh pool, and that is reached. Assumes nothing.
 use mathlib.Core.Path.{_≡_, refl}
 use mathlib.Core.Bool.{true}
 use Prim.Native.Nat.{ℕ}

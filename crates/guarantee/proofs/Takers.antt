@@ -1,4 +1,6 @@
--- What a move shows of itself, and what the acting client of the sequential pool has after it. Assumes nothing.
+-- The acting client of the sequential pool after a move. Of the move only its outward side matters: answer, count, change of grants, stage, page and
+-- number of grants. The sequential client has its page among its grants from the step that pins it on, so an answer at 3 or 21 adds nothing there, and
+-- one at 18 or 22 does. Assumes nothing.
 use mathlib.Core.Path.{_≡_, refl, sym, _∙_}
 use mathlib.Core.Logic.{_≢_}
 use mathlib.Core.Bool.{Bool, true, false, not, _&&_, _||_}

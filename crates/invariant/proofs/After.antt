@@ -1,5 +1,6 @@
--- How the pool reads after a move, through its accessors alone: what the write and the change of grants leave as it was, and what stands at the
--- one place that they put something. Assumes nothing.
+-- How the pool reads after a move. A move writes at most one place of a list, so every other place reads as it did, and the lists keep their lengths;
+-- the acting client's record is the move's, and every other client's is the one it had. The pool is read through its accessors alone, so what stands
+-- past the part in use never matters. Assumes nothing.
 use mathlib.Core.Path.{_≡_, refl, ap, _∙_}
 use mathlib.Core.Logic.{_≢_}
 use mathlib.Core.List.{List}

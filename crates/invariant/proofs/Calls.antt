@@ -1,5 +1,5 @@
--- The invariant over calls: every call of a reached pool that is not turned down makes its move, is never answered by 8, and leaves a reached
--- pool. So every pool that comes from setup and calls is reached. Assumes nothing.
+-- The invariant over calls: a call of a reached pool that is not turned down makes its move, as that is never stuck and leaves a reached pool, which
+-- passes check 8; one that is turned down changes nothing. So every pool that comes from setup and calls is reached. Assumes nothing.
 use mathlib.Core.Path.{_≡_, refl, sym, ap, subst, _∙_}
 use mathlib.Core.Logic.{_≢_}
 use mathlib.Core.Bool.{true}

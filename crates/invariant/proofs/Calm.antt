@@ -1,5 +1,6 @@
--- Empty slots are those that are free or claimed by a client that has not filled its slot yet; a victim that is hunted stands in no slot but that
--- of its hunter; and an evicted frame that is still in the table has a client that takes it out. Assumes nothing.
+-- Empty slots are those that are free or claimed by a client that has not filled its slot yet: 6 takes one from free and claims one, and 8 fills one.
+-- A victim that is hunted stands in no slot but its hunter's place, as it was read there and no frame stands in two slots. An evicted frame that is
+-- still in the table has a client that takes it out: the one that evicted it, until it has removed the entry. Assumes nothing.
 use mathlib.Core.Path.{_≡_, refl, sym, ap, subst, _∙_}
 use mathlib.Core.Logic.{_≢_, _⊎_, inl, inr}
 use mathlib.Core.Bool.{not}

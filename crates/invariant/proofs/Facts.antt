@@ -1,4 +1,5 @@
--- What a reached pool says of one frame: how its pins and the claims on it go together. Assumes nothing.
+-- What a reached pool says of one frame. An own frame has one pin, its owner's, as nobody else may name it; a frame that somebody claims is pinned, as
+-- pins are claims; and there is room for one pin more, as no client claims a frame more than 8 times and there are at most 16. Assumes nothing.
 use mathlib.Core.Path.{_≡_, refl, sym, ap, _∙_}
 use mathlib.Core.Logic.{_≢_, _⊎_, inl, inr}
 use mathlib.Core.Bool.{not, _&&_}

@@ -1,5 +1,7 @@
--- The table maps no page twice and no frame twice, a grant's frame is mapped to by its page, a resident frame stands in a slot, a frame that is
--- not evicted has an entry or an owner or is an orphan, and a frame's page is that of its entry and that which its owner wants. Assumes nothing.
+-- The table maps no page twice and no frame twice: an entry is written only for a page that has none, or in its place, and only with an own frame,
+-- which is in none. A grant's frame keeps its entry as it is pinned, and a resident frame its slot. A frame that is not evicted has an entry or an
+-- owner or is an orphan, because an own frame that its client gives up gets an entry, is evicted, or is left to nobody. A frame's page changes only
+-- where 4 takes it, and then nobody names it. Assumes nothing.
 use mathlib.Core.Path.{_≡_, refl, sym, ap, subst, _∙_}
 use mathlib.Core.Logic.{_≢_, _⊎_, inl, inr}
 use mathlib.Core.Bool.{Bool, true, false, true≢false}

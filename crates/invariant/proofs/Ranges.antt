@@ -1,4 +1,5 @@
--- Every number stays in its range. Pins are at most 128 because no client claims a frame more than 8 times (`one-more`). Assumes nothing.
+-- Every number stays in its range: what a move writes is in range (`Effects`), the next record has the numbers of the last one, or those of a client
+-- at rest, or new ones that its stage reduced. Pins are at most 128 because no client claims a frame more than 8 times (`one-more`). Assumes nothing.
 use mathlib.Core.Path.{_≡_, refl, sym, ap, _∙_}
 use mathlib.Core.Logic.{_≢_, inl, inr}
 use Prim.Native.Nat.{ℕ, _+_, _≤_, _<_}

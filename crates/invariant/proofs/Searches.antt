@@ -1,5 +1,5 @@
--- What the searches of the pool find: the look-up of a page, the unused place of the table, a client's grant on a page, the frame that stage 4
--- takes; and what it means that a frame is not referenced. Assumes nothing.
+-- What the searches of the pool find: the look-up of a page, the unused place of the table, a client's grant on a page, the frame that stage 4 takes;
+-- and what it means that a frame is not referenced: nothing at all names it. A search that finds nothing has tried every place. Assumes nothing.
 use mathlib.Core.Path.{_≡_, refl, sym, ap, _∙_}
 use mathlib.Core.Logic.{_≢_}
 use mathlib.Core.Bool.{Bool, true, false, not}

@@ -1,4 +1,5 @@
--- A pool that is set up is reached: nothing is in its slots and its table, every frame is evicted, every client rests. Assumes nothing.
+-- A pool that is set up is reached: nothing is in its slots and its table, every frame is evicted, every client rests. So most clauses speak of
+-- nothing, and the rest count to 0. Assumes nothing.
 use mathlib.Core.Path.{_≡_, refl, sym, ap, _∙_}
 use mathlib.Core.Logic.{_≢_, inl}
 use mathlib.Core.Bool.{true}

@@ -1,4 +1,6 @@
--- Every call that is not turned down in a reached pool makes one of the moves of `Edges`. Assumes nothing.
+-- Every call that is not turned down in a reached pool makes one of the moves of `Edges`: one lemma for each of the 23 stages, a case for each branch
+-- of its definition. A branch that would be stuck is shut by a clause: a frame and an unused entry are there (`Never`), free is not 0 at 6, an own
+-- frame has pins 1, a working client has room for a grant. Assumes nothing.
 use mathlib.Core.Path.{_≡_, refl, sym, ap, _∙_}
 use mathlib.Core.Logic.{_≢_, inl, inr}
 use mathlib.Core.Bool.{not}

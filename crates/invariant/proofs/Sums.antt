@@ -1,4 +1,5 @@
--- Sums over the numbers below n. Assumes nothing.
+-- Sums over the numbers below n: what is left of one when a term changes, when all terms but one are 0, when every term has a bound. Claims, empty
+-- slots and grants are counted by such sums. Assumes nothing.
 use mathlib.Core.Path.{_≡_, refl, sym, ap}
 use mathlib.Core.Logic.{_≢_}
 use mathlib.Core.Bool.{Bool, true, false}

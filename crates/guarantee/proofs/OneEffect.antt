@@ -26,7 +26,7 @@ use Rattle.guarantee.specs.Sequential.{adding, admitting}
 use Rattle.guarantee.specs.Claims.{AnswersTo, TurnedDown, takesEffect, Effects, OneEffect}
 use Rattle.guarantee.proofs.Stages.{on-edges, on-grants, Fits, goes, grants, refuses, sticks, fits}
 use Rattle.guarantee.proofs.Turned.{same-answer, same-stage, other-answer}
-use Rattle.guarantee.proofs.Seen.{Seen, same, mine, seen, rest-unanswered}
+use Rattle.guarantee.proofs.OneClient.{Seen, same, mine, seen, rest-unanswered}
 
 -- ---- one event of a working client
 

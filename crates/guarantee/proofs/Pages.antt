@@ -1,4 +1,5 @@
--- The sequential pool's pages with their frames are exactly the resident ones with theirs. Assumes nothing.
+-- The sequential pool's pages with their frames are exactly the resident ones with theirs: a place shows a slot's frame if it is resident, and every
+-- resident frame stands in a slot. Assumes nothing.
 use mathlib.Core.Path.{_≡_, refl, sym, ap, _∙_}
 use mathlib.Core.Logic.{_≢_}
 use mathlib.Core.Bool.{true, not}

@@ -1,4 +1,5 @@
--- A call as one client sees it: nothing of it changes, or the call is its own and one move. Assumes nothing.
+-- A call as one client sees it: nothing of it changes, or the call is its own and one move. So a client at rest rests until it begins, and is not
+-- answered before. Assumes nothing.
 use mathlib.Core.Path.{_≡_, sym, ap, _∙_}
 use mathlib.Core.Logic.{_⊎_, inl, inr}
 use mathlib.Core.List.{List, [], _∷_}
