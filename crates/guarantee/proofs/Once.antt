@@ -50,7 +50,7 @@ module _ (p : Pool) (r : Reached p) (f : ℕ) (z : f ≢ none) (unowned : (c : �
   out-move : (c : ℕ) (m : Move) → c < clientCount p → Edge p c m → m .next .own ≢ f → ((i : ℕ) → slot p i ≡ f → slot (apply p c m) i ≢ f) → Out (apply p c m) f
   out-move c m here w u s =
       record {
-        no-slot = λ i e. elim (slot-now p c here r m (effect p c here r w) i) [ inl q ↦ s i (sym q ∙ e) e | inr q ↦ unowned c (sym (q .0) ∙ e) ];
+        no-slot = λ i e. elim (slot-now (effect p c here r w) i) [ inl q ↦ s i (sym q ∙ e) e | inr q ↦ unowned c (sym (q .0) ∙ e) ];
         no-own = all-clients p c m (r .shape) (λ _ k. k .own ≢ f) here (λ d _. unowned d) u;
       }
 
@@ -105,7 +105,7 @@ replaced-out p x f r z h =
       where
         -- a frame that leaves its slot is evicted, and an own frame is not
         dead : pins p f ≡ evicted
-        dead = elim (slot-or-out p c here r m (effect p c here r w) f i z (h .named)) [ inl q ↦ absurd (n q) | inr q ↦ q .0 ]
+        dead = elim (slot-or-out (effect p c here r w) f i z (h .named)) [ inl q ↦ absurd (n q) | inr q ↦ q .0 ]
 
         unowned : (d : ℕ) → client p d .own ≢ f
         unowned d e = omega (arith, own-pins p r d (λ q. z (sym e ∙ q)), ap (pins p) e ∙ dead)

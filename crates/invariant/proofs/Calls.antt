@@ -44,12 +44,12 @@ reached-move p c m h r e =
     let x : Effect p c m = effect p c h r e in
     record {
       shape = shape-next p c m (r .shape);
-      ranges = ranges-next p c h r m e x;
-      places = places-next p c h r m x;
-      private = private-next p c h r m x;
-      counts = counts-next p c h r e x;
-      outline = outline-next p c h r e x;
-      calm = calm-next p c h r e x;
+      ranges = ranges-next e x;
+      places = places-next x;
+      private = private-next x;
+      counts = counts-next p c r e x;
+      outline = outline-next p c r e x;
+      calm = calm-next p c r e x;
     }
 
 -- no such move is stuck

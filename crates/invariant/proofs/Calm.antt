@@ -44,7 +44,13 @@ record Settles (p : Pool) (c : ℕ) (m : Move) : Type 0 where
 
 -- ---- a settling move keeps the layer
 
-module _ (p : Pool) (c : ℕ) (here : c < clientCount p) (r : Reached p) (m : Move) (x : Effect p c m) (s : Settles p c m) where
+module _ {p : Pool} {c : ℕ} {m : Move} (x : Effect p c m) (s : Settles p c m) where
+  abbrev r : Reached p
+  r = x .reached
+
+  abbrev here : c < clientCount p
+  here = x .here
+
   abbrev k : Client
   k = client p c
 
@@ -63,16 +69,16 @@ module _ (p : Pool) (c : ℕ) (here : c < clientCount p) (r : Reached p) (m : Mo
   only-next : (d i : ℕ) → T (hunting (client q d .stage)) → client q d .victim ≢ none → slot q i ≡ client q d .victim → i ≡ client q d .place
   only-next d i =
       all-clients p c m (r .shape) (λ _ n. T (hunting (n .stage)) → n .victim ≢ none → slot q i ≡ n .victim → i ≡ n .place) here others
-      (mine (slot-now p c here r m x i)) d
+      (mine (slot-now x i)) d
     where
       others : (d : ℕ) → d ≢ c → T (hunting (client p d .stage)) → client p d .victim ≢ none → slot q i ≡ client p d .victim → i ≡ client p d .place
-      others d _ t z h = go (slot-now p c here r m x i)
+      others d _ t z h = go (slot-now x i)
         where
-          go : SlotNow p c here r m x i → i ≡ client p d .place
+          go : SlotNow x i → i ≡ client p d .place
           go (inl e) = r .calm .only d i t z (sym e ∙ h)
           go (inr e) = absurd (own-not-victim p r c d (e .1) (e .3) t (sym h ∙ e .0))
 
-      mine : SlotNow p c here r m x i → T (hunting (m .next .stage)) → m .next .victim ≢ none → slot q i ≡ m .next .victim → i ≡ m .next .place
+      mine : SlotNow x i → T (hunting (m .next .stage)) → m .next .victim ≢ none → slot q i ≡ m .next .victim → i ≡ m .next .place
       mine (inr e) t z h = absurd (T-not (unplaced (m .next .stage)) (e .2) (hunt-unplaced (m .next .stage) t))
       mine (inl e) t z h = go (s .hunts t)
         where
@@ -98,7 +104,7 @@ module _ (p : Pool) (c : ℕ) (here : c < clientCount p) (r : Reached p) (m : Mo
             by (yes w) (lowers l v) = absurd (let u = now w in let y : ⊥ = omega arith in y)
             by (yes w) (takes-one _ v) = absurd (let u = now w in let y : ⊥ = omega arith in y)
             by (yes w) (drops-own v _) = absurd (n (ap (mapped p) (w ∙ v) ∙ r .private .own-unmapped c (λ u. z (w ∙ v ∙ u))))
-            by (yes w) (drops-victim v one-pin _ a st vi pl) = inr (vi ∙ sym (w ∙ v), inr (st, out (slot-or-out p c here r m x f (k .place) z stands)))
+            by (yes w) (drops-victim v one-pin _ a st vi pl) = inr (vi ∙ sym (w ∙ v), inr (st, out (slot-or-out x f (k .place) z stands)))
               where
                 kn : Knows 14 p k
                 kn = know p r c 14 a
@@ -109,7 +115,7 @@ module _ (p : Pool) (c : ℕ) (here : c < clientCount p) (r : Reached p) (m : Mo
                 stands : slot p (k .place) ≡ f
                 stands = ap (slot p) (sym (r .calm .only c (seat .0) (rw a tt) (kn .1 .0) (seat .1))) ∙ seat .1 ∙ sym (w ∙ v)
 
-                out : (slot q (k .place) ≡ f) ⊎ TakenOut p c here r m x f → slot q (m .next .place) ≡ f
+                out : (slot q (k .place) ≡ f) ⊎ TakenOut x f → slot q (m .next .place) ≡ f
                 out (inl u) = ap (slot q) pl ∙ u
                 out (inr u) = absurd (let e : pins p g ≡ evicted = ap (pins p) (sym w) ∙ u .0 in let y : ⊥ = omega arith in y)
 
@@ -124,9 +130,9 @@ module _ (p : Pool) (c : ℕ) (here : c < clientCount p) (r : Reached p) (m : Mo
                 → T (leaving (client p (w .0) .stage)) ⊎ ((client p (w .0) .stage ≡ 15) × (slot p (client p (w .0) .place) ≡ f))
                 → (d : ℕ) × Leaves q (client q d) f
             still e (inl l) = (w .0, rw e (w .1 .0, inl l))
-            still e (inr l) = go (slot-or-out p c here r m x f (client p (w .0) .place) z (l .1))
+            still e (inr l) = go (slot-or-out x f (client p (w .0) .place) z (l .1))
               where
-                go : (slot q (client p (w .0) .place) ≡ f) ⊎ TakenOut p c here r m x f → (d : ℕ) × Leaves q (client q d) f
+                go : (slot q (client p (w .0) .place) ≡ f) ⊎ TakenOut x f → (d : ℕ) × Leaves q (client q d) f
                 go (inl u) = (w .0, rw e (w .1 .0, inr (l .0, u)))
                 go (inr u) = (c, rw at-c (u .2, inl (u .1)))
 
@@ -140,7 +146,7 @@ module _ (p : Pool) (c : ℕ) (here : c < clientCount p) (r : Reached p) (m : Mo
       go : Dec (mapped p f ≡ 0) → (d : ℕ) × Leaves q (client q d) f
       go (no e) = left f z e d n (evicted-now f z e d)
       go (yes e) =
-          let w = new-entry p c here r m x f z e n in
+          let w = new-entry x f z e n in
           absurd (own-live p r c (λ y. z (w .0 ∙ y)) (ap (pins p) (sym (w .0)) ∙ sym (w .3) ∙ d))
 
   calm-of : Calm q
@@ -155,7 +161,7 @@ module _ (p : Pool) (c : ℕ) (here : c < clientCount p) (r : Reached p) (m : Mo
 
 -- ---- each kind of move
 
-module _ (p : Pool) (c : ℕ) (here : c < clientCount p) (r : Reached p) where
+module _ (p : Pool) (c : ℕ) (r : Reached p) where
   abbrev me : Client
   me = client p c
 
@@ -263,4 +269,4 @@ module _ (p : Pool) (c : ℕ) (here : c < clientCount p) (r : Reached p) where
   settles (releases g e _) x = calmly 0 e refl refl (rw e refl) (rw e tt) (rw e tt) tt
 
   pub calm-next : {m : Move} → Edge p c m → Effect p c m → Calm (apply p c m)
-  calm-next {m} e x = calm-of p c here r m x (settles e x)
+  calm-next {m} e x = calm-of x (settles e x)

@@ -99,7 +99,10 @@ module _ (p : Pool) (c : ℕ) (m : Move) where
     pages-stay : PagesStay p (m .write) → PageOk
     paged : (f : ℕ) → referenced p f ≡ false → PagesPut p (m .write) f (m .next .page) → PageOk
 
+  -- with what it comes from: a client of a reached pool made the move
   pub record Effect : Type 0 where
+    pub here : c < clientCount p
+    pub reached : Reached p
     pub own : OwnOk
     pub slot : SlotOk
     pub pins : PinsOk
@@ -151,6 +154,8 @@ module _ (p : Pool) (c : ℕ) (here : c < clientCount p) (r : Reached p) where
   quietly : {m : Move} → Quiet p (m .write) → OwnOk p c m → FoundOk p c m → m .grants ≡ Same → m .next .held ≡ me .held → Effect p c m
   quietly {m} w o f g h =
       record {
+        here = here;
+        reached = r;
         own = o;
         slot = slots-stay (unseen _ _ w .slots);
         pins = pins-stay (unseen _ _ w .pins);
@@ -168,6 +173,8 @@ module _ (p : Pool) (c : ℕ) (here : c < clientCount p) (r : Reached p) where
   unfolding slotsAfter pinsAfter entryPagesAfter entryFramesAfter pagesAfter freeAfter lastAfter countsAfter
   pinning f x e h ch o fo g op =
       record {
+        here = here;
+        reached = r;
         own = o;
         slot = slots-stay (rw e refl);
         pins = pins-put f x (rw e refl) h ch;
@@ -185,6 +192,8 @@ module _ (p : Pool) (c : ℕ) (here : c < clientCount p) (r : Reached p) where
   unfolding slotsAfter pinsAfter entryPagesAfter entryFramesAfter pagesAfter freeAfter lastAfter countsAfter
   placing i e s o f g h =
       record {
+        here = here;
+        reached = r;
         own = o;
         slot = s;
         pins = pins-stay (rw e refl);
@@ -202,6 +211,8 @@ module _ (p : Pool) (c : ℕ) (here : c < clientCount p) (r : Reached p) where
   unfolding slotsAfter pinsAfter pagesAfter freeAfter lastAfter countsAfter
   entering i g f e en o fo gr op =
       record {
+        here = here;
+        reached = r;
         own = o;
         slot = slots-stay (rw e refl);
         pins = pins-stay (rw e refl);
@@ -240,6 +251,8 @@ module _ (p : Pool) (c : ℕ) (here : c < clientCount p) (r : Reached p) where
   gets-found i u e w t z live =
       let two = found-live p r c (rw e t) z in
       record {
+        here = here;
+        reached = r;
         own = forgot refl;
         slot = slots-stay refl;
         pins = pins-stay refl;
@@ -278,6 +291,8 @@ module _ (p : Pool) (c : ℕ) (here : c < clientCount p) (r : Reached p) where
   effect (takes e z) =
       let f = free-found p (r .shape) z in
       record {
+        here = here;
+        reached = r;
         own = taken e (f .0) (f .1) refl;
         slot = slots-stay refl;
         pins = pins-put (freeFrame p) (pinned 1) refl (f .0) (takes-one (f .1) refl);

@@ -49,7 +49,13 @@ record Tells (p : Pool) (c : ℕ) (m : Move) : Type 0 where
 
 -- ---- the table after a move
 
-module _ (p : Pool) (c : ℕ) (here : c < clientCount p) (r : Reached p) (m : Move) (x : Effect p c m) where
+module _ {p : Pool} {c : ℕ} {m : Move} (x : Effect p c m) where
+  abbrev r : Reached p
+  r = x .reached
+
+  abbrev here : c < clientCount p
+  here = x .here
+
   abbrev k : Client
   k = client p c
 
@@ -141,13 +147,13 @@ module _ (p : Pool) (c : ℕ) (here : c < clientCount p) (r : Reached p) (m : Mo
     resident-next l n = go (ℕ-discrete (mapped p f) 0)
       where
         seat : (referenced p f ≡ false → ⊥) → Seated p f → Seated q f
-        seat a s = seats-next p c here r m x f z (λ d. l (dead-next p c here r m x f z a d)) s
+        seat a s = seats-next x f z (λ d. l (dead-next x f z a d)) s
 
         go : Dec (mapped p f ≡ 0) → Seated q f
-        go (yes e) = let w = new-entry e n in seat (by-own p c here r m x f z c (sym (w .0))) (w .1)
+        go (yes e) = let w = new-entry e n in seat (by-own x f z c (sym (w .0))) (w .1)
         go (no e) =
-            let a = by-mapped p c here r m x f z e in
-            seat a (r .outline .resident f z (λ d. l (dead-next p c here r m x f z a d)) e)
+            let a = by-mapped x f z e in
+            seat a (r .outline .resident f z (λ d. l (dead-next x f z a d)) e)
 
     known-next : Tells p c m → pins q f ≢ evicted → (mapped q f ≢ 0) ⊎ (((d : ℕ) × (client q d .own ≡ f)) ⊎ Orphan q f)
     known-next t l = go (ℕ-discrete (m .next .own) f) fresh-or
@@ -161,8 +167,8 @@ module _ (p : Pool) (c : ℕ) (here : c < clientCount p) (r : Reached p) (m : Mo
         ended (inr (inr y)) = inr (inr y)
 
         old : m .next .own ≢ f → pins p f ≢ evicted → (mapped p f ≢ 0) ⊎ (((d : ℕ) × (client p d .own ≡ f)) ⊎ Orphan p f) → Goal
-        old n a (inl y) = let g = some-suc (mapped p f) y in inl (suc-not (maps-next p c here r m x f z a (g .0) (g .1)))
-        old n a (inr (inr o)) = inr (inr (orphan-stays p c here r m x f z o n))
+        old n a (inl y) = let g = some-suc (mapped p f) y in inl (suc-not (maps-next x f z a (g .0) (g .1)))
+        old n a (inr (inr o)) = inr (inr (orphan-stays x f z o n))
         old n a (inr (inl d)) = owner (ℕ-discrete (d .0) c)
           where
             owner : Dec (d .0 ≡ c) → Goal
@@ -174,37 +180,37 @@ module _ (p : Pool) (c : ℕ) (here : c < clientCount p) (r : Reached p) (m : Mo
         go : Dec (m .next .own ≡ f) → Fresh p f ⊎ (referenced p f ≡ false → ⊥) → Goal
         go (yes e) _ = inr (inl (c, ap (λ (n : Client). n .own) (client-same p c m (r .shape) here) ∙ e))
         go (no e) (inl w) =
-            inr (inr (orphan-stays p c here r m x f z
+            inr (inr (orphan-stays x f z
             (record { no-slot = w .no-slot; unmapped = mapped-zero p f (w .no-entry); unowned = w .no-own; unfound = w .no-found; ungranted = w .no-grant }) e))
-        go (no e) (inr w) = let a : pins p f ≢ evicted = λ d. l (dead-next p c here r m x f z w d) in old e a (r .outline .known f z a)
+        go (no e) (inr w) = let a : pins p f ≢ evicted = λ d. l (dead-next x f z w d) in old e a (r .outline .known f z a)
 
     true-next : (g : ℕ) → mapped q f ≡ suc g → page q f ≡ g
     true-next g e = go (ℕ-discrete (mapped p f) 0)
       where
         go : Dec (mapped p f ≡ 0) → page q f ≡ g
         go (no n) =
-            page-next p c here r m x f z (by-mapped p c here r m x f z n) ∙ r .outline .page-true f g z (sym (entry-same n (suc-not e)) ∙ e)
+            page-next x f z (by-mapped x f z n) ∙ r .outline .page-true f g z (sym (entry-same n (suc-not e)) ∙ e)
         go (yes n) =
             let w = new-entry n (suc-not e) in
             let s : suc (k .page) ≡ suc g = sym (w .2) ∙ e in
-            page-next p c here r m x f z (by-own p c here r m x f z c (sym (w .0))) ∙ ap (page p) (w .0) ∙ r .outline .own-page c (λ y. z (w .0 ∙ y)) ∙
+            page-next x f z (by-own x f z c (sym (w .0))) ∙ ap (page p) (w .0) ∙ r .outline .own-page c (λ y. z (w .0 ∙ y)) ∙
             omega arith
 
   -- ---- grants and own frames
 
   granted-next : (d i : ℕ) → grantFrame q d i ≢ none → mapped q (grantFrame q d i) ≡ suc (grantPage q d i)
   granted-next d i z =
-      all-grants p c here r m x (λ g f. f ≢ none → mapped q f ≡ suc g)
+      all-grants x (λ g f. f ≢ none → mapped q f ≡ suc g)
       (λ d i _ n. let two = grant-live p r d i n in
-      maps-next p c here r m x (grantFrame p d i) n (λ e. let y : ⊥ = omega arith in y) (grantPage p d i) (r .outline .granted d i n))
+      maps-next x (grantFrame p d i) n (λ e. let y : ⊥ = omega arith in y) (grantPage p d i) (r .outline .granted d i n))
       (λ g f w. new (x .opened g f w)) d i (grant-in q d i z) z
     where
       new : {g f : ℕ} → Opened p c m g f → f ≢ none → mapped q f ≡ suc g
-      new {g} {f} (of-found _ _ e two) n = maps-next p c here r m x f n (λ w. let y : ⊥ = omega arith in y) g e
+      new {g} {f} (of-found _ _ e two) n = maps-next x f n (λ w. let y : ⊥ = omega arith in y) g e
       new {g} {f} (of-own i e n _ w h) _ = own-mapped i g f e n w h
 
   named-next : (d i : ℕ) → i < client q d .held → grantFrame q d i ≢ none
-  named-next = all-grants p c here r m x (λ _ f. f ≢ none) (r .outline .grant-named) (λ g f w. new (x .opened g f w))
+  named-next = all-grants x (λ _ f. f ≢ none) (r .outline .grant-named) (λ g f w. new (x .opened g f w))
     where
       new : {g f : ℕ} → Opened p c m g f → f ≢ none
       new (of-found _ z _ _) = z
@@ -214,14 +220,14 @@ module _ (p : Pool) (c : ℕ) (here : c < clientCount p) (r : Reached p) (m : Mo
   unfolding pagesAfter
   own-page-next t =
       all-clients p c m (r .shape) (λ _ n. n .own ≢ none → page q (n .own) ≡ n .page) here
-      (λ d _ z. page-next p c here r m x (client p d .own) z (by-own p c here r m x (client p d .own) z d refl) ∙ r .outline .own-page d z) (mine (x .own))
+      (λ d _ z. page-next x (client p d .own) z (by-own x (client p d .own) z d refl) ∙ r .outline .own-page d z) (mine (x .own))
     where
       mine : OwnOk p c m → m .next .own ≢ none → page q (m .next .own) ≡ m .next .page
       mine (forgot e) z = absurd (z e)
       mine (taken _ h _ w) z = page-here p c m (r .shape) (m .next .own) (m .next .page) (rw w refl) h
       mine (kept e _) z =
           let o : k .own ≢ none = λ y. z (e ∙ y) in
-          ap (page q) e ∙ page-next p c here r m x (k .own) o (by-own p c here r m x (k .own) o c refl) ∙ r .outline .own-page c o ∙ sym (t .wants o e)
+          ap (page q) e ∙ page-next x (k .own) o (by-own x (k .own) o c refl) ∙ r .outline .own-page c o ∙ sym (t .wants o e)
 
   outline-of : Edge p c m → Tells p c m → Outline q
   outline-of e t =
@@ -230,8 +236,8 @@ module _ (p : Pool) (c : ℕ) (here : c < clientCount p) (r : Reached p) (m : Mo
         pages-apart = pages-next;
         granted = granted-next;
         grant-named = named-next;
-        knowing = all-clients p c m (r .shape) (λ _ n. Knows (n .stage) q n) here (λ d _. carry p c here r m x d (client p d .stage) refl)
-            (learns p c here r e x);
+        knowing = all-clients p c m (r .shape) (λ _ n. Knows (n .stage) q n) here (λ d _. carry x d (client p d .stage) refl)
+            (learns p c r e x);
         resident = resident-next;
         known = λ f z. known-next f z t;
         no-found = all-clients p c m (r .shape) (λ _ n. NoFound n) here (λ d _. r .outline .no-found d) (t .no-found);
@@ -242,7 +248,7 @@ module _ (p : Pool) (c : ℕ) (here : c < clientCount p) (r : Reached p) (m : Mo
 
 -- ---- each kind of move
 
-module _ (p : Pool) (c : ℕ) (here : c < clientCount p) (r : Reached p) where
+module _ (p : Pool) (c : ℕ) (r : Reached p) where
   abbrev me : Client
   me = client p c
 
@@ -284,14 +290,14 @@ module _ (p : Pool) (c : ℕ) (here : c < clientCount p) (r : Reached p) where
   tells (takes e _) x = ownless-now (r .counts .owns-none c (rw e tt)) (λ _. foundless-now 4 e tt) (λ _. victimless-now 4 e tt)
   tells (fills e _) x = stays refl refl (λ _. foundless-now 8 e tt) (λ _. victimless-now 8 e tt)
   tells (swaps e _) x = stays refl refl (λ _. foundless-now 15 e tt) never
-  tells (gives-up v _) x = ends refl (λ _. refl) (λ _. refl) (λ z. inr (inr (stranded p c here r x (v .is-unplaced) z)))
+  tells (gives-up v _) x = ends refl (λ _. refl) (λ _. refl) (λ z. inr (inr (stranded p c r x (v .is-unplaced) z)))
   tells (drops e _) x = stays refl refl (λ _. foundless-now 14 e tt) never
   tells (removes e _) x = stays refl refl (λ _. foundless-now 17 e tt) (λ _. refl)
   tells {m} (admits e _ u) x =
-      ends refl (λ _. refl) (λ _. refl) (λ z. inl (suc-not (own-mapped p c here r m x _ _ (me .own) refl z refl (unused-found p (r .shape) u .0))))
+      ends refl (λ _. refl) (λ _. refl) (λ z. inl (suc-not (own-mapped x _ _ (me .own) refl z refl (unused-found p (r .shape) u .0))))
   tells {m} (revives e l) x =
       ends refl (λ _. refl) (λ _. refl)
-      (λ z. inl (suc-not (own-mapped p c here r m x _ _ (me .own) refl z refl (lookup-found p (r .shape) (me .page) (λ w. kn 22 e .1 .0 (sym l ∙ w)) .place))))
+      (λ z. inl (suc-not (own-mapped x _ _ (me .own) refl z refl (lookup-found p (r .shape) (me .page) (λ w. kn 22 e .1 .0 (sym l ∙ w)) .place))))
   tells {m} (evicts20 e) x =
       ends refl never (λ _. victimless-now 20 e tt) (λ z. inr (inl (pins-here p c m (r .shape) (me .own) evicted refl (r .ranges .own-ok c z))))
   tells {m} (evicts23 e) x =
@@ -301,4 +307,4 @@ module _ (p : Pool) (c : ℕ) (here : c < clientCount p) (r : Reached p) where
   tells (releases g e _) x = stays refl refl (λ _. foundless-now 0 e tt) (λ _. victimless-now 0 e tt)
 
   pub outline-next : {m : Move} → Edge p c m → Effect p c m → Outline (apply p c m)
-  outline-next {m} e x = outline-of p c here r m x e (tells e x)
+  outline-next {m} e x = outline-of x e (tells e x)

@@ -17,7 +17,13 @@ use Rattle.invariant.proofs.Flags.{T-not, imp-mp}
 use Rattle.invariant.proofs.Effects.{OwnOk, forgot, kept, taken, SlotOk, slots-stay, puts, Effect}
 use Rattle.invariant.proofs.Next.{SlotNow, slot-now}
 
-module _ (p : Pool) (c : ℕ) (here : c < clientCount p) (r : Reached p) (m : Move) (x : Effect p c m) where
+module _ {p : Pool} {c : ℕ} {m : Move} (x : Effect p c m) where
+  abbrev r : Reached p
+  r = x .reached
+
+  abbrev here : c < clientCount p
+  here = x .here
+
   abbrev k : Client
   k = client p c
 
@@ -57,16 +63,16 @@ module _ (p : Pool) (c : ℕ) (here : c < clientCount p) (r : Reached p) (m : Mo
   out-next d i = all-clients p c m (r .shape) (λ _ n. T (unplaced (n .stage)) → n .own ≢ none → slot q i ≢ n .own) here others mine d
     where
       others : (d : ℕ) → d ≢ c → T (unplaced (client p d .stage)) → client p d .own ≢ none → slot q i ≢ client p d .own
-      others d o t z = by (slot-now p c here r m x i)
+      others d o t z = by (slot-now x i)
         where
-          by : SlotNow p c here r m x i → slot q i ≢ client p d .own
+          by : SlotNow x i → slot q i ≢ client p d .own
           by (inl e) h = r .places .unplaced-out d i t z (sym e ∙ h)
           by (inr e) h = o (r .places .owns-apart d c z (sym h ∙ e .0))
 
       mine : T (unplaced (m .next .stage)) → m .next .own ≢ none → slot q i ≢ m .next .own
-      mine t z = by (x .own) (slot-now p c here r m x i)
+      mine t z = by (x .own) (slot-now x i)
         where
-          by : OwnOk p c m → SlotNow p c here r m x i → slot q i ≢ m .next .own
+          by : OwnOk p c m → SlotNow x i → slot q i ≢ m .next .own
           by _ (inr e) = absurd (T-not (unplaced (m .next .stage)) (e .2) t)
           by (forgot n) (inl e) = absurd (z n)
           by (kept n u) (inl e) =

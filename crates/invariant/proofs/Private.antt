@@ -22,14 +22,20 @@ pub record Secret (p : Pool) (c : ℕ) (n : Client) (f : ℕ) : Type 0 where
   pub ungranted : (d i : ℕ) → grantFrame p d i ≢ f
   pub not-left : n .own ≡ none → client p c .own ≢ f
 
-module _ (p : Pool) (c : ℕ) (here : c < clientCount p) (r : Reached p) (m : Move) (x : Effect p c m) where
+module _ {p : Pool} {c : ℕ} {m : Move} (x : Effect p c m) where
+  abbrev r : Reached p
+  r = x .reached
+
+  abbrev here : c < clientCount p
+  here = x .here
+
   abbrev q : Pool
   q = apply p c m
 
   -- such a frame stays so
   module _ (f : ℕ) (z : f ≢ none) (s : Secret p c (m .next) f) where
     pub secret-unmapped : mapped q f ≡ 0
-    secret-unmapped = unmapped-next p c here r m x f z (s .unmapped) (s .not-left)
+    secret-unmapped = unmapped-next x f z (s .unmapped) (s .not-left)
 
     pub secret-unfound : (d : ℕ) → client q d .found ≢ f
     secret-unfound = all-clients p c m (r .shape) (λ _ n. n .found ≢ f) here (λ d _. s .unfound d) (mine (x .found))
@@ -41,7 +47,7 @@ module _ (p : Pool) (c : ℕ) (here : c < clientCount p) (r : Reached p) (m : Mo
 
     pub secret-ungranted : (d i : ℕ) → grantFrame q d i ≢ f
     secret-ungranted d i w =
-        all-grants p c here r m x (λ _ y. y ≢ f) (λ d i _. s .ungranted d i) (λ g y e. new (x .opened g y e)) d i (grant-in q d i (λ n. z (sym w ∙ n))) w
+        all-grants x (λ _ y. y ≢ f) (λ d i _. s .ungranted d i) (λ g y e. new (x .opened g y e)) d i (grant-in q d i (λ n. z (sym w ∙ n))) w
       where
         new : {g y : ℕ} → Opened p c m g y → y ≢ f
         new (of-found e _ _ _) = λ w. s .unfound c (sym e ∙ w)

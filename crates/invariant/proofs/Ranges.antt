@@ -126,7 +126,13 @@ module _ (p : Pool) (c : ℕ) (r : Reached p) where
 
 -- ---- the layer is kept
 
-module _ (p : Pool) (c : ℕ) (here : c < clientCount p) (r : Reached p) (m : Move) (e : Edge p c m) (x : Effect p c m) where
+module _ {p : Pool} {c : ℕ} {m : Move} (e : Edge p c m) (x : Effect p c m) where
+  abbrev r : Reached p
+  r = x .reached
+
+  abbrev here : c < clientCount p
+  here = x .here
+
   abbrev q : Pool
   q = apply p c m
 
@@ -165,9 +171,9 @@ module _ (p : Pool) (c : ℕ) (here : c < clientCount p) (r : Reached p) (m : Mo
           by (no v) _ = rw (count-else p c m (r .shape) g y w f v) (r .ranges .count-ok f)
 
   slot-range : (i : ℕ) → slot q i ≢ none → slot q i < total p
-  slot-range i z = go (slot-now p c here r m x i)
+  slot-range i z = go (slot-now x i)
     where
-      go : SlotNow p c here r m x i → slot q i < total p
+      go : SlotNow x i → slot q i < total p
       go (inl w) = rw w (r .ranges .slot-ok i (λ n. z (w ∙ n)))
       go (inr w) = rw (w .0) (r .ranges .own-ok c (w .3))
 
@@ -199,7 +205,7 @@ module _ (p : Pool) (c : ℕ) (here : c < clientCount p) (r : Reached p) (m : Mo
 
   grant-range : (d i : ℕ) → grantFrame q d i ≢ none → grantFrame q d i < total p
   grant-range d i z =
-      all-grants p c here r m x (λ _ f. f ≢ none → f < total p) (λ d i _. r .ranges .grant-ok d i) (λ g f w. new (x .opened g f w)) d i (grant-in q d i z) z
+      all-grants x (λ _ f. f ≢ none → f < total p) (λ d i _. r .ranges .grant-ok d i) (λ g f w. new (x .opened g f w)) d i (grant-in q d i z) z
     where
       new : {g f : ℕ} → Opened p c m g f → f ≢ none → f < total p
       new {g} {f} (of-found _ _ _ l) _ = pins-in p f (λ n. let y : ⊥ = omega arith in y)
