@@ -29,10 +29,10 @@ pub record Base (p₀ p : Pool) (g : ℕ) : Type 0 where
 
 module _ (p : Pool) (c : ℕ) (m : Move) (r : Reached p) (t : T (silent (m .write))) where
   pub slot-still : (i : ℕ) → slot (apply p c m) i ≡ slot p i
-  slot-still = slot-kept p c m (r .shape) (untouched _ _ (m .write) t .slots)
+  slot-still = slot-kept p c m (untouched _ _ (m .write) t .slots)
 
   pub pins-still : (f : ℕ) → pins (apply p c m) f ≡ pins p f
-  pins-still = pins-kept p c m (r .shape) (untouched _ _ (m .write) t .pins)
+  pins-still = pins-kept p c m (untouched _ _ (m .write) t .pins)
 
   pub base-still : {p₀ : Pool} {g : ℕ} → Base p₀ p g → Base p₀ (apply p c m) g
   unfolding apply
@@ -62,5 +62,5 @@ emptied p c i x m e r g a = elim (ℕ-discrete (lookup q g) none) [ yes n ↦ n 
     by z (no n) =
         let f = lookup-found q (shape-next p c m (r .shape)) g z in
         lookup-none p (r .shape) g a (entryOf q g)
-        (λ w. z (sym (f .entry-frame) ∙ (entryFrame-else p c m (r .shape) i none frames (entryOf q g) n ∙ w)))
-        (sym (entryPage-else p c m (r .shape) i x (ap (entryPagesAfter (total p) (p .«table_pages»)) e) (entryOf q g) n) ∙ f .entry-page)
+        (λ w. z (sym (f .entry-frame) ∙ (entryFrame-else p c m i none frames (entryOf q g) n ∙ w)))
+        (sym (entryPage-else p c m i x (ap (entryPagesAfter (total p) (p .«table_pages»)) e) (entryOf q g) n) ∙ f .entry-page)

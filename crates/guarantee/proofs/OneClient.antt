@@ -38,7 +38,7 @@ seen p x c s = go (went p x) (ℕ-discrete c (caller x))
   where
     go : Went p x (callOf p x) → Dec (c ≡ caller x) → Seen p x c
     go (down n z e) _ = same (ap (λ (o : Outcome). client (o .pool) c) e) (λ _. (n, same-answer e, down-by p x n z))
-    go (by-move r _ e) (no q) = same (ap (λ (o : Outcome). client (o .pool) c) e ∙ client-other p (caller x) (moveOf p x) s c q) (λ w. absurd (q (sym w)))
+    go (by-move r _ e) (no q) = same (ap (λ (o : Outcome). client (o .pool) c) e ∙ client-other p (caller x) (moveOf p x) c q) (λ w. absurd (q (sym w)))
     go (by-move r _ e) (yes q) =
         let a = allowed p x r in
         mine (sym q) a e (ap (λ (o : Outcome). client (o .pool) c) e ∙ (ap (client (moved p x .pool)) q ∙ client-same p (caller x) (moveOf p x) s (a .here)))

@@ -155,11 +155,11 @@ module _ (p₀ : Pool) (b g : ℕ) (reached : Reached p₀) (rest : (c : ℕ) �
         goes-on 5 (answer-is w) (at5 (record {
           on = on-next w 5 o refl refl;
           base = next-is o w (λ q _. Base p₀ q g) (record {
-            slots = λ i. slot-kept p b m (o .reached .shape) refl i ∙ e .base .slots i;
+            slots = λ i. slot-kept p b m refl i ∙ e .base .slots i;
             looked = lookup-kept p b m tt g ∙ e .base .looked;
             size = e .base .size;
             pins = λ i.
-                pins-else p b m (o .reached .shape) (freeFrame p) (pinned 1) refl (slot p₀ i) (λ q. fresh .no-slot i (e .base .slots i ∙ q)) ∙ e .base .pins i;
+                pins-else p b m (freeFrame p) (pinned 1) refl (slot p₀ i) (λ q. fresh .no-slot i (e .base .slots i ∙ q)) ∙ e .base .pins i;
           });
           absent = absent-next o w tt (e .absent);
         }))
@@ -201,7 +201,7 @@ module _ (p₀ : Pool) (b g : ℕ) (reached : Reached p₀) (rest : (c : ℕ) �
     next14 e v h =
         let w = go14 p b g (e .on) h in
         goes-on 15 (answer-is w) (at15 (late 15 e w refl refl tt)
-        (next-is (e .on) w (λ q x. slot q (x .place) ≡ x .victim) (slot-kept p b _ (e .on .reached .shape) refl _ ∙ v)))
+        (next-is (e .on) w (λ q x. slot q (x .place) ≡ x .victim) (slot-kept p b _ refl _ ∙ v)))
 
     next15 : Late p 15 → Seen p → Next (callOf p (Step b))
     next15 e v = let w = go15 p b g (e .on) v in goes-on 16 (answer-is w) (at16 (late 16 e w refl refl tt))

@@ -33,28 +33,28 @@ module _ (p : Pool) (c : ℕ) (m : Move) (r : Reached p) where
   q = apply p c m
 
   seen-kept : pinsAfter (total p) (p .pins) (m .write) ≡ p .pins → ((f : ℕ) → mapped q f ≡ mapped p f) → (f : ℕ) → seen q f ≡ seen p f
-  seen-kept a b f = seen-same p q f (ap (λ (x : ℕ). eqb x evicted) (pins-kept p c m (r .shape) a f)) (b f)
+  seen-kept a b f = seen-same p q f (ap (λ (x : ℕ). eqb x evicted) (pins-kept p c m a f)) (b f)
 
   -- a write that touches neither slots nor pins nor table
   pub as-was : T (silent (m .write)) → Kept p c m
   as-was t i =
-      ap (seen q) (slot-kept p c m (r .shape) (untouched _ _ (m .write) t .slots) i)
+      ap (seen q) (slot-kept p c m (untouched _ _ (m .write) t .slots) i)
       ∙ seen-kept (untouched _ _ (m .write) t .pins)
-      (mapped-kept p c m (r .shape) (untouched _ _ (m .write) t .entry-pages) (untouched _ _ (m .write) t .entry-frames)) (slot p i)
+      (mapped-kept p c m (untouched _ _ (m .write) t .entry-pages) (untouched _ _ (m .write) t .entry-frames)) (slot p i)
 
   -- a frame's pins change
   module _ (f x : ℕ) (e : m .write ≡ PutPins f x) where
     pins-slot : (i : ℕ) → slot q i ≡ slot p i
     unfolding slotsAfter
-    pins-slot = slot-kept p c m (r .shape) (rw e refl)
+    pins-slot = slot-kept p c m (rw e refl)
 
     pins-mapped : (h : ℕ) → mapped q h ≡ mapped p h
     unfolding entryPagesAfter entryFramesAfter
-    pins-mapped = mapped-kept p c m (r .shape) (rw e refl) (rw e refl)
+    pins-mapped = mapped-kept p c m (rw e refl) (rw e refl)
 
     pins-other : (h : ℕ) → h ≢ f → seen q h ≡ seen p h
     unfolding pinsAfter
-    pins-other h z = seen-same p q h (ap (λ (y : ℕ). eqb y evicted) (pins-else p c m (r .shape) f x (rw e refl) h z)) (pins-mapped h)
+    pins-other h z = seen-same p q h (ap (λ (y : ℕ). eqb y evicted) (pins-else p c m f x (rw e refl) h z)) (pins-mapped h)
 
     -- it is evicted as before, or in no entry
     pub pins-put : f < total p → (eqb x evicted ≡ eqb (pins p f) evicted) ⊎ (mapped p f ≡ 0) → Kept p c m
@@ -80,9 +80,9 @@ module _ (p : Pool) (c : ℕ) (m : Move) (r : Reached p) where
   pub taken-frame : (f g x y : ℕ) → m .write ≡ TakeFrame f g x y → ((i : ℕ) → slot p i ≢ f) → Kept p c m
   unfolding slotsAfter pinsAfter entryPagesAfter entryFramesAfter
   taken-frame f g x y e out i =
-      ap (seen q) (slot-kept p c m (r .shape) (rw e refl) i)
-      ∙ seen-same p q (slot p i) (ap (λ (v : ℕ). eqb v evicted) (pins-else p c m (r .shape) f x (rw e refl) (slot p i) (out i)))
-      (mapped-kept p c m (r .shape) (rw e refl) (rw e refl) (slot p i))
+      ap (seen q) (slot-kept p c m (rw e refl) i)
+      ∙ seen-same p q (slot p i) (ap (λ (v : ℕ). eqb v evicted) (pins-else p c m f x (rw e refl) (slot p i) (out i)))
+      (mapped-kept p c m (rw e refl) (rw e refl) (slot p i))
 
   -- a frame that is in no entry is put into a slot whose frame is evicted, as no frame is
   pub slot-put : (j f : ℕ) → m .write ≡ PutSlot j f → j < p .size → mapped p f ≡ 0 → pins p (slot p j) ≡ evicted → Kept p c m
@@ -90,10 +90,10 @@ module _ (p : Pool) (c : ℕ) (m : Move) (r : Reached p) where
   slot-put j f e low n out i = go (ℕ-discrete i j)
     where
       same : (h : ℕ) → seen q h ≡ seen p h
-      same = seen-kept (rw e refl) (mapped-kept p c m (r .shape) (rw e refl) (rw e refl))
+      same = seen-kept (rw e refl) (mapped-kept p c m (rw e refl) (rw e refl))
 
       go : Dec (i ≡ j) → seen q (slot q i) ≡ seen p (slot p i)
-      go (no z) = ap (seen q) (slot-else p c m (r .shape) j f (rw e refl) i z) ∙ same (slot p i)
+      go (no z) = ap (seen q) (slot-else p c m j f (rw e refl) i z) ∙ same (slot p i)
       go (yes w) =
           rw w (ap (seen q) (slot-here p c m (r .shape) j f (rw e refl) low) ∙ (same f ∙ (seen-unmapped p f n ∙ sym (seen-evicted p (slot p j) out))))
 
@@ -101,11 +101,11 @@ module _ (p : Pool) (c : ℕ) (m : Move) (r : Reached p) where
   module _ (j g f : ℕ) (e : m .write ≡ PutEntry j g f) (low : j < total p) (out : pins p (entryFrame p j) ≡ evicted) where
     entry-slot : (i : ℕ) → slot q i ≡ slot p i
     unfolding slotsAfter
-    entry-slot = slot-kept p c m (r .shape) (rw e refl)
+    entry-slot = slot-kept p c m (rw e refl)
 
     entry-pins : (h : ℕ) → pins q h ≡ pins p h
     unfolding pinsAfter
-    entry-pins = pins-kept p c m (r .shape) (rw e refl)
+    entry-pins = pins-kept p c m (rw e refl)
 
     entry-other : (h : ℕ) → h ≢ f → seen q h ≡ seen p h
     entry-other h z = go (ℕ-discrete h (entryFrame p j))

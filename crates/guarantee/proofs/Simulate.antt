@@ -85,7 +85,7 @@ module _ {p : Pool} {c : ℕ} {q : Sequential} (acting : Acting p c q) where
         go : Dec (d ≡ c) → Taken (client (apply p c m) d) (grantsOf (apply p c m) d) (getD (set (q .takers) c next) d (resting []))
         go (yes e) = rw (e, client-same p c m (r .shape) here, getD-set-same (q .takers) c next (resting []) (omega (arith, mirror .count))) new
         go (no z) =
-            rw (client-other p c m (r .shape) d z, getD-set-other (q .takers) c d next (resting []) z)
+            rw (client-other p c m d z, getD-set-other (q .takers) c d next (resting []) z)
             (taken-as (grantsOf-other p c m (r .shape) here (r .ranges .held-ok) how d z) (mirror .takers d))
 
     with-places : (places : List Place) → length places ≡ length (q .places)

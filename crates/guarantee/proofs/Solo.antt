@@ -76,7 +76,7 @@ unfolding pinsAfter
 hit1 p b g on n z =
     let w = go1-found p b g on n in
     within-next p b 2 (hit2 _ b g (on-next w 2 on refl refl) (next-is on w (λ q k. pins q (k .found) ≢ evicted)
-    (λ e. z (ap (λ (x : ℕ). pins p (lookup p x)) (sym (on .page)) ∙ (sym (pins-kept p b _ (on .reached .shape) refl _) ∙ e)))))
+    (λ e. z (ap (λ (x : ℕ). pins p (lookup p x)) (sym (on .page)) ∙ (sym (pins-kept p b _ refl _) ∙ e)))))
 
 -- ---- an admission to an empty slot
 
@@ -121,7 +121,7 @@ closer p j i d h = go (around-is (p .size) j (h .place)) (h .far)
 ahead-next : (p : Pool) (b : ℕ) (m : Move) {j i d : ℕ} → Shape p → m .write ≡ Keep → Ahead p j i d → Ahead (apply p b m) j i d
 unfolding apply slotsAfter
 ahead-next p b m s e h =
-    record { place = h .place; inside = h .inside; empty = slot-kept p b m s (rw e refl) _ ∙ h .empty; far = h .far }
+    record { place = h .place; inside = h .inside; empty = slot-kept p b m (rw e refl) _ ∙ h .empty; far = h .far }
 
 adm8 : (d : ℕ) (p : Pool) (b g i : ℕ) → On p b g 8 → lookup p g ≡ none → Ahead p (client p b .place) i d → GrantedWithin p b (d + 3)
 adm8 zero p b g i on a h = fills p b g on a (go (h .far))
@@ -246,7 +246,7 @@ module _ (p : Pool) (r : Reached p) (rest : (c : ℕ) → client p c .stage ≡ 
   limits-from n b g sz a = (
     (λ e. let f = resident-found g e in
         hit1 _ b g on (begun-is p b g a (λ q. lookup q g ≢ none) (rw (lookup-kept p b m tt g) (f .0)))
-        (begun-is p b g a (λ q. pins q (lookup q g) ≢ evicted) (rw (lookup-kept p b m tt g, pins-kept p b m (r .shape) refl (lookup p g)) (f .1)))),
+        (begun-is p b g a (λ q. pins q (lookup q g) ≢ evicted) (rw (lookup-kept p b m tt g, pins-kept p b m refl (lookup p g)) (f .1)))),
     (λ e i h s. adm1 _ b g n (begun-is p b g a (λ q. q .size ≡ n) sz) on
         (begun-is p b g a (λ q. lookup q g ≡ none) (lookup-kept p b m tt g ∙ absent-found g e))
         (begun-is p b g a (λ q. q .free ≢ 0) (free-some i h s))),

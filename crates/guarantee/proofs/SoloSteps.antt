@@ -97,7 +97,7 @@ module _ {p : Pool} {b : ℕ} {m : Move} (w : Goes p b m) where
         reached = reached-call p (Step b) (on .reached);
         here = onto (on .reached) (on .here) (λ q _. b < clientCount q) (on .here);
         alone = onto (on .reached) (on .here) (λ q _. (c : ℕ) → c ≢ b → client q c .stage ≡ 0)
-            (λ c z. same-stage (client-other p b m (on .reached .shape) c z) ∙ on .alone c z);
+            (λ c z. same-stage (client-other p b m c z) ∙ on .alone c z);
         stage = onto (on .reached) (on .here) (λ _ k. k .stage ≡ j) s;
         page = onto (on .reached) (on .here) (λ _ k. k .page ≡ g) (e ∙ on .page);
       }
@@ -128,7 +128,7 @@ module _ (p : Pool) (b g : ℕ) (done : callOf p (Begin b g) .answer ≡ Done g)
         reached = reached-call p (Begin b g) r;
         here = begun-is (λ q. b < clientCount q) (begun .0 .here);
         alone = begun-is (λ q. (c : ℕ) → c ≢ b → client q c .stage ≡ 0)
-            (λ c z. same-stage (client-other p b m (r .shape) c z) ∙ rest c z);
+            (λ c z. same-stage (client-other p b m c z) ∙ rest c z);
         stage = begun-is (λ q. client q b .stage ≡ 1) (same-stage mine);
         page = begun-is (λ q. client q b .page ≡ g) (ap (λ (k : Client). k .page) mine);
       }

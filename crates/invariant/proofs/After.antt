@@ -175,27 +175,11 @@ client-past p c h = passed _ _ _ (le-ltb c (clientCount p) h)
 pub client-here : (p : Pool) (P : Client → Type 0) (c : ℕ) → P (client p c) → (P (resting 0) → ⊥) → c < clientCount p
 client-here p P c h no-rest = inside c (clientCount p) (λ l. no-rest (rw (client-past p c l) at h))
 
-module _ (p : Pool) (c : ℕ) (m : Move) (shape : Shape p) where
-  pub client-same : c < clientCount p → client (apply p c m) c ≡ m .next
-  unfolding apply client
-  client-same h =
-      let r = shape .clients in
-      chosen _ _ _ (lt-ltb c (clientCount p) h) ∙ getD-set-same (p .clients) c (m .next) no-client (omega arith)
-
+-- what a move does not write reads as it did
+module _ (p : Pool) (c : ℕ) (m : Move) where
   pub client-other : (d : ℕ) → d ≢ c → client (apply p c m) d ≡ client p d
   unfolding apply client
   client-other d q = ap (λ (k : Client). choose (ltb d (clientCount p)) k (resting 0)) (getD-set-other (p .clients) c d (m .next) no-client q)
-
-  -- what holds of the other clients as they were, and of the acting one as it is now, holds of all
-  pub all-clients : (P : ℕ → Client → Type 0) → c < clientCount p → ((d : ℕ) → d ≢ c → P d (client p d)) → P c (m .next)
-      → (d : ℕ) → P d (client (apply p c m) d)
-  all-clients P h old new d = go (ℕ-discrete d c)
-    where
-      go : Dec (d ≡ c) → P d (client (apply p c m) d)
-      go (yes e) = rw (e, client-same h) new
-      go (no e) = rw (client-other d e) (old d e)
-
-  -- ---- what the clients share
 
   pub slot-kept : SlotsStay p (m .write) → (i : ℕ) → slot (apply p c m) i ≡ slot p i
   unfolding apply slot
@@ -221,15 +205,55 @@ module _ (p : Pool) (c : ℕ) (m : Move) (shape : Shape p) where
   unfolding apply entryFrame
   entryFrame-kept e i = ap (λ (l : List ℕ). within l (total p) none i) e
 
-  -- one place is written
+  -- one place is written: the others
+  module _ (j v : ℕ) where
+    pub slot-else : SlotsPut p (m .write) j v → (i : ℕ) → i ≢ j → slot (apply p c m) i ≡ slot p i
+    unfolding apply slot
+    slot-else e i = within-else (p .slots) _ (p .size) j v e none i
+
+    pub pins-else : PinsPut p (m .write) j v → (i : ℕ) → i ≢ j → pins (apply p c m) i ≡ pins p i
+    unfolding apply pins
+    pins-else e i = within-else (p .pins) _ (total p) j v e evicted i
+
+    pub page-else : PagesPut p (m .write) j v → (i : ℕ) → i ≢ j → page (apply p c m) i ≡ page p i
+    unfolding apply page
+    page-else e i = within-else (p .pages) _ (total p) j v e 0 i
+
+    pub count-else : CountsPut p (m .write) j v → (i : ℕ) → i ≢ j → count (apply p c m) i ≡ count p i
+    unfolding apply count
+    count-else e i = within-else (p .counts) _ (total p) j v e 0 i
+
+    pub entryPage-else : EntryPagesPut p (m .write) j v → (i : ℕ) → i ≢ j
+        → entryPage (apply p c m) i ≡ entryPage p i
+    unfolding apply entryPage
+    entryPage-else e i = within-else (p .«table_pages») _ (total p) j v e 0 i
+
+    pub entryFrame-else : EntryFramesPut p (m .write) j v → (i : ℕ) → i ≢ j
+        → entryFrame (apply p c m) i ≡ entryFrame p i
+    unfolding apply entryFrame
+    entryFrame-else e i = within-else (p .«table_frames») _ (total p) j v e none i
+
+-- and what it writes, as the lists are long enough
+module _ (p : Pool) (c : ℕ) (m : Move) (shape : Shape p) where
+  pub client-same : c < clientCount p → client (apply p c m) c ≡ m .next
+  unfolding apply client
+  client-same h =
+      let r = shape .clients in
+      chosen _ _ _ (lt-ltb c (clientCount p) h) ∙ getD-set-same (p .clients) c (m .next) no-client (omega arith)
+
+  -- what holds of the other clients as they were, and of the acting one as it is now, holds of all
+  pub all-clients : (P : ℕ → Client → Type 0) → c < clientCount p → ((d : ℕ) → d ≢ c → P d (client p d)) → P c (m .next)
+      → (d : ℕ) → P d (client (apply p c m) d)
+  all-clients P h old new d = go (ℕ-discrete d c)
+    where
+      go : Dec (d ≡ c) → P d (client (apply p c m) d)
+      go (yes e) = rw (e, client-same h) new
+      go (no e) = rw (client-other p c m d e) (old d e)
+
   module _ (j v : ℕ) where
     pub slot-here : SlotsPut p (m .write) j v → j < p .size → slot (apply p c m) j ≡ v
     unfolding apply slot
     slot-here e h = let a = shape .slots in let b = shape .size-high in within-here (p .slots) _ (p .size) j v e none h (omega arith)
-
-    pub slot-else : SlotsPut p (m .write) j v → (i : ℕ) → i ≢ j → slot (apply p c m) i ≡ slot p i
-    unfolding apply slot
-    slot-else e i = within-else (p .slots) _ (p .size) j v e none i
 
     pub pins-here : PinsPut p (m .write) j v → j < total p → pins (apply p c m) j ≡ v
     unfolding apply pins
@@ -237,29 +261,17 @@ module _ (p : Pool) (c : ℕ) (m : Move) (shape : Shape p) where
         let a = shape .pins in let b = shape .size-high in let d = shape .clients-high in
         within-here (p .pins) _ (total p) j v e evicted h (omega arith)
 
-    pub pins-else : PinsPut p (m .write) j v → (i : ℕ) → i ≢ j → pins (apply p c m) i ≡ pins p i
-    unfolding apply pins
-    pins-else e i = within-else (p .pins) _ (total p) j v e evicted i
-
     pub page-here : PagesPut p (m .write) j v → j < total p → page (apply p c m) j ≡ v
     unfolding apply page
     page-here e h =
         let a = shape .pages in let b = shape .size-high in let d = shape .clients-high in
         within-here (p .pages) _ (total p) j v e 0 h (omega arith)
 
-    pub page-else : PagesPut p (m .write) j v → (i : ℕ) → i ≢ j → page (apply p c m) i ≡ page p i
-    unfolding apply page
-    page-else e i = within-else (p .pages) _ (total p) j v e 0 i
-
     pub count-here : CountsPut p (m .write) j v → j < total p → count (apply p c m) j ≡ v
     unfolding apply count
     count-here e h =
         let a = shape .counts in let b = shape .size-high in let d = shape .clients-high in
         within-here (p .counts) _ (total p) j v e 0 h (omega arith)
-
-    pub count-else : CountsPut p (m .write) j v → (i : ℕ) → i ≢ j → count (apply p c m) i ≡ count p i
-    unfolding apply count
-    count-else e i = within-else (p .counts) _ (total p) j v e 0 i
 
     pub entryPage-here : EntryPagesPut p (m .write) j v → j < total p
         → entryPage (apply p c m) j ≡ v
@@ -268,22 +280,12 @@ module _ (p : Pool) (c : ℕ) (m : Move) (shape : Shape p) where
         let a = shape .entry-pages in let b = shape .size-high in let d = shape .clients-high in
         within-here (p .«table_pages») _ (total p) j v e 0 h (omega arith)
 
-    pub entryPage-else : EntryPagesPut p (m .write) j v → (i : ℕ) → i ≢ j
-        → entryPage (apply p c m) i ≡ entryPage p i
-    unfolding apply entryPage
-    entryPage-else e i = within-else (p .«table_pages») _ (total p) j v e 0 i
-
     pub entryFrame-here : EntryFramesPut p (m .write) j v → j < total p
         → entryFrame (apply p c m) j ≡ v
     unfolding apply entryFrame
     entryFrame-here e h =
         let a = shape .entry-frames in let b = shape .size-high in let d = shape .clients-high in
         within-here (p .«table_frames») _ (total p) j v e none h (omega arith)
-
-    pub entryFrame-else : EntryFramesPut p (m .write) j v → (i : ℕ) → i ≢ j
-        → entryFrame (apply p c m) i ≡ entryFrame p i
-    unfolding apply entryFrame
-    entryFrame-else e i = within-else (p .«table_frames») _ (total p) j v e none i
 
 -- ---- past the part that the pool has
 

@@ -63,7 +63,7 @@ module _ {p : Pool} {c : ℕ} {m : Move} (x : Effect p c m) (s : Settles p c m) 
   empties-next : empty q ≡ freeAfter (p .free) (m .write) + sumTo (λ d. one (filling (client q d .stage))) (clientCount p)
   empties-next =
       let n = sum-put (λ d. one (filling (client p d .stage))) (λ d. one (filling (client q d .stage))) (clientCount p) c here
-      (λ d _ o. ap (λ (n : Client). one (filling (n .stage))) (client-other p c m (r .shape) d o)) in
+      (λ d _ o. ap (λ (n : Client). one (filling (n .stage))) (client-other p c m d o)) in
       omega (arith, r .calm .empties, s .level, n, ap (λ (n : Client). one (filling (n .stage))) at-c)
 
   only-next : (d i : ℕ) → T (hunting (client q d .stage)) → client q d .victim ≢ none → slot q i ≡ client q d .victim → i ≡ client q d .place
@@ -92,14 +92,14 @@ module _ {p : Pool} {c : ℕ} {m : Move} (x : Effect p c m) (s : Settles p c m) 
     evicted-now = go (x .pins)
       where
         go : PinsOk p c m → (pins p f ≡ evicted) ⊎ Leaves q (m .next) f
-        go (pins-stay e) = inl (sym (pins-kept p c m (r .shape) e f) ∙ d)
+        go (pins-stay e) = inl (sym (pins-kept p c m e f) ∙ d)
         go (pins-put g y e h ch) = by (ℕ-discrete f g) ch
           where
             now : f ≡ g → y ≡ evicted
             now w = sym (pins-here p c m (r .shape) g y e h) ∙ ap (pins q) (sym w) ∙ d
 
             by : Dec (f ≡ g) → PinChange p c m g y → (pins p f ≡ evicted) ⊎ Leaves q (m .next) f
-            by (no w) _ = inl (sym (pins-else p c m (r .shape) g y e f w) ∙ d)
+            by (no w) _ = inl (sym (pins-else p c m g y e f w) ∙ d)
             by (yes w) (adds _ v _) = absurd (let u = now w in let y : ⊥ = omega arith in y)
             by (yes w) (lowers l v) = absurd (let u = now w in let y : ⊥ = omega arith in y)
             by (yes w) (takes-one _ v) = absurd (let u = now w in let y : ⊥ = omega arith in y)
@@ -137,7 +137,7 @@ module _ {p : Pool} {c : ℕ} {m : Move} (x : Effect p c m) (s : Settles p c m) 
                 go (inr u) = (c, rw at-c (u .2, inl (u .1)))
 
             by : Dec (w .0 ≡ c) → (d : ℕ) × Leaves q (client q d) f
-            by (no o) = still (client-other p c m (r .shape) (w .0) o) (w .1 .1)
+            by (no o) = still (client-other p c m (w .0) o) (w .1 .1)
             by (yes o) = (c, rw at-c (s .leaves f z n n′ (subst (λ (d : ℕ). Leaves p (client p d) f) o (w .1))))
 
   ghosts-next : (f : ℕ) → f ≢ none → mapped q f ≢ 0 → pins q f ≡ evicted → (d : ℕ) × Leaves q (client q d) f
@@ -171,7 +171,7 @@ module _ (p : Pool) (c : ℕ) (r : Reached p) where
   -- the slots and free stay
   same-empty : (m : Move) → SlotsStay p (m .write) → empty (apply p c m) ≡ empty p
   unfolding apply
-  same-empty m e = sum-same _ _ (p .size) (λ i _. ap (λ (f : ℕ). one (eqb f none)) (slot-kept p c m (r .shape) e i))
+  same-empty m e = sum-same _ _ (p .size) (λ i _. ap (λ (f : ℕ). one (eqb f none)) (slot-kept p c m e i))
 
   settled : {m : Move} (i : ℕ) → client p c .stage ≡ i → SlotsStay p (m .write) → freeAfter (p .free) (m .write) ≡ p .free
       → filling i ≡ filling (m .next .stage) → T (not (eqb (m .next .stage) 6)) → (T (hunting (m .next .stage)) → Hunts p me (m .next))
@@ -195,7 +195,7 @@ module _ (p : Pool) (c : ℕ) (r : Reached p) where
       omega (
         arith,
         sum-put (λ i. one (eqb (slot p i) none)) (λ i. one (eqb (slot (apply p c m) i) none)) (p .size) (me .place) (r .ranges .place-ok c)
-            (λ i _ o. ap (λ (f : ℕ). one (eqb f none)) (slot-else p c m (r .shape) (me .place) (me .own) e i o)),
+            (λ i _ o. ap (λ (f : ℕ). one (eqb f none)) (slot-else p c m (me .place) (me .own) e i o)),
       )
 
   settles : {m : Move} → Edge p c m → Effect p c m → Settles p c m
@@ -209,7 +209,7 @@ module _ (p : Pool) (c : ℕ) (r : Reached p) where
       }
     where
       at : (i : ℕ) → slot (apply p c m) i ≡ slot p i
-      at = slot-kept p c m (r .shape) (unseen _ _ (h .quiet) .slots)
+      at = slot-kept p c m (unseen _ _ (h .quiet) .slots)
 
       shifted : {f : ℕ} → Leaves p (m .next) f → Leaves (apply p c m) (m .next) f
       shifted (v, inl l) = (v, inl l)

@@ -90,7 +90,7 @@ module _ {p : Pool} {c : ℕ} {m : Move} (x : Effect p c m) where
       omega (
         arith,
         grantsOn-other p c m (r .shape) here few (x .grants) d o f,
-        ap (λ (n : Client). one (pinsFound (n .stage) && eqb (n .found) f) + one (eqb (n .own) f)) (client-other p c m (r .shape) d o),
+        ap (λ (n : Client). one (pinsFound (n .stage) && eqb (n .found) f) + one (eqb (n .own) f)) (client-other p c m d o),
       )
 
   claimed-next : (f : ℕ) → claimed q f + claims p c f ≡ claimed p f + claims q c f
@@ -156,7 +156,7 @@ module _ {p : Pool} {c : ℕ} {m : Move} (x : Effect p c m) where
 
   -- no pins change, and no claims
   quiet : Ownless → PinsStay p (m .write) → ((f : ℕ) → f ≢ none → claims q c f ≡ claims p c f) → Tallies
-  quiet o w e = record { owns = o; change = λ f z. idle (pins-kept p c m (r .shape) w f) (e f z) }
+  quiet o w e = record { owns = o; change = λ f z. idle (pins-kept p c m w f) (e f z) }
 
   -- the pins of one frame change
   touch : (g y : ℕ) → Ownless → PinsPut p (m .write) g y → g < total p
@@ -164,7 +164,7 @@ module _ {p : Pool} {c : ℕ} {m : Move} (x : Effect p c m) where
   touch g y o w h ch e = record { owns = o; change = λ f z. go f z (ℕ-discrete f g) }
     where
       go : (f : ℕ) → f ≢ none → Dec (f ≡ g) → Change p q f (pins p f) (pins q f) (claims p c f) (claims q c f)
-      go f z (no n) = idle (pins-else p c m (r .shape) g y w f n) (e f z n)
+      go f z (no n) = idle (pins-else p c m g y w f n) (e f z n)
       go f z (yes n) =
           subst (λ (f : ℕ). Change p q f (pins p f) (pins q f) (claims p c f) (claims q c f)) (sym n)
           (subst (λ (b : ℕ). Change p q g (pins p g) b (claims p c g) (claims q c g)) (sym (pins-here p c m (r .shape) g y w h)) (ch (λ w. z (n ∙ w))))
@@ -243,8 +243,8 @@ module _ (p : Pool) (c : ℕ) (r : Reached p) where
   stranded x u z =
       let m : Move = refused15 me in
       record {
-        no-slot = λ i w. r .places .unplaced-out c i u z (sym (slot-kept p c m (r .shape) refl i) ∙ w);
-        unmapped = mapped-kept p c m (r .shape) refl refl (me .own) ∙ r .private .own-unmapped c z;
+        no-slot = λ i w. r .places .unplaced-out c i u z (sym (slot-kept p c m refl i) ∙ w);
+        unmapped = mapped-kept p c m refl refl (me .own) ∙ r .private .own-unmapped c z;
         unowned = all-clients p c m (r .shape) (λ _ n. n .own ≢ me .own) (x .here) (λ d o w. o (sym (r .places .owns-apart c d z (sym w)))) (λ w. z (sym w));
         unfound = all-clients p c m (r .shape) (λ _ n. n .found ≢ me .own) (x .here) (λ d _. r .private .own-unfound c d z) (λ w. z (sym w));
         ungranted = λ d i w. all-grants x (λ _ f. f ≢ me .own) (λ d i _. r .private .own-ungranted c d i z) (λ g f e. no-open e) d i
@@ -290,7 +290,7 @@ module _ (p : Pool) (c : ℕ) (r : Reached p) where
           subst (λ (f : ℕ). Change p (apply p c m) f (pins p f) (pins (apply p c m) f) (claims p c f) (claims (apply p c m) c f)) h
           (strand (stranded x (v .is-unplaced) (λ w. z (sym h ∙ w))))
       go f z (no h) =
-          idle (pins-kept p c m (r .shape) refl f)
+          idle (pins-kept p c m refl f)
           (omega (arith, claims-kept x refl refl f, none-own f z, one-not _ _ h, ap (λ (b : Bool). one (b && eqb (me .found) f)) (v .no-pin)))
   tallies {m} (drops e h) x =
       touch x (me .victim) evicted never refl (r .ranges .victim-ok c (kn 14 e .1 .0))

@@ -201,7 +201,7 @@ module _ (p : Pool) (c : ℕ) (m : Move) (shape : Shape p) (here : c < clientCou
 
   module _ (how : Granting p c m) (d : ℕ) (other : d ≢ c) where
     held-other : client q d .held ≡ client p d .held
-    held-other = ap (λ (k : Client). k .held) (client-other p c m shape d other)
+    held-other = ap (λ (k : Client). k .held) (client-other p c m d other)
 
     pages-put : Granting p c m → Put N c (p .«grant_pages») (q .«grant_pages»)
     unfolding apply grantPagesAfter

@@ -109,9 +109,9 @@ module _ {p : Pool} {c : ℕ} {m : Move} (x : Effect p c m) where
 module _ (p : Pool) (c : ℕ) (r : Reached p) (m : Move) (w : Quiet p (m .write)) where
   quiet-steady : (f : ℕ) → Steady p (apply p c m) f
   quiet-steady f =
-      let a : (f : ℕ) → pins (apply p c m) f ≡ pins p f = pins-kept p c m (r .shape) (unseen _ _ w .pins) in
-      let b : mapped (apply p c m) f ≡ mapped p f = mapped-kept p c m (r .shape) (unseen _ _ w .entry-pages) (unseen _ _ w .entry-frames) f in
-      let d : (i : ℕ) → slot (apply p c m) i ≡ slot p i = slot-kept p c m (r .shape) (unseen _ _ w .slots) in
+      let a : (f : ℕ) → pins (apply p c m) f ≡ pins p f = pins-kept p c m (unseen _ _ w .pins) in
+      let b : mapped (apply p c m) f ≡ mapped p f = mapped-kept p c m (unseen _ _ w .entry-pages) (unseen _ _ w .entry-frames) f in
+      let d : (i : ℕ) → slot (apply p c m) i ≡ slot p i = slot-kept p c m (unseen _ _ w .slots) in
       record { dead = λ e. a f ∙ e; maps = λ _ g e. b ∙ e; seats = λ _ s. (s .0, d (s .0) ∙ s .1) }
 
 module _ (p : Pool) (c : ℕ) (r : Reached p) where
@@ -124,7 +124,7 @@ module _ (p : Pool) (c : ℕ) (r : Reached p) where
   -- the frame that a look-up found is the page's
   looked : (m : Move) → EntryPagesStay p (m .write) → EntryFramesStay p (m .write) → (z : lookup p (k .page) ≢ none)
       → (lookup p (k .page) ≢ none) × (pins (apply p c m) (lookup p (k .page)) ≢ evicted → mapped (apply p c m) (lookup p (k .page)) ≡ suc (k .page))
-  looked m a b z = (z, λ _. mapped-kept p c m (r .shape) a b _ ∙ lookup-mapped p (r .shape) (r .outline .entries-apart) (k .page) z)
+  looked m a b z = (z, λ _. mapped-kept p c m a b _ ∙ lookup-mapped p (r .shape) (r .outline .entries-apart) (k .page) z)
 
   -- the found frame, not evicted, is still the page's
   pinned-now : (m : Move) → Effect p c m → Live p k → pins p (k .found) ≢ evicted → Live (apply p c m) k

@@ -50,24 +50,24 @@ module _ {p : Pool} {c : ℕ} {m : Move} (x : Effect p c m) where
   slot-now i = go (x .slot)
     where
       go : SlotOk p c m → SlotNow i
-      go (slots-stay e) = inl (slot-kept p c m (r .shape) e i)
+      go (slots-stay e) = inl (slot-kept p c m e i)
       go (puts j e h u v z _) = by (ℕ-discrete i j)
         where
           by : Dec (i ≡ j) → SlotNow i
           by (yes w) = inr (ap (slot q) w ∙ slot-here p c m (r .shape) j (k .own) (rw e refl) h, u, v, z)
-          by (no w) = inl (slot-else p c m (r .shape) j (k .own) (rw e refl) i w)
+          by (no w) = inl (slot-else p c m j (k .own) (rw e refl) i w)
 
   pub slot-or-out : (f i : ℕ) → f ≢ none → slot p i ≡ f → (slot q i ≡ f) ⊎ TakenOut f
   unfolding slotsAfter
   slot-or-out f i z s = go (x .slot)
     where
       go : SlotOk p c m → (slot q i ≡ f) ⊎ TakenOut f
-      go (slots-stay e) = inl (slot-kept p c m (r .shape) e i ∙ s)
+      go (slots-stay e) = inl (slot-kept p c m e i ∙ s)
       go (puts j e h _ _ _ v) = by (ℕ-discrete i j) v
         where
           by : Dec (i ≡ j) → Vacant p c m j
               → (slot q i ≡ f) ⊎ TakenOut f
-          by (no w) _ = inl (slot-else p c m (r .shape) j (k .own) (rw e refl) i w ∙ s)
+          by (no w) _ = inl (slot-else p c m j (k .own) (rw e refl) i w ∙ s)
           by (yes w) (inl o) = absurd (z (sym s ∙ ap (slot p) w ∙ o))
           by (yes w) (inr o) =
               let v : k .victim ≡ f = sym (o .0) ∙ ap (slot p) (sym w) ∙ s in
@@ -81,14 +81,14 @@ module _ {p : Pool} {c : ℕ} {m : Move} (x : Effect p c m) where
     dead-next ref d = go (x .pins)
       where
         go : PinsOk p c m → pins q f ≡ evicted
-        go (pins-stay e) = pins-kept p c m (r .shape) e f ∙ d
+        go (pins-stay e) = pins-kept p c m e f ∙ d
         go (pins-put g y e h ch) = by (ℕ-discrete f g) ch
           where
             at : f ≡ g → y ≡ evicted → pins q f ≡ evicted
             at w v = ap (pins q) w ∙ pins-here p c m (r .shape) g y e h ∙ v
 
             by : Dec (f ≡ g) → PinChange p c m g y → pins q f ≡ evicted
-            by (no w) _ = pins-else p c m (r .shape) g y e f w ∙ d
+            by (no w) _ = pins-else p c m g y e f w ∙ d
             by (yes w) (adds l _ _) = absurd (l (ap (pins p) (sym w) ∙ d))
             by (yes w) (lowers l _) = absurd (let n : pins p g ≡ evicted = ap (pins p) (sym w) ∙ d in let y : ⊥ = omega arith in y)
             by (yes w) (drops-victim _ _ v _ _ _ _) = at w v
@@ -109,7 +109,7 @@ module _ {p : Pool} {c : ℕ} {m : Move} (x : Effect p c m) where
         not-own o w = suc-not e (ap (mapped p) w ∙ r .private .own-unmapped c o)
 
         go : EntryOk p c m → mapped q f ≡ suc g
-        go (entries-stay a b) = mapped-kept p c m (r .shape) a b f ∙ e
+        go (entries-stay a b) = mapped-kept p c m a b f ∙ e
         go (maps i w h o _ _ v _) = put-other p c m (r .shape) i (k .page) (k .own) w h f (not-own o) (other v) ∙ e
           where
             other : (entryFrame p i ≡ none) ⊎ (pins p (entryFrame p i) ≡ evicted) → f ≢ entryFrame p i
@@ -122,7 +122,7 @@ module _ {p : Pool} {c : ℕ} {m : Move} (x : Effect p c m) where
     unmapped-next e o = go (x .entries)
       where
         go : EntryOk p c m → mapped q f ≡ 0
-        go (entries-stay a b) = mapped-kept p c m (r .shape) a b f ∙ e
+        go (entries-stay a b) = mapped-kept p c m a b f ∙ e
         go (maps i w h _ n _ _ _) = put-cases p c m (r .shape) i (k .page) (k .own) w h f z e (λ y. o n (sym y))
         go (unmaps i a w h _ _) = put-cases p c m (r .shape) i a none w h f z e z
 
@@ -131,8 +131,8 @@ module _ {p : Pool} {c : ℕ} {m : Move} (x : Effect p c m) where
     page-next ref = go (x .pages)
       where
         go : PageOk p c m → page q f ≡ page p f
-        go (pages-stay e) = page-kept p c m (r .shape) e f
-        go (paged g a e) = page-else p c m (r .shape) g _ e f (λ w. ref (ap (referenced p) w ∙ a))
+        go (pages-stay e) = page-kept p c m e f
+        go (paged g a e) = page-else p c m g _ e f (λ w. ref (ap (referenced p) w ∙ a))
 
   -- ---- who is named
 
@@ -170,4 +170,4 @@ module _ {p : Pool} {c : ℕ} {m : Move} (x : Effect p c m) where
           let v : client q d .held ≡ client q c .held = ap (λ (n : ℕ). client q n .held) e in omega arith))
       go (no e) =
           rw (grantPage-other p c m (r .shape) here few (x .grants) d e i, grantFrame-other p c m (r .shape) here few (x .grants) d e i)
-          (olds d i (subst (λ (n : Client). i < n .held) (client-other p c m (r .shape) d e) h))
+          (olds d i (subst (λ (n : Client). i < n .held) (client-other p c m d e) h))

@@ -74,7 +74,7 @@ module _ {p : Pool} {c : ℕ} {m : Move} (x : Effect p c m) where
   entries-next = go (x .entries)
     where
       go : EntryOk p c m → Apart (entryFrame q) none
-      go (entries-stay _ w) = apart-same (entryFrame p) (entryFrame q) none (r .outline .entries-apart) (entryFrame-kept p c m (r .shape) w)
+      go (entries-stay _ w) = apart-same (entryFrame p) (entryFrame q) none (r .outline .entries-apart) (entryFrame-kept p c m w)
       go (maps i w h z _ _ _ _) = put-apart p c m (r .shape) i (k .page) (k .own) w h (r .outline .entries-apart) (λ _ j _. own-only z j)
       go (unmaps i g w h _ _) = put-apart p c m (r .shape) i g none w h (r .outline .entries-apart) (λ z. absurd (z refl))
 
@@ -91,8 +91,8 @@ module _ {p : Pool} {c : ℕ} {m : Move} (x : Effect p c m) where
 
       go : EntryOk p c m → (i j : ℕ) → entryFrame q i ≢ none → entryFrame q j ≢ none → entryPage q i ≡ entryPage q j → i ≡ j
       go (entries-stay v w) =
-          let s : (i : ℕ) → entryFrame q i ≡ entryFrame p i = entryFrame-kept p c m (r .shape) w in
-          let t : (i : ℕ) → entryPage q i ≡ entryPage p i = entryPage-kept p c m (r .shape) v in
+          let s : (i : ℕ) → entryFrame q i ≡ entryFrame p i = entryFrame-kept p c m w in
+          let t : (i : ℕ) → entryPage q i ≡ entryPage p i = entryPage-kept p c m v in
           λ i j a b e. r .outline .pages-apart i j (λ n. a (s i ∙ n)) (λ n. b (s j ∙ n)) (sym (t i) ∙ e ∙ t j)
       go (maps n w h _ _ _ _ o) = put n (k .page) (k .own) w h (λ _. o)
       go (unmaps n g w h _ _) = put n g none w h (λ z. absurd (z refl))
@@ -104,11 +104,11 @@ module _ {p : Pool} {c : ℕ} {m : Move} (x : Effect p c m) where
     new-entry e n = go (x .entries)
       where
         go : EntryOk p c m → (f ≡ k .own) × Seated p f × (mapped q f ≡ suc (k .page)) × (pins q f ≡ pins p f)
-        go (entries-stay a b) = absurd (n (mapped-kept p c m (r .shape) a b f ∙ e))
+        go (entries-stay a b) = absurd (n (mapped-kept p c m a b f ∙ e))
         go (maps i w h o _ s _ _) = by (ℕ-discrete f (k .own))
           where
             by : Dec (f ≡ k .own) → (f ≡ k .own) × Seated p f × (mapped q f ≡ suc (k .page)) × (pins q f ≡ pins p f)
-            by (yes v) = (v, (s .0, s .1 ∙ sym v), ap (mapped q) v ∙ own-mapped i (k .page) (k .own) refl o w h, pins-kept p c m (r .shape) (rw w refl) f)
+            by (yes v) = (v, (s .0, s .1 ∙ sym v), ap (mapped q) v ∙ own-mapped i (k .page) (k .own) refl o w h, pins-kept p c m (rw w refl) f)
             by (no v) = absurd (n (put-cases p c m (r .shape) i (k .page) (k .own) w h f z e v))
         go (unmaps i g w h _ _) = absurd (n (put-cases p c m (r .shape) i g none w h f z e z))
 
@@ -117,7 +117,7 @@ module _ {p : Pool} {c : ℕ} {m : Move} (x : Effect p c m) where
     entry-same e n = go (x .entries)
       where
         go : EntryOk p c m → mapped q f ≡ mapped p f
-        go (entries-stay a b) = mapped-kept p c m (r .shape) a b f
+        go (entries-stay a b) = mapped-kept p c m a b f
         go (maps i w h o _ _ _ _) = by (ℕ-discrete f (entryFrame p i))
           where
             not-own : f ≢ k .own
@@ -172,7 +172,7 @@ module _ {p : Pool} {c : ℕ} {m : Move} (x : Effect p c m) where
         old n a (inr (inl d)) = owner (ℕ-discrete (d .0) c)
           where
             owner : Dec (d .0 ≡ c) → Goal
-            owner (no u) = inr (inl (d .0, ap (λ (n : Client). n .own) (client-other p c m (r .shape) (d .0) u) ∙ d .1))
+            owner (no u) = inr (inl (d .0, ap (λ (n : Client). n .own) (client-other p c m (d .0) u) ∙ d .1))
             owner (yes u) =
                 let o : client p c .own ≡ f = ap (λ (n : ℕ). client p n .own) (sym u) ∙ d .1 in
                 ended (subst (λ (f : ℕ). (mapped q f ≢ 0) ⊎ ((pins q f ≡ evicted) ⊎ Orphan q f)) o (t .own-end (λ y. z (sym o ∙ y)) (λ y. n (y ∙ o))))

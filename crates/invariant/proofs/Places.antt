@@ -42,7 +42,7 @@ module _ {p : Pool} {c : ℕ} {m : Move} (x : Effect p c m) where
   owns-next : Apart (λ d. client q d .own) none
   owns-next =
       apart-put (λ d. client p d .own) (λ d. client q d .own) none (r .places .owns-apart) c
-      (λ d o. ap (λ (n : Client). n .own) (client-other p c m (r .shape) d o))
+      (λ d o. ap (λ (n : Client). n .own) (client-other p c m d o))
       (λ z d o e. own-new d o (λ n. z (mine ∙ n)) (e ∙ mine))
     where
       mine : client q c .own ≡ m .next .own
@@ -54,9 +54,9 @@ module _ {p : Pool} {c : ℕ} {m : Move} (x : Effect p c m) where
   slots-next = go (x .slot)
     where
       go : SlotOk p c m → Apart (slot q) none
-      go (slots-stay w) = apart-same (slot p) (slot q) none (r .places .slots-apart) (slot-kept p c m (r .shape) w)
+      go (slots-stay w) = apart-same (slot p) (slot q) none (r .places .slots-apart) (slot-kept p c m w)
       go (puts j w h u _ o _) =
-          apart-put (slot p) (slot q) none (r .places .slots-apart) j (slot-else p c m (r .shape) j (k .own) (rw w refl))
+          apart-put (slot p) (slot q) none (r .places .slots-apart) j (slot-else p c m j (k .own) (rw w refl))
           (λ _ i _ e. r .places .unplaced-out c i u o (e ∙ slot-here p c m (r .shape) j (k .own) (rw w refl) h))
 
   out-next : (d i : ℕ) → T (unplaced (client q d .stage)) → client q d .own ≢ none → slot q i ≢ client q d .own

@@ -143,7 +143,7 @@ module _ {p : Pool} {c : ℕ} {m : Move} (e : Edge p c m) (x : Effect p c m) whe
   pins-range f = go (x .pins)
     where
       go : PinsOk p c m → pins q f ≤ pinned 128
-      go (pins-stay w) = rw (pins-kept p c m (r .shape) w f) (r .ranges .pins-ok f)
+      go (pins-stay w) = rw (pins-kept p c m w f) (r .ranges .pins-ok f)
       go (pins-put g y w h ch) = by (ℕ-discrete f g)
         where
           least : PinChange p c m g y → y ≤ pinned 128
@@ -155,20 +155,20 @@ module _ {p : Pool} {c : ℕ} {m : Move} (e : Edge p c m) (x : Effect p c m) whe
 
           by : Dec (f ≡ g) → pins q f ≤ pinned 128
           by (yes v) = rw (ap (pins q) v ∙ pins-here p c m (r .shape) g y w h) (least ch)
-          by (no v) = rw (pins-else p c m (r .shape) g y w f v) (r .ranges .pins-ok f)
+          by (no v) = rw (pins-else p c m g y w f v) (r .ranges .pins-ok f)
 
   count-range : (f : ℕ) → count q f ≤ p .cap
   unfolding apply
   count-range f = go (x .written .count-ok)
     where
       go : CountOk p (m .write) → count q f ≤ p .cap
-      go (counts-stay w) = rw (count-kept p c m (r .shape) w f) (r .ranges .count-ok f)
+      go (counts-stay w) = rw (count-kept p c m w f) (r .ranges .count-ok f)
       go (counts-put g y w l) = by (ℕ-discrete f g) (decLt g (total p))
         where
           by : Dec (f ≡ g) → Dec (g < total p) → count q f ≤ p .cap
           by (yes v) (yes h) = rw (ap (count q) v ∙ count-here p c m (r .shape) g y w h) l
           by (yes v) (no h) = rw (ap (count q) v ∙ count-past q g (omega arith)) (omega arith)
-          by (no v) _ = rw (count-else p c m (r .shape) g y w f v) (r .ranges .count-ok f)
+          by (no v) _ = rw (count-else p c m g y w f v) (r .ranges .count-ok f)
 
   slot-range : (i : ℕ) → slot q i ≢ none → slot q i < total p
   slot-range i z = go (slot-now x i)
@@ -181,7 +181,7 @@ module _ {p : Pool} {c : ℕ} {m : Move} (e : Edge p c m) (x : Effect p c m) whe
   entry-range i z = go (x .entries)
     where
       go : EntryOk p c m → entryFrame q i < total p
-      go (entries-stay _ w) = let s = entryFrame-kept p c m (r .shape) w i in rw s (r .ranges .entry-ok i (λ n. z (s ∙ n)))
+      go (entries-stay _ w) = let s = entryFrame-kept p c m w i in rw s (r .ranges .entry-ok i (λ n. z (s ∙ n)))
       go (maps j w h o _ _ _ _) = by (ℕ-discrete i j)
         where
           by : Dec (i ≡ j) → entryFrame q i < total p

@@ -78,7 +78,7 @@ module _ (p : Pool) (shape : Shape p) where
 
 -- ---- after a move
 
-module _ (p : Pool) (c : ℕ) (m : Move) (shape : Shape p) where
+module _ (p : Pool) (c : ℕ) (m : Move) where
   abbrev q : Pool
   q = apply p c m
 
@@ -102,10 +102,10 @@ module _ (p : Pool) (c : ℕ) (m : Move) (shape : Shape p) where
 
   pub mapped-kept : EntryPagesStay p (m .write) → EntryFramesStay p (m .write)
       → (f : ℕ) → mapped q f ≡ mapped p f
-  mapped-kept a b f = mapped-alike f (λ i. inl (entryFrame-kept p c m shape b i, entryPage-kept p c m shape a i))
+  mapped-kept a b f = mapped-alike f (λ i. inl (entryFrame-kept p c m b i, entryPage-kept p c m a i))
 
   -- one entry is put: at place j, page g and frame f
-  module _ (j g f : ℕ) (e : m .write ≡ PutEntry j g f) (here : j < total p) where
+  module _ (shape : Shape p) (j g f : ℕ) (e : m .write ≡ PutEntry j g f) (here : j < total p) where
     pub put-frame : entryFrame q j ≡ f
     unfolding entryFramesAfter
     put-frame = entryFrame-here p c m shape j f (rw e refl) here
@@ -116,11 +116,11 @@ module _ (p : Pool) (c : ℕ) (m : Move) (shape : Shape p) where
 
     pub else-frame : (i : ℕ) → i ≢ j → entryFrame q i ≡ entryFrame p i
     unfolding entryFramesAfter
-    else-frame = entryFrame-else p c m shape j f (rw e refl)
+    else-frame = entryFrame-else p c m j f (rw e refl)
 
     pub else-page : (i : ℕ) → i ≢ j → entryPage q i ≡ entryPage p i
     unfolding entryPagesAfter
-    else-page = entryPage-else p c m shape j g (rw e refl)
+    else-page = entryPage-else p c m j g (rw e refl)
 
     -- the frames that are neither the one put nor the one replaced keep their entries
     pub put-other : (x : ℕ) → x ≢ f → x ≢ entryFrame p j → mapped q x ≡ mapped p x
