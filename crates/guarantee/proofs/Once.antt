@@ -17,8 +17,7 @@ use Rattle.pool.specs.declared.Outcome.{Outcome}
 use Rattle.pool.specs.declared.Call.{Call}
 use Rattle.pool.specs.declared.Call.the-variants.{Step}
 use Rattle.invariant.proofs.Reached.{Reached}
-use Rattle.invariant.proofs.After.{client-same, all-clients, pins-in}
-use Rattle.invariant.proofs.Searches.{few-frames}
+use Rattle.invariant.proofs.After.{few-frames, client-same, all-clients, pins-in}
 use Rattle.invariant.proofs.Facts.{own-pins}
 use Rattle.invariant.proofs.Edges.{Edge}
 use Rattle.invariant.proofs.Steps.{call-edge}

@@ -20,9 +20,9 @@ use Rattle.pool.specs.declared.Counted.{Counted}
 use Rattle.pool.specs.declared.Counted.the-variants.{Nothing, Hit, Join, Admitted, Revived, Drop, Refusal}
 use Rattle.laws.specs.Choices.{by-test, chosen, passed}
 use Rattle.invariant.proofs.Reached.{Reached, Apart, one, sumTo, mapped}
-use Rattle.invariant.proofs.After.{slot-in, pins-in, entry-in}
+use Rattle.invariant.proofs.After.{few-frames, slot-in, pins-in, entry-in}
 use Rattle.invariant.proofs.Sums.{sum-same}
-use Rattle.invariant.proofs.Searches.{few-frames, live-named}
+use Rattle.invariant.proofs.Searches.{live-named}
 use Rattle.invariant.proofs.Table.{mapped-entry, mapped-is}
 use Rattle.invariant.proofs.Calls.{reached-call}
 use Rattle.invariant.proofs.Pigeon.{below, equal, below-all, equal-has, equal-none, equal-least}

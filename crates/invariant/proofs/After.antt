@@ -223,23 +223,24 @@ module _ (p : Pool) (c : ℕ) (m : Move) where
     unfolding apply count
     count-else e i = within-else (p .counts) _ (total p) j v e 0 i
 
-    pub entryPage-else : EntryPagesPut p (m .write) j v → (i : ℕ) → i ≢ j
-        → entryPage (apply p c m) i ≡ entryPage p i
+    pub entryPage-else : EntryPagesPut p (m .write) j v → (i : ℕ) → i ≢ j → entryPage (apply p c m) i ≡ entryPage p i
     unfolding apply entryPage
     entryPage-else e i = within-else (p .«table_pages») _ (total p) j v e 0 i
 
-    pub entryFrame-else : EntryFramesPut p (m .write) j v → (i : ℕ) → i ≢ j
-        → entryFrame (apply p c m) i ≡ entryFrame p i
+    pub entryFrame-else : EntryFramesPut p (m .write) j v → (i : ℕ) → i ≢ j → entryFrame (apply p c m) i ≡ entryFrame p i
     unfolding apply entryFrame
     entryFrame-else e i = within-else (p .«table_frames») _ (total p) j v e none i
 
 -- and what it writes, as the lists are long enough
+pub few-frames : (p : Pool) → Shape p → total p ≤ 96
+few-frames p shape = omega (arith, shape .size-high, shape .clients-high)
+
 module _ (p : Pool) (c : ℕ) (m : Move) (shape : Shape p) where
   pub client-same : c < clientCount p → client (apply p c m) c ≡ m .next
   unfolding apply client
   client-same h =
-      let r = shape .clients in
-      chosen _ _ _ (lt-ltb c (clientCount p) h) ∙ getD-set-same (p .clients) c (m .next) no-client (omega arith)
+      chosen _ _ _ (lt-ltb c (clientCount p) h) ∙
+      getD-set-same (p .clients) c (m .next) no-client (omega (arith, shape .clients, shape .clients-high))
 
   -- what holds of the other clients as they were, and of the acting one as it is now, holds of all
   pub all-clients : (P : ℕ → Client → Type 0) → c < clientCount p → ((d : ℕ) → d ≢ c → P d (client p d)) → P c (m .next)
@@ -253,39 +254,27 @@ module _ (p : Pool) (c : ℕ) (m : Move) (shape : Shape p) where
   module _ (j v : ℕ) where
     pub slot-here : SlotsPut p (m .write) j v → j < p .size → slot (apply p c m) j ≡ v
     unfolding apply slot
-    slot-here e h = let a = shape .slots in let b = shape .size-high in within-here (p .slots) _ (p .size) j v e none h (omega arith)
+    slot-here e h = within-here (p .slots) _ (p .size) j v e none h (omega (arith, shape .size-high, shape .slots))
 
     pub pins-here : PinsPut p (m .write) j v → j < total p → pins (apply p c m) j ≡ v
     unfolding apply pins
-    pins-here e h =
-        let a = shape .pins in let b = shape .size-high in let d = shape .clients-high in
-        within-here (p .pins) _ (total p) j v e evicted h (omega arith)
+    pins-here e h = within-here (p .pins) _ (total p) j v e evicted h (omega (arith, few-frames p shape, shape .pins))
 
     pub page-here : PagesPut p (m .write) j v → j < total p → page (apply p c m) j ≡ v
     unfolding apply page
-    page-here e h =
-        let a = shape .pages in let b = shape .size-high in let d = shape .clients-high in
-        within-here (p .pages) _ (total p) j v e 0 h (omega arith)
+    page-here e h = within-here (p .pages) _ (total p) j v e 0 h (omega (arith, few-frames p shape, shape .pages))
 
     pub count-here : CountsPut p (m .write) j v → j < total p → count (apply p c m) j ≡ v
     unfolding apply count
-    count-here e h =
-        let a = shape .counts in let b = shape .size-high in let d = shape .clients-high in
-        within-here (p .counts) _ (total p) j v e 0 h (omega arith)
+    count-here e h = within-here (p .counts) _ (total p) j v e 0 h (omega (arith, few-frames p shape, shape .counts))
 
-    pub entryPage-here : EntryPagesPut p (m .write) j v → j < total p
-        → entryPage (apply p c m) j ≡ v
+    pub entryPage-here : EntryPagesPut p (m .write) j v → j < total p → entryPage (apply p c m) j ≡ v
     unfolding apply entryPage
-    entryPage-here e h =
-        let a = shape .entry-pages in let b = shape .size-high in let d = shape .clients-high in
-        within-here (p .«table_pages») _ (total p) j v e 0 h (omega arith)
+    entryPage-here e h = within-here (p .«table_pages») _ (total p) j v e 0 h (omega (arith, few-frames p shape, shape .entry-pages))
 
-    pub entryFrame-here : EntryFramesPut p (m .write) j v → j < total p
-        → entryFrame (apply p c m) j ≡ v
+    pub entryFrame-here : EntryFramesPut p (m .write) j v → j < total p → entryFrame (apply p c m) j ≡ v
     unfolding apply entryFrame
-    entryFrame-here e h =
-        let a = shape .entry-frames in let b = shape .size-high in let d = shape .clients-high in
-        within-here (p .«table_frames») _ (total p) j v e none h (omega arith)
+    entryFrame-here e h = within-here (p .«table_frames») _ (total p) j v e none h (omega (arith, few-frames p shape, shape .entry-frames))
 
 -- ---- past the part that the pool has
 

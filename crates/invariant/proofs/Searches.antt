@@ -19,20 +19,17 @@ use Rattle.pool.specs.declared.Client.{Client}
 use Rattle.laws.specs.Choices.{by-test, passed, scan-ind}
 use Rattle.laws.specs.Scans.{both-true, both-yes, either-false, scan-none, some-not, first-found, first-none}
 use Rattle.invariant.proofs.Reached.{Shape}
-use Rattle.invariant.proofs.After.{inside, slot-past, pins-past, entryFrame-past, entry-in, client-past}
+use Rattle.invariant.proofs.After.{few-frames, inside, slot-past, pins-past, entryFrame-past, entry-in, client-past}
 
 -- ---- the table
 
 module _ (p : Pool) (shape : Shape p) where
-  pub few-frames : total p ≤ 96
-  few-frames = let a = shape .size-high in let b = shape .clients-high in omega arith
-
   some-frames : 0 < total p
   some-frames = let a = shape .size-low in omega arith
 
   -- what is not a frame counts as evicted, so what is not evicted is a frame
   pub none-evicted : pins p none ≡ evicted
-  none-evicted = pins-past p none (omega (arith, few-frames))
+  none-evicted = pins-past p none (omega (arith, few-frames p shape))
 
   pub live-named : (f : ℕ) → pins p f ≢ evicted → f ≢ none
   live-named f live z = live (ap (pins p) z ∙ none-evicted)
@@ -56,7 +53,7 @@ module _ (p : Pool) (shape : Shape p) where
     lookup-found z = go (ℕ-discrete (entryOf p g) none)
       where
         go : Dec (entryOf p g ≡ none) → Found (entryOf p g) (entryFrame p (entryOf p g))
-        go (yes e) = absurd (z (ap (entryFrame p) e ∙ entryFrame-past p none (omega (arith, few-frames))))
+        go (yes e) = absurd (z (ap (entryFrame p) e ∙ entryFrame-past p none (omega (arith, few-frames p shape))))
         go (no e) = let r = entry-found e in record { place = r .0; entry-page = r .1; entry-frame = refl }
 
     -- one that finds none leaves no entry of the page
@@ -68,7 +65,7 @@ module _ (p : Pool) (shape : Shape p) where
         go (no n) = entry-found n .2 e
         go (yes n) =
             let t : maps p g i ≡ true = both-yes _ _ (eq-eqb _ _ q) (rw (ne-eqb (entryFrame p i) none z)) in
-            let f : maps p g i ≡ false = first-none (maps p g) (total p) (omega (arith, few-frames)) n i (entry-in p i z) in
+            let f : maps p g i ≡ false = first-none (maps p g) (total p) (omega (arith, few-frames p shape)) n i (entry-in p i z) in
             let c : _≡_ {A = Bool} true false = sym t ∙ f in
             let z : _≡_ {A = ℕ} 0 1 = cc in
             omega arith
@@ -89,7 +86,7 @@ module _ (p : Pool) (shape : Shape p) where
 
   pub unused-none : unusedEntry p ≡ none → (i : ℕ) → i < total p → entryFrame p i ≢ none
   unfolding unusedEntry
-  unused-none e i h = eqb-false _ _ (first-none (λ i. eqb (entryFrame p i) none) (total p) (omega (arith, few-frames)) e i h)
+  unused-none e i h = eqb-false _ _ (first-none (λ i. eqb (entryFrame p i) none) (total p) (omega (arith, few-frames p shape)) e i h)
 
 -- ---- grants
 

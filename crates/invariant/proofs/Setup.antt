@@ -17,9 +17,9 @@ use Rattle.pool.specs.declared.Client.{Client}
 use Rattle.laws.specs.Choices.{by-test}
 use Rattle.laws.specs.Scans.{both-true}
 use Rattle.invariant.proofs.Reached.{Shape, Reached, gone, one, mapped, claims, claimed, filling}
-use Rattle.invariant.proofs.After.{within-in, within-past}
+use Rattle.invariant.proofs.After.{few-frames, within-in, within-past}
 use Rattle.invariant.proofs.Sums.{sum-zero, sum-full}
-use Rattle.invariant.proofs.Searches.{few-frames, grantFrame-past}
+use Rattle.invariant.proofs.Searches.{grantFrame-past}
 use Rattle.invariant.proofs.Table.{suc-not, mapped-zero}
 use Rattle.invariant.proofs.Facts.{rest-claims}
 
