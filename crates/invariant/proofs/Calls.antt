@@ -24,8 +24,7 @@ use Rattle.invariant.proofs.Reached.{Reached}
 use Rattle.invariant.proofs.After.{shape-next}
 use Rattle.invariant.proofs.Flags.{differ}
 use Rattle.invariant.proofs.Allowed.{refusal-at}
-use Rattle.invariant.proofs.Edges.{Edge, on, found1, found18, lost2, lost22, pins2, pins19, gets3, gets21, takes, fills, swaps, gives-up, drops}
-use Rattle.invariant.proofs.Edges.{removes, admits, revives, evicts20, evicts23, begins, releases}
+use Rattle.invariant.proofs.Edges.{Edge}
 use Rattle.invariant.proofs.Steps.{call-edge}
 use Rattle.invariant.proofs.Effects.{Effect, effect}
 use Rattle.invariant.proofs.Ranges.{ranges-next}
@@ -52,31 +51,6 @@ reached-move p c m h r e =
       calm = calm-next p c r e x;
     }
 
--- no such move is stuck
-edge-answer : (p : Pool) (c : ℕ) {m : Move} → Edge p c m → refusalOf (m .answer) ≢ 8
-unfolding refusalOf
-edge-answer p c (on _ _ _ _) = differ 0 8 tt
-edge-answer p c (found1 _ _) = differ 0 8 tt
-edge-answer p c (found18 _ _) = differ 0 8 tt
-edge-answer p c (lost2 _ _) = differ 0 8 tt
-edge-answer p c (lost22 _ _) = differ 0 8 tt
-edge-answer p c (pins2 _ _) = differ 0 8 tt
-edge-answer p c (pins19 _ _) = differ 0 8 tt
-edge-answer p c (gets3 _) = differ 0 8 tt
-edge-answer p c (gets21 _) = differ 0 8 tt
-edge-answer p c (takes _ _) = differ 0 8 tt
-edge-answer p c (fills _ _) = differ 0 8 tt
-edge-answer p c (swaps _ _) = differ 0 8 tt
-edge-answer p c (gives-up _ _) = differ 15 8 tt
-edge-answer p c (drops _ _) = differ 0 8 tt
-edge-answer p c (removes _ _) = differ 0 8 tt
-edge-answer p c (admits _ _ _) = differ 0 8 tt
-edge-answer p c (revives _ _) = differ 0 8 tt
-edge-answer p c (evicts20 _) = differ 0 8 tt
-edge-answer p c (evicts23 _) = differ 0 8 tt
-edge-answer p c (begins _ _ _) = differ 0 8 tt
-edge-answer p c (releases _ _ _) = differ 0 8 tt
-
 -- ---- a call
 
 -- what a call leaves that is the move m of client c
@@ -85,7 +59,7 @@ did p c m = record { answer = m .answer; counted = m .counted; pool = apply p c 
 
 module _ (p : Pool) (x : Call) where
   pub never-stuck : Reached p → refusal p x ≡ 0 → refusalOf (moveOf p x .answer) ≢ 8
-  never-stuck r e = edge-answer p (caller x) (call-edge p x r e .1)
+  never-stuck r e = let w = call-edge p x r e in differ (refusalOf (moveOf p x .answer)) 8 (effect p (caller x) (w .0) r (w .1) .sound)
 
   reached-next : Reached p → refusal p x ≡ 0 → Reached (apply p (caller x) (moveOf p x))
   reached-next r e = let w = call-edge p x r e in reached-move p (caller x) (moveOf p x) (w .0) r (w .1)

@@ -7,6 +7,7 @@ use mathlib.Core.List.{List}
 use Prim.Native.Nat.{ℕ, suc, _+_, _-_, _≤_, _<_}
 use native.Mathlib.Omega.{arith}
 use lib.Dec.{T, eqb}
+use Rattle.pool.specs.Answers.{refusalOf}
 use Rattle.pool.specs.State.{none, evicted, pinned, clientCount, total, slot, page, pins, count, entryPage, entryFrame, client}
 use Rattle.pool.specs.Table.{entryOf, lookup}
 use Rattle.pool.specs.Frames.{referenced, freeFrame}
@@ -33,6 +34,10 @@ use Rattle.invariant.proofs.Flags.{differ, imp}
 use Rattle.invariant.proofs.Facts.{raised-ok, grant-live, found-live, one-more}
 use Rattle.invariant.proofs.Edges.{Quiet, keep, hand, counts, free, Edge, on, grants, found1, found18, lost2, lost22, pins2, pins19, gets3, gets21}
 use Rattle.invariant.proofs.Edges.{takes, fills, swaps, gives-up, drops, removes, admits, revives, evicts20, evicts23, begins, releases}
+
+-- the move is not stuck
+abbrev Sound : Move → Type 0
+Sound m = T (not (eqb (refusalOf (m .answer)) 8))
 
 -- a write keeps free, the last frame taken and the counts in their ranges
 pub data CountOk (p : Pool) (w : Write) : Type 0 where
@@ -112,6 +117,7 @@ module _ (p : Pool) (c : ℕ) (m : Move) where
     pub entries : EntryOk
     pub pages : PageOk
     pub written : Written p (m .write)
+    pub sound : Sound m
 
 -- ---- a quiet write leaves the lists
 
@@ -151,8 +157,8 @@ module _ (p : Pool) (c : ℕ) (here : c < clientCount p) (r : Reached p) where
   quiet-written (free h) = record { free-ok = h; last-ok = r .ranges .last-ok; count-ok = counts-stay refl }
 
   -- a quiet write: only the client changes
-  quietly : {m : Move} → Quiet p (m .write) → OwnOk p c m → FoundOk p c m → m .grants ≡ Same → m .next .held ≡ me .held → Effect p c m
-  quietly {m} w o f g h =
+  quietly : {m : Move} → Sound m → Quiet p (m .write) → OwnOk p c m → FoundOk p c m → m .grants ≡ Same → m .next .held ≡ me .held → Effect p c m
+  quietly {m} s w o f g h =
       record {
         here = here;
         reached = r;
@@ -165,13 +171,14 @@ module _ (p : Pool) (c : ℕ) (here : c < clientCount p) (r : Reached p) where
         entries = entries-stay (unseen _ _ w .entry-pages) (unseen _ _ w .entry-frames);
         pages = pages-stay (unseen _ _ w .pages);
         written = quiet-written w;
+        sound = s;
       }
 
   -- one frame's pins change, and no grant
-  pinning : {m : Move} (f x : ℕ) → m .write ≡ PutPins f x → f < total p → PinChange p c m f x → OwnOk p c m → m .next .found ≡ me .found
+  pinning : {m : Move} → Sound m → (f x : ℕ) → m .write ≡ PutPins f x → f < total p → PinChange p c m f x → OwnOk p c m → m .next .found ≡ me .found
       → Granting p c m → ((g y : ℕ) → m .grants ≡ Open (me .held) g y → Opened p c m g y) → Effect p c m
   unfolding slotsAfter pinsAfter entryPagesAfter entryFramesAfter pagesAfter freeAfter lastAfter countsAfter
-  pinning f x e h ch o fo g op =
+  pinning s f x e h ch o fo g op =
       record {
         here = here;
         reached = r;
@@ -184,13 +191,14 @@ module _ (p : Pool) (c : ℕ) (here : c < clientCount p) (r : Reached p) where
         entries = entries-stay (rw e refl) (rw e refl);
         pages = pages-stay (rw e refl);
         written = unwritten (rw e refl) (rw e refl) (rw e refl);
+        sound = s;
       }
 
   -- the own frame goes into a slot
-  placing : {m : Move} (i : ℕ) → m .write ≡ PutSlot i (me .own) → SlotOk p c m → OwnOk p c m → m .next .found ≡ me .found
+  placing : {m : Move} → Sound m → (i : ℕ) → m .write ≡ PutSlot i (me .own) → SlotOk p c m → OwnOk p c m → m .next .found ≡ me .found
       → m .grants ≡ Same → m .next .held ≡ me .held → Effect p c m
   unfolding slotsAfter pinsAfter entryPagesAfter entryFramesAfter pagesAfter freeAfter lastAfter countsAfter
-  placing i e s o f g h =
+  placing so i e s o f g h =
       record {
         here = here;
         reached = r;
@@ -203,13 +211,14 @@ module _ (p : Pool) (c : ℕ) (here : c < clientCount p) (r : Reached p) where
         entries = entries-stay (rw e refl) (rw e refl);
         pages = pages-stay (rw e refl);
         written = unwritten (rw e refl) (rw e refl) (rw e refl);
+        sound = so;
       }
 
   -- one entry of the table changes
-  entering : {m : Move} (i g f : ℕ) → m .write ≡ PutEntry i g f → EntryOk p c m → OwnOk p c m → FoundOk p c m → Granting p c m
+  entering : {m : Move} → Sound m → (i g f : ℕ) → m .write ≡ PutEntry i g f → EntryOk p c m → OwnOk p c m → FoundOk p c m → Granting p c m
       → ((g y : ℕ) → m .grants ≡ Open (me .held) g y → Opened p c m g y) → Effect p c m
   unfolding slotsAfter pinsAfter pagesAfter freeAfter lastAfter countsAfter
-  entering i g f e en o fo gr op =
+  entering s i g f e en o fo gr op =
       record {
         here = here;
         reached = r;
@@ -222,6 +231,7 @@ module _ (p : Pool) (c : ℕ) (here : c < clientCount p) (r : Reached p) where
         entries = en;
         pages = pages-stay (rw e refl);
         written = unwritten (rw e refl) (rw e refl) (rw e refl);
+        sound = s;
       }
 
   -- what a look-up finds
@@ -235,9 +245,10 @@ module _ (p : Pool) (c : ℕ) (here : c < clientCount p) (r : Reached p) where
   -- one more pin for the found frame
   pins-found : (i j : ℕ) → client p c .stage ≡ i → T (not (eqb i 0)) → T (not (pinsFound i)) → T (imp (unplaced j) (unplaced i))
       → me .found ≢ none → pins p (me .found) ≢ evicted → Effect p c (works me j (PutPins (me .found) (pins p (me .found) + 1)))
+  unfolding refusalOf
   pins-found i j e w t u z l =
       let few : pins p (me .found) < pinned 128 = one-more p r c here (λ s. differ i 0 w (sym e ∙ s)) (rw e t) z l in
-      pinning (me .found) _ refl (r .ranges .found-ok c z) (adds l refl (omega arith)) (kept refl (rw e u)) refl (keeps refl refl)
+      pinning tt (me .found) _ refl (r .ranges .found-ok c z) (adds l refl (omega arith)) (kept refl (rw e u)) refl (keeps refl refl)
       (λ _ _ x. no-open x)
 
   -- a working client holds fewer than 8
@@ -247,7 +258,7 @@ module _ (p : Pool) (c : ℕ) (here : c < clientCount p) (r : Reached p) where
   gets-found : (i : ℕ) (u : Counted) → client p c .stage ≡ i → T (not (eqb i 0)) → T (pinsFound i) → me .found ≢ none
       → (pins p (me .found) ≢ evicted → mapped p (me .found) ≡ suc (me .page))
       → Effect p c (grants me (me .found) (PutCount (me .found) (raised (p .cap) (count p (me .found)))) u)
-  unfolding slotsAfter pinsAfter entryPagesAfter entryFramesAfter pagesAfter freeAfter lastAfter countsAfter
+  unfolding slotsAfter pinsAfter entryPagesAfter entryFramesAfter pagesAfter freeAfter lastAfter countsAfter refusalOf
   gets-found i u e w t z live =
       let two = found-live p r c (rw e t) z in
       record {
@@ -263,27 +274,30 @@ module _ (p : Pool) (c : ℕ) (here : c < clientCount p) (r : Reached p) where
         entries = entries-stay refl refl;
         pages = pages-stay refl;
         written = quiet-written (counts (raised-ok _ _ (r .ranges .count-ok (me .found))));
+        sound = tt;
       }
 
   -- the page is mapped to the own frame, which is granted
   gets-own : (i n : ℕ) (u : Counted) → client p c .stage ≡ i → T (not (eqb i 0)) → n < total p → me .own ≢ none
       → EntryOk p c (grants me (me .own) (PutEntry n (me .page) (me .own)) u) → Effect p c (grants me (me .own) (PutEntry n (me .page) (me .own)) u)
+  unfolding refusalOf
   gets-own i n u e w h z en =
-      entering n (me .page) (me .own) refl en (forgot refl) (lost refl) (opens (me .page) (me .own) refl refl (few i e w))
+      entering tt n (me .page) (me .own) refl en (forgot refl) (lost refl) (opens (me .page) (me .own) refl refl (few i e w))
       (λ g f x. let a : g ≡ me .page = cc in let b : f ≡ me .own = cc in of-own n b (λ y. z (sym b ∙ y)) refl (rw (a, b) refl) h)
 
   evicts-own : (j : ℕ) → me .own ≢ none → Effect p c (works (withOwn me none) j (PutPins (me .own) evicted))
+  unfolding refusalOf
   evicts-own j z =
-      pinning (me .own) evicted refl (r .ranges .own-ok c z) (drops-own refl refl) (forgot refl) refl (keeps refl refl)
+      pinning tt (me .own) evicted refl (r .ranges .own-ok c z) (drops-own refl refl) (forgot refl) refl (keeps refl refl)
       (λ _ _ x. no-open x)
 
   pub effect : {m : Move} → Edge p c m → Effect p c m
-  unfolding slotsAfter pinsAfter entryPagesAfter entryFramesAfter pagesAfter freeAfter lastAfter countsAfter
-  effect (on n j w h) = quietly (h .quiet) (kept (h .same .own) (h .stages .from-unplaced)) (found-stays (h .same .found)) refl (h .same .held)
-  effect (found1 e z) = let l = looking (me .page) z in quietly keep (kept refl tt) (looked (l .0) (l .1)) refl refl
-  effect (found18 e z) = let l = looking (me .page) z in quietly keep (kept refl tt) (looked (l .0) (l .1)) refl refl
-  effect (lost2 e d) = quietly keep (kept refl tt) (lost refl) refl refl
-  effect (lost22 e _) = quietly keep (kept refl tt) (lost refl) refl refl
+  unfolding slotsAfter pinsAfter entryPagesAfter entryFramesAfter pagesAfter freeAfter lastAfter countsAfter refusalOf
+  effect (on n j w h) = quietly tt (h .quiet) (kept (h .same .own) (h .stages .from-unplaced)) (found-stays (h .same .found)) refl (h .same .held)
+  effect (found1 e z) = let l = looking (me .page) z in quietly tt keep (kept refl tt) (looked (l .0) (l .1)) refl refl
+  effect (found18 e z) = let l = looking (me .page) z in quietly tt keep (kept refl tt) (looked (l .0) (l .1)) refl refl
+  effect (lost2 e d) = quietly tt keep (kept refl tt) (lost refl) refl refl
+  effect (lost22 e _) = quietly tt keep (kept refl tt) (lost refl) refl refl
   effect (pins2 e l) = pins-found 2 3 e tt tt tt (kn 2 e .0) l
   effect (pins19 e l) = pins-found 19 20 e tt tt tt (kn 19 e .1 .0) l
   effect (gets3 e) = gets-found 3 Hit e tt tt (kn 3 e .0) (kn 3 e .1)
@@ -302,20 +316,21 @@ module _ (p : Pool) (c : ℕ) (here : c < clientCount p) (r : Reached p) where
         entries = entries-stay refl refl;
         pages = paged (freeFrame p) (f .1) refl;
         written = record { free-ok = r .ranges .free-ok; last-ok = inr (f .0); count-ok = counts-put _ 1 refl (r .shape .cap-low) };
+        sound = tt;
       }
-  effect (fills e s) = placing (me .place) refl (puts (me .place) refl (r .ranges .place-ok c) (rw e tt) tt (kn 8 e) (inl s)) (kept refl tt) refl refl refl
+  effect (fills e s) = placing tt (me .place) refl (puts (me .place) refl (r .ranges .place-ok c) (rw e tt) tt (kn 8 e) (inl s)) (kept refl tt) refl refl refl
   effect (swaps e s) =
-      placing (me .place) refl (puts (me .place) refl (r .ranges .place-ok c) (rw e tt) tt (kn 15 e .0) (inr (s, kn 15 e .1 .1, tt, refl)))
+      placing tt (me .place) refl (puts (me .place) refl (r .ranges .place-ok c) (rw e tt) tt (kn 15 e .0) (inr (s, kn 15 e .1 .1, tt, refl)))
       (kept refl tt) refl refl refl
-  effect (gives-up v _) = quietly keep (forgot refl) (lost refl) refl refl
+  effect (gives-up v _) = quietly tt keep (forgot refl) (lost refl) refl refl
   effect (drops e h) =
       let z = kn 14 e .1 .0 in
-      pinning (me .victim) evicted refl (r .ranges .victim-ok c z) (drops-victim refl h refl e refl refl refl) (kept refl (rw e tt)) refl
+      pinning tt (me .victim) evicted refl (r .ranges .victim-ok c z) (drops-victim refl h refl e refl refl refl) (kept refl (rw e tt)) refl
       (keeps refl refl) (λ _ _ x. no-open x)
   effect (removes e h) =
       let z = kn 17 e .1 .0 in
       let f = lookup-found p (r .shape) (page p (me .victim)) (λ w. z (sym h ∙ w)) in
-      entering _ _ none refl (unmaps _ _ refl (f .place) (f .entry-frame ∙ h) (kn 17 e .1 .1)) (kept refl tt) (found-stays refl) (keeps refl refl)
+      entering tt _ _ none refl (unmaps _ _ refl (f .place) (f .entry-frame ∙ h) (kn 17 e .1 .1)) (kept refl tt) (found-stays refl) (keeps refl refl)
       (λ _ _ x. no-open x)
   effect (admits e l u) =
       let f = unused-found p (r .shape) u in
@@ -330,10 +345,10 @@ module _ (p : Pool) (c : ℕ) (here : c < clientCount p) (r : Reached p) where
       (λ j q y w. q (r .outline .pages-apart j (entryOf p (me .page)) y (λ x. z (sym n ∙ x)) (w ∙ sym (f .entry-page)))))
   effect (evicts20 e) = evicts-own 21 (kn 20 e .0 .0)
   effect (evicts23 e) = evicts-own 4 (kn 23 e .0)
-  effect (begins g e h) = quietly keep (kept refl tt) (found-stays refl) refl refl
+  effect (begins g e h) = quietly tt keep (kept refl tt) (found-stays refl) refl refl
   effect (releases g e z) =
       let i : ℕ = grantOf p c g in
       let h = grantOf-found p c g z .0 in
       let n = r .outline .grant-named c i h in
-      pinning _ _ refl (r .ranges .grant-ok c i n) (lowers (grant-live p r c i n) refl) (kept refl (rw e tt)) refl (ends i refl refl h)
+      pinning tt _ _ refl (r .ranges .grant-ok c i n) (lowers (grant-live p r c i n) refl) (kept refl (rw e tt)) refl (ends i refl refl h)
       (λ _ _ x. ends-no-open x)
