@@ -19,12 +19,13 @@ use Rattle.pool.specs.declared.Call.{Call}
 use Rattle.pool.specs.declared.Call.the-variants.{Begin, Step, Release}
 use Rattle.pool.specs.declared.Answer.the-variants.{Done, Refused}
 use Rattle.invariant.proofs.Reached.{Reached}
+use Rattle.invariant.proofs.Allowed.{allowed, only-step}
 use Rattle.invariant.proofs.Calls.{reached-call}
 use Rattle.guarantee.specs.Runs.{Event, happens, events, At, Begins}
 use Rattle.guarantee.specs.Claims.{AllHeld, AnswersTo, TurnedDown, RefusedAlone}
-use Rattle.guarantee.proofs.Turned.{same-pool, other-answer, other-call, turned, down, by-move, went, allowed, only-step}
-use Rattle.guarantee.proofs.Seen.{rest-unanswered}
-use Rattle.guarantee.proofs.Steps.{begun-is, begun-rests, begun-on}
+use Rattle.guarantee.proofs.Turned.{same-pool, other-answer, other-call, turned, down, by-move, went}
+use Rattle.guarantee.proofs.OneClient.{rest-unanswered}
+use Rattle.guarantee.proofs.SoloSteps.{begun-is, begun-rests, begun-on}
 use Rattle.guarantee.proofs.Base.{Base, base-still, pins-still}
 use Rattle.guarantee.proofs.Path.{Full, Path, at1, Next, goes-on, granted, refused, next, Works, working}
 

@@ -1,23 +1,21 @@
--- What stays as it was at a begin while its client runs alone: slots, look-up, and the pins of the frames in slots, under every write that they do
--- not see. Assumes nothing.
-use mathlib.Core.Path.{_≡_, refl, sym, ap, subst, _∙_}
+-- What stays as it was at a begin while its client runs alone and has written nothing that shows: slots, look-up, and the pins of the frames in slots.
+-- Every silent write leaves them, and emptying an entry leaves an absent page absent. Assumes nothing.
+use mathlib.Core.Path.{_≡_, sym, ap, subst, _∙_}
 use mathlib.Core.Logic.{_≢_}
-use mathlib.Core.Bool.{Bool, true, false}
-use mathlib.Core.List.{List, []}
+use mathlib.Core.List.{[]}
 use Prim.Native.Nat.{ℕ, _<_}
 use native.Mathlib.Decide.{ℕ-discrete}
 use lib.Dec.{T}
 use Rattle.pool.specs.State.{none, total, slot, pins, entryFrame}
 use Rattle.pool.specs.Table.{entryOf, lookup}
-use Rattle.pool.specs.Apply.{stored, slotsAfter, pinsAfter, entryPagesAfter, entryFramesAfter, apply}
+use Rattle.pool.specs.Apply.{stored, entryPagesAfter, entryFramesAfter, apply}
 use Rattle.pool.specs.declared.Pool.{Pool}
 use Rattle.pool.specs.declared.Move.{Move}
-use Rattle.pool.specs.declared.Write.{Write}
-use Rattle.pool.specs.declared.Write.the-variants.{Keep, PutSlot, PutPins, PutCount, TakeFrame, PutEntry, PutHand, PutFree}
+use Rattle.pool.specs.declared.Write.the-variants.{PutEntry}
 use Rattle.invariant.proofs.Reached.{Reached}
 use Rattle.invariant.proofs.After.{shape-next, slot-kept, pins-kept, entryPage-else, entryFrame-here, entryFrame-else}
+use Rattle.invariant.proofs.Writes.{silent, untouched, lookup-kept}
 use Rattle.invariant.proofs.Searches.{lookup-found, lookup-none}
-use Rattle.guarantee.proofs.Solo.{keepsTable, lookup-kept}
 
 -- ---- what stays as it was at the begin
 
@@ -27,46 +25,21 @@ pub record Base (p₀ p : Pool) (g : ℕ) : Type 0 where
   pub size : p .size ≡ p₀ .size
   pub pins : (i : ℕ) → pins p (slot p₀ i) ≡ pins p₀ (slot p₀ i)
 
--- a write that the slots, the pins and the table do not see
-abbrev pub still : Write → Bool
-still Keep = true
-still (PutSlot i f) = false
-still (PutPins f x) = false
-still (PutCount f x) = true
-still (TakeFrame f g x y) = false
-still (PutEntry i g f) = false
-still (PutHand h) = true
-still (PutFree x) = true
+-- ---- a write that slots, pins and table do not see
 
-pub record Still (n : ℕ) (l : List ℕ) (w : Write) : Type 0 where
-  pub slots : slotsAfter n l w ≡ l
-  pub pins : pinsAfter n l w ≡ l
-  pub table : T (keepsTable w)
-
-pub is-still : (n : ℕ) (l : List ℕ) (w : Write) → T (still w) → Still n l w
-unfolding slotsAfter pinsAfter
-is-still n l Keep t = record { slots = refl; pins = refl; table = tt }
-is-still n l (PutCount f x) t = record { slots = refl; pins = refl; table = tt }
-is-still n l (PutHand h) t = record { slots = refl; pins = refl; table = tt }
-is-still n l (PutFree x) t = record { slots = refl; pins = refl; table = tt }
-is-still n l (PutSlot i f) t = absurd t
-is-still n l (PutPins f x) t = absurd t
-is-still n l (TakeFrame f g x y) t = absurd t
-is-still n l (PutEntry i g f) t = absurd t
-
-module _ (p : Pool) (c : ℕ) (m : Move) (r : Reached p) (t : T (still (m .write))) where
+module _ (p : Pool) (c : ℕ) (m : Move) (r : Reached p) (t : T (silent (m .write))) where
   pub slot-still : (i : ℕ) → slot (apply p c m) i ≡ slot p i
-  slot-still = slot-kept p c m (r .shape) (is-still _ _ (m .write) t .slots)
+  slot-still = slot-kept p c m (untouched _ _ (m .write) t .slots)
 
   pub pins-still : (f : ℕ) → pins (apply p c m) f ≡ pins p f
-  pins-still = pins-kept p c m (r .shape) (is-still _ _ (m .write) t .pins)
+  pins-still = pins-kept p c m (untouched _ _ (m .write) t .pins)
 
   pub base-still : {p₀ : Pool} {g : ℕ} → Base p₀ p g → Base p₀ (apply p c m) g
   unfolding apply
   base-still {g = g} h =
       record {
         slots = λ i. slot-still i ∙ h .slots i;
-        looked = lookup-kept p c m (is-still 0 [] (m .write) t .table) g ∙ h .looked;
+        looked = lookup-kept p c m (untouched 0 [] (m .write) t .table) g ∙ h .looked;
         size = h .size;
         pins = λ i. pins-still _ ∙ h .pins i;
       }
@@ -89,5 +62,5 @@ emptied p c i x m e r g a = elim (ℕ-discrete (lookup q g) none) [ yes n ↦ n 
     by z (no n) =
         let f = lookup-found q (shape-next p c m (r .shape)) g z in
         lookup-none p (r .shape) g a (entryOf q g)
-        (λ w. z (sym (f .entry-frame) ∙ (entryFrame-else p c m (r .shape) i none frames (entryOf q g) n ∙ w)))
-        (sym (entryPage-else p c m (r .shape) i x (ap (entryPagesAfter (total p) (p .«table_pages»)) e) (entryOf q g) n) ∙ f .entry-page)
+        (λ w. z (sym (f .entry-frame) ∙ (entryFrame-else p c m i none frames (entryOf q g) n ∙ w)))
+        (sym (entryPage-else p c m i x (ap (entryPagesAfter (total p) (p .«table_pages»)) e) (entryOf q g) n) ∙ f .entry-page)

@@ -4,32 +4,31 @@ use mathlib.Core.Path.{_≡_, refl, sym, ap, _∙_}
 use mathlib.Core.Logic.{_≢_}
 use mathlib.Core.Bool.{Bool, true, false, true≢false}
 use mathlib.Core.List.{List, [], _∷_}
-use Prim.Native.Nat.{ℕ, zero, suc, _<_}
+use Prim.Native.Nat.{ℕ, zero, suc}
 use native.Mathlib.Omega.{arith}
 use lib.Dec.{eqb}
 use lib.ListN.{getD}
 use lib.Seq.{getD-set-other}
-use borrow.Author.Tests.{eqb-true}
-use Rattle.pool.specs.State.{none, evicted, clientCount, slot, pins, client, grantPage, grantFrame}
+use Rattle.pool.specs.State.{none, evicted, slot, pins, client, grantPage, grantFrame}
 use Rattle.pool.specs.Grants.{holds, held}
 use Rattle.pool.specs.Calls.{callOf}
 use Rattle.pool.specs.declared.Pool.{Pool}
 use Rattle.pool.specs.declared.Call.{Call}
 use Rattle.pool.specs.declared.Answer.{Answer}
-use Rattle.laws.specs.Scans.{some-true}
 use Rattle.invariant.proofs.Reached.{Reached, one}
 use Rattle.invariant.proofs.Sums.{one-is, sum-has}
 use Rattle.invariant.proofs.Facts.{grant-live}
+use Rattle.invariant.proofs.Grants.{grantsOf}
 use Rattle.invariant.proofs.Calls.{reached-call}
 use Rattle.guarantee.specs.Runs.{At, Throughout, events}
 use Rattle.guarantee.specs.Sequential as Plain
-use Rattle.guarantee.specs.Sequential.{Place, Taker, Sequential, taker, member, Keeps, StepRule, adds, admits, drops, answers, moves, refuses, Rule, turns, begins, releases, steps}
+use Rattle.guarantee.specs.Sequential.{Place, Taker, Sequential, taker, member, Keeps, StepRule, adds, admits, drops, answers, moves, refuses, Rule}
+use Rattle.guarantee.specs.Sequential.{turns, begins, releases, steps}
 use Rattle.guarantee.specs.Claims.{OneCopy, HeldPinned, NoHeldEvicted}
-use Rattle.guarantee.proofs.Mirror.{Shows, is-member, grantsOf, Mirrors, view, mirrors-view}
-use Rattle.guarantee.proofs.Follow.{Followed}
-use Rattle.guarantee.proofs.Frames.{same-frame}
-use Rattle.guarantee.proofs.Places.{there, shows}
-use Rattle.guarantee.proofs.Sequence.{followed}
+use Rattle.guarantee.proofs.Mirror.{Shows, is-member, Mirrors, view, mirrors-view}
+use Rattle.guarantee.proofs.Follow.{Followed, followed}
+use Rattle.guarantee.proofs.Frames.{same-frame, Grant, held-grant, held-pinned}
+use Rattle.guarantee.proofs.Pages.{there, shows}
 
 -- what holds of every reached pool holds throughout a run
 pub throughout : (P : Pool → Type 0) → ((p : Pool) → Reached p → P p) → (p : Pool) (calls : List Call) → Reached p → Throughout P p calls
@@ -37,30 +36,11 @@ unfolding Throughout
 throughout P h p [] r = h p r
 throughout P h p (x ∷ calls) r = (h p r, throughout P h (callOf p x .pool) calls (reached-call p x r))
 
-pub one-copy : (p : Pool) → Reached p → OneCopy p
+one-copy : (p : Pool) → Reached p → OneCopy p
 one-copy p r c d i j a b e =
     let u = r .outline .grant-named c i a in
     let v = r .outline .grant-named d j b in
     same-frame p r (grantFrame p c i) (grantFrame p d j) (grantPage p d j) u v (r .outline .granted c i u ∙ ap suc e) (r .outline .granted d j v)
-
--- a held frame has a grant
-record Grant (p : Pool) (f : ℕ) : Type 0 where
-  client-of : ℕ
-  place : ℕ
-  inside : place < client p client-of .held
-  names : grantFrame p client-of place ≡ f
-
-held-grant : (p : Pool) (f : ℕ) → held p f ≡ true → Grant p f
-unfolding held holds
-held-grant p f h =
-    let c = some-true (holds p f) (clientCount p) h in
-    let i = some-true (λ j. eqb (grantFrame p (c .0) j) f) (client p (c .0) .held) (c .2) in
-    record { client-of = c .0; place = i .0; inside = i .1; names = eqb-true _ _ (i .2) }
-
-pub held-pinned : (p : Pool) → Reached p → HeldPinned p
-held-pinned p r f h =
-    let g = held-grant p f h in
-    rw (g .names) at (grant-live p r (g .client-of) (g .place) (r .outline .grant-named (g .client-of) (g .place) (g .inside)))
 
 -- ---- a page with a grant stays
 

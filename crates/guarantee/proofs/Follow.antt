@@ -1,5 +1,5 @@
--- A call of the pool is one of the sequential pool that mirrors it, with the same answer; so the sequential pool can follow every list of
--- calls. Assumes nothing.
+-- A call of the pool is one of the sequential pool that mirrors it, with the same answer. Both turn the same calls down, as stages, page wanted and
+-- numbers of grants are alike; a begin and a release change the client alone; and a step is a step there (`SimulateMoves`). Assumes nothing.
 use mathlib.Core.Path.{_≡_, refl, sym, ap, _∙_}
 use mathlib.Core.Logic.{_≢_, inl}
 use mathlib.Core.Bool.{Bool, true, false}
@@ -8,21 +8,19 @@ use native.Mathlib.Decide.{ℕ-discrete}
 use native.Mathlib.Omega.{arith}
 use lib.Dec.{eqb, ltb}
 use lib.ListN.{length}
-use borrow.Author.Tests.{eqb-true, eq-eqb, ne-eqb, ltb-true}
+use borrow.Author.Tests.{eqb-true, eq-eqb, ne-eqb}
 use Rattle.pool.specs.Choose.{choose}
 use Rattle.pool.specs.State.{none, evicted, pinned, clientCount, pins, client, grantPage, grantFrame}
 use Rattle.pool.specs.Grants.{grantOf}
 use Rattle.pool.specs.Moves.{holding, completes}
 use Rattle.pool.specs.Apply.{apply}
-use Rattle.pool.specs.Valid.{valid}
-use Rattle.pool.specs.Calls.{turnedDown, caller, refusalAt, refusal, beginMove, releaseMove, moveOf}
+use Rattle.pool.specs.Calls.{turnedDown, caller, refusalAt, refusal, beginMove, releaseMove, moveOf, callOf}
 use Rattle.pool.specs.declared.Pool.{Pool}
 use Rattle.pool.specs.declared.Client.{Client}
 use Rattle.pool.specs.declared.Call.{Call}
 use Rattle.pool.specs.declared.Call.the-variants.{Begin, Step, Release}
 use Rattle.pool.specs.declared.Move.{Move}
 use Rattle.pool.specs.declared.Outcome.{Outcome}
-use Rattle.pool.specs.declared.Answer.the-variants.{Refused}
 use Rattle.pool.specs.declared.GrantChange.the-variants.{End}
 use Rattle.pool.specs.declared.Write.the-variants.{PutPins}
 use Rattle.laws.specs.Choices.{by-test, chosen, passed}
@@ -32,15 +30,20 @@ use Rattle.invariant.proofs.After.{pins-in}
 use Rattle.invariant.proofs.Sums.{sum-zero, sum-has}
 use Rattle.invariant.proofs.Searches.{grantOf-found}
 use Rattle.invariant.proofs.Facts.{grant-live}
-use Rattle.invariant.proofs.Grants.{keeps, ends}
+use Rattle.invariant.proofs.Grants.{grantsOf, keeps, ends, grantsOf-keeps, grantsOf-ends}
+use Rattle.invariant.proofs.Valid.{valid-reached}
+use Rattle.invariant.proofs.Allowed.{Allowed, allowed, may-begin, may-step, may-release}
+use Rattle.invariant.proofs.Edges.{Edge}
+use Rattle.invariant.proofs.Steps.{call-edge}
+use Rattle.invariant.proofs.Calls.{did, call-moves, call-turned}
 use Rattle.guarantee.specs.Sequential.{Taker, Sequential, taker, member, without, turnedBy, Rule, turns, begins, releases, steps}
-use Rattle.guarantee.proofs.Mirror.{times, not-member, is-member, without-times, without-length, grantsOf, Mirrors, open-many, open-grants}
-use Rattle.guarantee.proofs.Pages.{pages-kept, pages-fewer}
+use Rattle.guarantee.proofs.Turned.{moved}
+use Rattle.guarantee.proofs.Mirror.{times, not-member, is-member, without-times, without-length, Mirrors, open-many, open-grants}
 use Rattle.guarantee.proofs.Weights.{Weighs}
 use Rattle.guarantee.proofs.Shown.{as-was, pins-put}
-use Rattle.guarantee.proofs.Simulate.{Stepped, goes, stops, Acting, same-places}
+use Rattle.guarantee.proofs.Simulate.{Acting, same-places}
 use Rattle.guarantee.proofs.Takers.{rests}
-use Rattle.guarantee.proofs.SimulateStages.{step-simulated}
+use Rattle.guarantee.proofs.SimulateMoves.{simulated}
 
 -- what a call leaves is what a rule of the sequential pool leaves
 pub record Followed (q : Sequential) (x : Call) (o : Outcome) : Type 0 where
@@ -49,20 +52,10 @@ pub record Followed (q : Sequential) (x : Call) (o : Outcome) : Type 0 where
   pub weighs : Weighs (o .counted) (q .places) (state .places)
   pub mirrors : Mirrors (o .pool) state
 
--- the action of a call, done
-abbrev pub done : Pool → Call → Outcome
-done p x = let m = moveOf p x in record { answer = m .answer; counted = m .counted; pool = apply p (caller x) m }
-
 choose-alike : {A : Type 0} (t : Bool) {x y v w : A} → (t ≡ true → x ≡ v) → (t ≡ false → y ≡ w) → choose t x y ≡ choose t v w
 unfolding choose
 choose-alike true a b = a refl
 choose-alike false a b = b refl
-
--- a number that is chosen by a test, and is 0
-zero-chosen : (t : Bool) (a b : ℕ) → b ≢ 0 → choose t a b ≡ 0 → (t ≡ true) × (a ≡ 0)
-unfolding choose
-zero-chosen true a b z e = (refl, e)
-zero-chosen false a b z e = absurd (z e)
 
 module _ {p : Pool} {q : Sequential} (r : Reached p) (mirror : Mirrors p q) where
   -- ---- both turn the same calls down
@@ -81,19 +74,19 @@ module _ {p : Pool} {q : Sequential} (r : Reached p) (mirror : Mirrors p q) wher
       let h = sum-has (λ i. one (eqb (grantPage p c i) g)) (client p c .held) (grantOf p c g) (f .0) in
       omega (arith, ap one (eq-eqb _ _ (f .1)))
 
-  pub turned-alike : valid p ≡ true → (x : Call) → refusal p x ≡ turnedBy q x
+  turned-alike : (x : Call) → refusal p x ≡ turnedBy q x
   unfolding refusal refusalAt caller turnedBy
-  turned-alike v (Begin c g) =
-      chosen _ _ _ v
+  turned-alike (Begin c g) =
+      chosen _ _ _ (valid-reached p r)
       ∙ rw (mirror .count, mirror .takers c .stage)
       (choose-alike (ltb c (clientCount p))
       (λ _. choose-alike (eqb (client p c .stage) 0) (λ s. full (eqb-true _ _ s)) (λ _. refl)) (λ _. refl))
     where
       full : client p c .stage ≡ 0 → _≡_ {A = ℕ} (choose (ltb (client p c .held) 8) 0 12) (choose (ltb (length (taker q c .grants)) 8) 0 12)
       full s = rw (open-many (mirror .takers c) (rw s refl)) refl
-  turned-alike v (Step c) = chosen _ _ _ v ∙ rw (mirror .count, mirror .takers c .stage) refl
-  turned-alike v (Release c g) =
-      chosen _ _ _ v
+  turned-alike (Step c) = chosen _ _ _ (valid-reached p r) ∙ rw (mirror .count, mirror .takers c .stage) refl
+  turned-alike (Release c g) =
+      chosen _ _ _ (valid-reached p r)
       ∙ rw (mirror .count, mirror .takers c .stage)
       (choose-alike (ltb c (clientCount p))
       (λ _. choose-alike (eqb (client p c .stage) 0) (λ s. asked (eqb-true _ _ s) (ℕ-discrete (grantOf p c g) none)) (λ _. refl)) (λ _. refl))
@@ -105,7 +98,7 @@ module _ {p : Pool} {q : Sequential} (r : Reached p) (mirror : Mirrors p q) wher
           passed _ _ _ (ne-eqb _ _ z)
           ∙ sym (chosen _ _ _ (is-member g _ (λ w. omega (arith, open-grants (mirror .takers c) (rw s refl) g, some-grant c g z))))
 
-  pub turned : (x : Call) (n : ℕ) → turnedBy q x ≡ n → n ≢ 0 → Followed q x (turnedDown n p)
+  turned : (x : Call) (n : ℕ) → turnedBy q x ≡ n → n ≢ 0 → Followed q x (turnedDown n p)
   turned x n e z = record { state = q; rule = turns e z; weighs = refl; mirrors = mirror }
 
   -- ---- and make the same moves
@@ -123,7 +116,7 @@ module _ {p : Pool} {q : Sequential} (r : Reached p) (mirror : Mirrors p q) wher
     abbrev few : (d : ℕ) → client p d .held ≤ 8
     few = r .ranges .held-ok
 
-    begun : (g : ℕ) → turnedBy q (Begin c g) ≡ 0 → k .stage ≡ 0 → Followed q (Begin c g) (done p (Begin c g))
+    begun : (g : ℕ) → turnedBy q (Begin c g) ≡ 0 → k .stage ≡ 0 → Followed q (Begin c g) (moved p (Begin c g))
     unfolding moveOf caller
     begun g e s =
         record {
@@ -136,26 +129,21 @@ module _ {p : Pool} {q : Sequential} (r : Reached p) (mirror : Mirrors p q) wher
                 stage = refl;
                 wants = λ _. refl;
                 many = open-many (mirror .takers c) (rw s refl) ∙ omega arith;
-                grants = λ h. open-grants (mirror .takers c) (rw s refl) h ∙ (sym (pages-kept p c m (r .shape) here few refl refl h) ∙ omega arith);
+                grants = λ h. open-grants (mirror .takers c) (rw s refl) h ∙ (sym (grantsOf-keeps p c m (r .shape) here few refl refl h) ∙ omega arith);
               }) (as-was p c m r tt);
         }
       where
         m : Move
         m = beginMove k g
 
-    stepped : turnedBy q (Step c) ≡ 0 → k .stage ≢ 0 → moveOf p (Step c) .answer ≢ Refused 8 → Followed q (Step c) (done p (Step c))
-    unfolding moveOf caller
-    stepped e busy sound = go (step-simulated acting busy)
-      where
-        go : Stepped p c q (moveOf p (Step c)) → Followed q (Step c) (done p (Step c))
-        go (goes s) = record { state = _; rule = steps e (s .rule); weighs = s .weighs; mirrors = s .mirrors }
-        go (stops n) = absurd (sound n)
+    stepped : turnedBy q (Step c) ≡ 0 → k .stage ≢ 0 → Edge p c (moveOf p (Step c)) → Followed q (Step c) (moved p (Step c))
+    unfolding caller
+    stepped e busy w = let s = simulated acting busy w in record { state = _; rule = steps e (s .rule); weighs = s .weighs; mirrors = s .mirrors }
 
     -- the last grant goes to the place of the one that ends
-    released : (g : ℕ) → turnedBy q (Release c g) ≡ 0 → k .stage ≡ 0 → grantOf p c g ≢ none → moveOf p (Release c g) .answer ≢ Refused 8
-        → Followed q (Release c g) (done p (Release c g))
+    released : (g : ℕ) → turnedBy q (Release c g) ≡ 0 → k .stage ≡ 0 → grantOf p c g ≢ none → Followed q (Release c g) (moved p (Release c g))
     unfolding moveOf caller releaseMove
-    released g e s z = by-test Ends (λ _ sound. absurd (sound refl)) (λ _ _. ended)
+    released g e s z = by-test Ends (λ t. absurd (omega (arith, two, eqb-true n evicted t))) (λ _. ended)
       where
         i : ℕ
         i = grantOf p c g
@@ -167,7 +155,7 @@ module _ {p : Pool} {q : Sequential} (r : Reached p) (mirror : Mirrors p q) wher
         n = pins p f
 
         Ends : Move → Type 0
-        Ends m = m .answer ≢ Refused 8 → Followed q (Release c g) (record { answer = m .answer; counted = m .counted; pool = apply p c m })
+        Ends m = Followed q (Release c g) (did p c m)
 
         m : Move
         m = completes g (holding k (k .held - 1)) (End i (k .held - 1)) (PutPins f (n - 1))
@@ -183,10 +171,10 @@ module _ {p : Pool} {q : Sequential} (r : Reached p) (mirror : Mirrors p q) wher
 
         fewer : (h : ℕ) → times h (without g (t .grants)) ≡ grantsOf (apply p c m) c h
         fewer h =
-            let now = pages-fewer p c m (r .shape) here few i refl refl (found .0) h in
+            let now = grantsOf-ends p c m (r .shape) here few i refl refl (found .0) h in
             omega (arith, without-times g h (t .grants) some, open-grants (mirror .takers c) (rw s refl) h, ap (λ (x : ℕ). one (eqb x h)) (found .1))
 
-        ended : Followed q (Release c g) (record { answer = m .answer; counted = m .counted; pool = apply p c m })
+        ended : Ends m
         ended =
             record {
               state = _;
@@ -199,24 +187,18 @@ module _ {p : Pool} {q : Sequential} (r : Reached p) (mirror : Mirrors p q) wher
                   (inl (ne-eqb (n - 1) evicted (λ w. omega (arith, two)) ∙ sym (ne-eqb n evicted (λ w. omega (arith, two))))));
             }
 
-  -- a call that is not turned down, and does not stop
-  pub moved : valid p ≡ true → (x : Call) → refusal p x ≡ 0 → moveOf p x .answer ≢ Refused 8 → Followed q x (done p x)
-  unfolding refusal refusalAt caller
-  moved v x e sound = go x e (sym (turned-alike v x) ∙ e) sound
+  made : (x : Call) → refusal p x ≡ 0 → Followed q x (moved p x)
+  unfolding caller
+  made x e = go x (allowed p x e) (sym (turned-alike x) ∙ e) (call-edge p x r e .1)
     where
-      inside : (x : Call) → refusal p x ≡ 0 → (caller x < clientCount p) × (refusalAt p (client p (caller x)) x ≡ 0)
-      inside x e =
-          let a = zero-chosen (ltb (caller x) (clientCount p)) _ 9 (λ w. omega arith) (sym (chosen _ _ _ v) ∙ e) in
-          (ltb-true _ _ (a .0), a .1)
+      go : (x : Call) → Allowed p x → turnedBy q x ≡ 0 → Edge p (caller x) (moveOf p x) → Followed q x (moved p x)
+      go (Begin c g) a n w = begun c (a .here) g n (may-begin p (client p c) c g (a .may) .0)
+      go (Step c) a n w = stepped c (a .here) n (may-step p (client p c) c (a .may)) w
+      go (Release c g) a n w = let s = may-release p (client p c) c g (a .may) in released c (a .here) g n (s .0) (s .1)
 
-      go : (x : Call) → refusal p x ≡ 0 → turnedBy q x ≡ 0 → moveOf p x .answer ≢ Refused 8 → Followed q x (done p x)
-      go (Begin c g) e n sound =
-          let a = inside (Begin c g) e in
-          begun c (a .0) g n (eqb-true _ _ (zero-chosen _ _ 10 (λ w. omega arith) (a .1) .0))
-      go (Step c) e n sound =
-          let a = inside (Step c) e in
-          stepped c (a .0) n (λ s. let w : _≡_ {A = ℕ} 11 0 = sym (chosen _ _ _ (eq-eqb _ _ s)) ∙ a .1 in omega arith) sound
-      go (Release c g) e n sound =
-          let a = inside (Release c g) e in
-          let b = zero-chosen _ _ 10 (λ w. omega arith) (a .1) in
-          released c (a .0) g n (eqb-true _ _ (b .0)) (λ s. let w : _≡_ {A = ℕ} 13 0 = sym (chosen _ _ _ (eq-eqb _ _ s)) ∙ b .1 in omega arith) sound
+  pub followed : (x : Call) → Followed q x (callOf p x)
+  followed x = go (ℕ-discrete (refusal p x) 0)
+    where
+      go : Dec (refusal p x ≡ 0) → Followed q x (callOf p x)
+      go (yes e) = rw (call-moves p x r e) (made x e)
+      go (no z) = rw (call-turned p x (refusal p x) refl z) (turned x (refusal p x) (sym (turned-alike x)) z)

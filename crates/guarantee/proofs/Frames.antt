@@ -1,16 +1,40 @@
--- What the invariant says of a page's frame and of a client's found frame, as the theorems use it. Assumes nothing.
-use mathlib.Core.Path.{_≡_, refl, sym, subst, _∙_}
+-- What the invariant says of a page's frame, of a held frame and of a client's found frame, as the theorems use it: a page has one frame, as it has
+-- one entry; a held frame is a grant's, so pinned; a found frame is its page's where it is pinned for the client. Assumes nothing.
+use mathlib.Core.Path.{_≡_, refl, sym, _∙_}
 use mathlib.Core.Logic.{_≢_}
 use mathlib.Core.Bool.{Bool, true, false, _||_, true≢false}
-use Prim.Native.Nat.{ℕ, suc, _≤_}
+use Prim.Native.Nat.{ℕ, suc, _≤_, _<_}
 use lib.Dec.{eqb}
 use borrow.Author.Tests.{eqb-true}
-use Rattle.pool.specs.State.{none, pinned, pins, client}
+use Rattle.pool.specs.State.{none, pinned, clientCount, pins, client, grantFrame}
+use Rattle.pool.specs.Grants.{holds, held}
 use Rattle.pool.specs.declared.Pool.{Pool}
 use Rattle.pool.specs.declared.Client.{Client}
 use Rattle.invariant.proofs.Reached.{Reached, mapped, pinsFound, Knows, Live}
-use Rattle.invariant.proofs.Facts.{found-live}
+use Rattle.laws.specs.Scans.{some-true}
+use Rattle.invariant.proofs.Never.{know}
+use Rattle.invariant.proofs.Facts.{grant-live, found-live}
 use Rattle.invariant.proofs.Table.{mapped-lookup}
+use Rattle.guarantee.specs.Claims.{HeldPinned}
+
+-- a held frame has a grant
+pub record Grant (p : Pool) (f : ℕ) : Type 0 where
+  pub client-of : ℕ
+  pub place : ℕ
+  pub inside : place < client p client-of .held
+  pub names : grantFrame p client-of place ≡ f
+
+pub held-grant : (p : Pool) (f : ℕ) → held p f ≡ true → Grant p f
+unfolding held holds
+held-grant p f h =
+    let c = some-true (holds p f) (clientCount p) h in
+    let i = some-true (λ j. eqb (grantFrame p (c .0) j) f) (client p (c .0) .held) (c .2) in
+    record { client-of = c .0; place = i .0; inside = i .1; names = eqb-true _ _ (i .2) }
+
+pub held-pinned : (p : Pool) → Reached p → HeldPinned p
+held-pinned p r f h =
+    let g = held-grant p f h in
+    rw (g .names) at (grant-live p r (g .client-of) (g .place) (r .outline .grant-named (g .client-of) (g .place) (g .inside)))
 
 module _ (p : Pool) (r : Reached p) where
   -- a page has one frame
@@ -31,7 +55,7 @@ module _ (p : Pool) (r : Reached p) where
         s = k .stage
 
         at : (i : ℕ) → eqb s i ≡ true → Knows i p k
-        at i t = subst (λ (x : ℕ). Knows x p k) (eqb-true s i t) (r .outline .knowing c)
+        at i t = know p r c i (eqb-true s i t)
 
         go : (x y z : Bool) → eqb s 3 ≡ x → eqb s 20 ≡ y → eqb s 21 ≡ z → x || y || z ≡ true → Live p k
         go true y z a b d u = at 3 a

@@ -1,7 +1,7 @@
--- All that `Claims.antt` states, put together: a pool that was set up is reached, and so is every pool after it. Assumes nothing.
+-- All that `Claims.antt` states, put together: a pool that was set up is reached, every pool after it is, and each claim holds from any reached pool
+-- on. Assumes nothing.
 use mathlib.Core.Path.{_≡_}
 use mathlib.Core.Bool.{true}
-use mathlib.Core.List.{List}
 use Prim.Native.Nat.{ℕ, _<_}
 use native.Mathlib.Omega.{arith}
 use Rattle.pool.specs.State.{total, client}
@@ -9,8 +9,6 @@ use Rattle.pool.specs.Frames.{freeFrame}
 use Rattle.pool.specs.Valid.{valid}
 use Rattle.pool.specs.Calls.{setupOf}
 use Rattle.pool.specs.declared.Pool.{Pool}
-use Rattle.pool.specs.declared.Call.{Call}
-use Rattle.pool.specs.declared.Answer.the-variants.{Done}
 use Rattle.invariant.proofs.Reached.{Reached}
 use Rattle.invariant.proofs.After.{client-here}
 use Rattle.invariant.proofs.Valid.{valid-reached}
@@ -20,7 +18,7 @@ use Rattle.guarantee.proofs.Copies.{throughout, one-copies, helds-pinne
 use Rattle.guarantee.proofs.Sequence.{sequential}
 use Rattle.guarantee.proofs.Sum.{sum}
 use Rattle.guarantee.proofs.Once.{taken-out-once}
-use Rattle.guarantee.proofs.Effect.{one-effect}
+use Rattle.guarantee.proofs.OneEffect.{one-effect}
 use Rattle.guarantee.proofs.Alone.{refused-alone}
 use Rattle.guarantee.proofs.Listed.{listed}
 use Rattle.guarantee.proofs.Turned.{turned, refused}

@@ -1,33 +1,37 @@
+-- The proofs of specs/Claims.antt, in reading order. All of them rest on the invariant, `Reached`, of crate `invariant`.
+-- Every pool of a run is reached, from the setup on
 pub mod Start
--- what a call leaves and answers, by stage
+-- what a call answers, by stage, of every pool; that it is turned down or is one move; the listed answers
 pub mod Stages
 pub mod Turned
 pub mod Listed
-pub mod Seen
--- claim d: the sequential pool, and with it claims a, b and the tally's sum
+-- claim d: the sequential pool that mirrors a pool, its pages, its clients, its number of pages
 pub mod Mirror
-pub mod Pages
 pub mod Frames
-pub mod Places
-pub mod Weights
-pub mod Shown
+pub mod Pages
 pub mod Takers
+pub mod Weights
+-- what each write shows of the places; each move is a step of the sequential pool; so each call and each list of calls
+pub mod Shown
 pub mod Simulate
-pub mod SimulateStages
+pub mod SimulateMoves
 pub mod Follow
 pub mod Sequence
+-- from the sequential pool: claims a and b, and the tally's sum
 pub mod Copies
 pub mod Sum
--- claim c; one effect
+-- claim c: between two replacements of a frame it is taken anew
 pub mod Once
-pub mod Effect
--- a client alone: the limits, and claim e
-pub mod Steps
+-- a call as one client sees it; each grant takes effect once
+pub mod OneClient
+pub mod OneEffect
+-- a client stepped alone: its moves, the limits, the sweep, and claim e
+pub mod SoloSteps
 pub mod Solo
 pub mod Sweep
 pub mod Base
 pub mod Path
 pub mod Alone
--- the premises can be met; all of it
+-- the premises of the claims can be met; all of it, as the record `Guarantee`
 pub mod Witness
 pub mod Guaranteed

@@ -1,4 +1,5 @@
--- Every call of a pool from setup and calls ends with a listed answer. Assumes nothing.
+-- Every call of a pool from setup and calls ends with a listed answer: the checks turn down by the numbers of their list, 8 is never met, and a stage
+-- leads on to a stage, grants a frame of the pool, or refuses by 15 (`Stages`). Assumes nothing.
 use mathlib.Core.Path.{_≡_, refl, sym, ap, subst}
 use mathlib.Core.Logic.{_≢_, inl, inr}
 use mathlib.Core.Bool.{Bool, _&&_}
@@ -19,10 +20,11 @@ use Rattle.pool.specs.declared.Call.the-variants.{Begin, Step, Release}
 use Rattle.pool.specs.declared.Answer.the-variants.{Refused}
 use Rattle.laws.specs.Choices.{by-test}
 use Rattle.invariant.proofs.Reached.{Knows, Reached}
+use Rattle.invariant.proofs.Flags.{and-parts}
 use Rattle.invariant.proofs.Calls.{never-stuck, call-moves, call-turned, refusal-not-8, reached-call}
 use Rattle.guarantee.specs.Runs.{Event, events, At}
 use Rattle.guarantee.specs.Claims.{Listed}
-use Rattle.guarantee.proofs.Stages.{and-both, granting, among, given, on-edges, on-grants, goes, grants, refuses, sticks, fits}
+use Rattle.guarantee.proofs.Stages.{granting, among, given, on-edges, on-grants, goes, grants, refuses, sticks, fits}
 use Rattle.guarantee.proofs.Turned.{ends, halts, released}
 
 -- the numbers that a call is turned down by, 8 aside
@@ -62,13 +64,13 @@ listed-move : (p : Pool) (x : Call) → Reached p → refusalOf (moveOf p x .ans
 unfolding moveOf refusalOf Listed
 listed-move p (Begin c g) r z = inl refl
 listed-move p (Release c g) r z =
-    elim (released p c g) [ ends e _ _ ↦ inl e | halts e ↦ absurd (z (ap (λ (m : Move). refusalOf (m .answer)) e)) ]
+    elim (released p c g) [ ends e _ ↦ inl e | halts e ↦ absurd (z (ap (λ (m : Move). refusalOf (m .answer)) e)) ]
 listed-move p (Step c) r z =
     elim (fits p (client p c)) [
-      | goes j l e _ _ ↦
-          let t = and-both (leb 1 j) (leb j 23) (on-edges (λ i j. leb 1 j && leb j 23) tt (client p c .stage) j l) in
+      | goes j l e _ ↦
+          let t = and-parts (leb 1 j) (leb j 23) (on-edges (λ i j. leb 1 j && leb j 23) tt (client p c .stage) j l) in
           inl (j, e, leb→le 1 j (t .0), leb→le j 23 (t .1))
-      | grants f l w e _ _ ↦ inr (inl (f, e, rw w (given-in p c r l)))
+      | grants f l w e _ ↦ inr (inl (f, e, rw w (given-in p c r l)))
       | refuses e ↦ inr (inr (inr (inr (ap (λ (m : Move). m .answer) e))))
       | sticks e ↦ absurd (z (ap (λ (m : Move). refusalOf (m .answer)) e))
     ]

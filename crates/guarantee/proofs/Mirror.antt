@@ -19,7 +19,9 @@ use Rattle.pool.specs.declared.Pool.{Pool}
 use Rattle.pool.specs.declared.Client.{Client}
 use Rattle.laws.specs.Choices.{by-test, chosen, passed}
 use Rattle.invariant.proofs.Reached.{one, sumTo, mapped, pinsFound, Shape}
-use Rattle.invariant.proofs.After.{slot-past, pins-past, client-past}
+use Rattle.invariant.proofs.After.{slot-past, client-past}
+use Rattle.invariant.proofs.Searches.{none-evicted}
+use Rattle.invariant.proofs.Grants.{grantsOf}
 use Rattle.guarantee.specs.Sequential.{Place, empty, holds, Taker, Sequential, place, resting, taker, member, without}
 
 -- ---- places
@@ -110,10 +112,6 @@ without-length g (x ∷ xs) z = go (eqb x g) refl (without-length g xs)
         → length (choose t xs (x ∷ without g xs)) + 1 ≡ suc (length xs)
     go true e ih = omega arith
     go false e ih = omega (arith, ih (λ w. z (omega (arith, ap one e))))
-
--- client c's open grants of a page
-unfoldable pub grantsOf : Pool → ℕ → ℕ → ℕ
-grantsOf p c g = sumTo (λ i. one (eqb (grantPage p c i) g)) (client p c .held)
 
 -- A client and its like in the sequential pool; x says how many open grants the client has on each page.
 pub record Taken (k : Client) (x : ℕ → ℕ) (t : Taker) : Type 0 where
@@ -211,9 +209,6 @@ view-taken k l n =
           λ g. by-test (λ (x : List ℕ). times g x ≡ times g l + one (pinsFound (k .stage) && eqb (k .page) g))
           (λ e. rw e refl) (λ e. omega (arith, one-and (pinsFound (k .stage)) (eqb (k .page) g) e));
     }
-
-pub none-evicted : (p : Pool) → Shape p → pins p none ≡ evicted
-none-evicted p s = pins-past p none (omega (arith, s .size-high, s .clients-high))
 
 pub mirrors-view : (p : Pool) → Shape p → Mirrors p (view p)
 unfolding view grantsOf viewTaker choose downFrom

@@ -1,6 +1,6 @@
 -- Once a stage 15 has replaced a frame, and until a stage 4 takes it, the frame stands in no slot and is nobody's own (`Out`). So between two stages
 -- 15 that replace it a stage 4 takes it. Assumes nothing.
-use mathlib.Core.Path.{_≡_, refl, sym, ap, subst, _∙_}
+use mathlib.Core.Path.{_≡_, sym, ap, subst, _∙_}
 use mathlib.Core.Logic.{_≢_, _⊎_, inl, inr}
 use mathlib.Core.List.{List, [], _∷_}
 use Prim.Native.Nat.{ℕ, zero, suc, _<_}
@@ -17,45 +17,17 @@ use Rattle.pool.specs.declared.Outcome.{Outcome}
 use Rattle.pool.specs.declared.Call.{Call}
 use Rattle.pool.specs.declared.Call.the-variants.{Step}
 use Rattle.invariant.proofs.Reached.{Reached}
-use Rattle.invariant.proofs.After.{client-same, all-clients, pins-in}
-use Rattle.invariant.proofs.Searches.{few-frames}
+use Rattle.invariant.proofs.After.{few-frames, client-same, all-clients, pins-in}
 use Rattle.invariant.proofs.Facts.{own-pins}
-use Rattle.invariant.proofs.Edges.{Edge, on, found1, found18, lost2, lost22, pins2, pins19, gets3, gets21, takes, fills, swaps, gives-up, drops, removes, admits, revives, evicts20, evicts23, begins, releases}
+use Rattle.invariant.proofs.Edges.{Edge}
 use Rattle.invariant.proofs.Steps.{call-edge}
-use Rattle.invariant.proofs.Effects.{effect}
+use Rattle.invariant.proofs.Effects.{OwnOk, forgot, kept, taken, effect}
 use Rattle.invariant.proofs.Next.{slot-now, slot-or-out}
+use Rattle.invariant.proofs.Allowed.{allowed, only-step}
 use Rattle.invariant.proofs.Calls.{reached-call}
 use Rattle.guarantee.specs.Runs.{happens, events, At}
 use Rattle.guarantee.specs.Claims.{Evicts, Replaces, Takes, TakenOutOnce}
-use Rattle.guarantee.proofs.Turned.{Went, down, by-move, went, allowed, only-step}
-
--- ---- only stage 4 gives a client another own frame
-
-abbrev OldOwn : Client → Client → Type 0
-OldOwn k n = (n .own ≡ k .own) ⊎ ((n .own ≡ none) ⊎ (k .stage ≡ 4))
-
-old-own : (p : Pool) (c : ℕ) {m : Move} → Edge p c m → OldOwn (client p c) (m .next)
-old-own p c (on n j w h) = inl (h .same .own)
-old-own p c (takes e _) = inr (inr e)
-old-own p c (found1 _ _) = inl refl
-old-own p c (found18 _ _) = inl refl
-old-own p c (lost2 _ _) = inl refl
-old-own p c (lost22 _ _) = inl refl
-old-own p c (pins2 _ _) = inl refl
-old-own p c (pins19 _ _) = inl refl
-old-own p c (fills _ _) = inl refl
-old-own p c (swaps _ _) = inl refl
-old-own p c (drops _ _) = inl refl
-old-own p c (removes _ _) = inl refl
-old-own p c (begins _ _ _) = inl refl
-old-own p c (releases _ _ _) = inl refl
-old-own p c (gets3 _) = inr (inl refl)
-old-own p c (gets21 _) = inr (inl refl)
-old-own p c (gives-up _ _) = inr (inl refl)
-old-own p c (admits _ _ _) = inr (inl refl)
-old-own p c (revives _ _) = inr (inl refl)
-old-own p c (evicts20 _) = inr (inl refl)
-old-own p c (evicts23 _) = inr (inl refl)
+use Rattle.guarantee.proofs.Turned.{Went, down, by-move, went}
 
 -- ---- a frame that is out stays so until a stage 4 takes it
 
@@ -65,16 +37,19 @@ record Out (p : Pool) (f : ℕ) : Type 0 where
 
 -- frame f is nobody's own, and the client that moves takes no frame
 module _ (p : Pool) (r : Reached p) (f : ℕ) (z : f ≢ none) (unowned : (c : ℕ) → client p c .own ≢ f) where
-  not-own : (c : ℕ) (m : Move) → client p c .stage ≢ 4 → OldOwn (client p c) (m .next) → m .next .own ≢ f
-  not-own c m s (inl w) e = unowned c (sym w ∙ e)
-  not-own c m s (inr (inl w)) e = z (sym e ∙ w)
-  not-own c m s (inr (inr w)) e = s w
+  not-own : (c : ℕ) (m : Move) → c < clientCount p → Edge p c m → client p c .stage ≢ 4 → m .next .own ≢ f
+  not-own c m here w s e = by (effect p c here r w .own)
+    where
+      by : OwnOk p c m → ⊥
+      by (kept q _) = unowned c (sym q ∙ e)
+      by (forgot q) = z (sym e ∙ q)
+      by (taken q _ _ _) = s q
 
   -- then a move puts it into no slot, so it is out if every slot that named it does no more
   out-move : (c : ℕ) (m : Move) → c < clientCount p → Edge p c m → m .next .own ≢ f → ((i : ℕ) → slot p i ≡ f → slot (apply p c m) i ≢ f) → Out (apply p c m) f
   out-move c m here w u s =
       record {
-        no-slot = λ i e. elim (slot-now p c here r m (effect p c here r w) i) [ inl q ↦ s i (sym q ∙ e) e | inr q ↦ unowned c (sym (q .0) ∙ e) ];
+        no-slot = λ i e. elim (slot-now (effect p c here r w) i) [ inl q ↦ s i (sym q ∙ e) e | inr q ↦ unowned c (sym (q .0) ∙ e) ];
         no-own = all-clients p c m (r .shape) (λ _ k. k .own ≢ f) here (λ d _. unowned d) u;
       }
 
@@ -96,7 +71,7 @@ out-call p x f r z o = go (went p x)
             subst (λ (y : Outcome). Out (y .pool) f) (sym q) (out-move p r f z (o .no-own) c (moveOf p x) (w .0) (w .1) u (λ i s. absurd (o .no-slot i s)))
 
         by : Dec (client p c .stage ≡ 4) → Dec (moveOf p x .next .own ≡ f) → Out (callOf p x .pool) f ⊎ Takes f (happens p x)
-        by (no s) _ = inl (stays (not-own p r f z (o .no-own) c (moveOf p x) s (old-own p c (w .1))))
+        by (no s) _ = inl (stays (not-own p r f z (o .no-own) c (moveOf p x) (w .0) (w .1) s))
         by (yes s) (no u) = inl (stays u)
         by (yes s) (yes u) =
             inr (record {
@@ -124,12 +99,12 @@ replaced-out p x f r z h =
     out : c < clientCount p → Edge p c m → slot (apply p c m) i ≢ f → Out (apply p c m) f
     out here w n =
         out-move p r f z unowned c m here w
-        (not-own p r f z unowned c m (λ s. let y : _≡_ {A = ℕ} 15 4 = sym (h .step-of .1) ∙ s in omega arith) (old-own p c w))
+        (not-own p r f z unowned c m here w (λ s. let y : _≡_ {A = ℕ} 15 4 = sym (h .step-of .1) ∙ s in omega arith))
         (λ j s e. n (ap (slot (apply p c m)) (sym (r .places .slots-apart j i (λ q. z (sym s ∙ q)) (s ∙ sym (h .named)))) ∙ e))
       where
         -- a frame that leaves its slot is evicted, and an own frame is not
         dead : pins p f ≡ evicted
-        dead = elim (slot-or-out p c here r m (effect p c here r w) f i z (h .named)) [ inl q ↦ absurd (n q) | inr q ↦ q .0 ]
+        dead = elim (slot-or-out (effect p c here r w) f i z (h .named)) [ inl q ↦ absurd (n q) | inr q ↦ q .0 ]
 
         unowned : (d : ℕ) → client p d .own ≢ f
         unowned d e = omega (arith, own-pins p r d (λ q. z (sym e ∙ q)), ap (pins p) e ∙ dead)

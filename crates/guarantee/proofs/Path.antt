@@ -16,7 +16,7 @@ use Rattle.pool.specs.Table.{lookup, resident}
 use Rattle.pool.specs.Frames.{freeFrame}
 use Rattle.pool.specs.Moves.{withOwn, works}
 use Rattle.pool.specs.Apply.{slotsAfter, pinsAfter, freeAfter, entryPagesAfter, entryFramesAfter, apply}
-use Rattle.pool.specs.Stages.{around, stage16}
+use Rattle.pool.specs.Stages.{stage16}
 use Rattle.pool.specs.Calls.{callOf}
 use Rattle.pool.specs.declared.Pool.{Pool}
 use Rattle.pool.specs.declared.Client.{Client}
@@ -26,19 +26,20 @@ use Rattle.pool.specs.declared.Call.the-variants.{Step}
 use Rattle.pool.specs.declared.Answer.the-variants.{Working, Granted, Refused}
 use Rattle.pool.specs.declared.Write.the-variants.{TakeFrame}
 use Rattle.invariant.proofs.Reached.{one, filling, Reached}
-use Rattle.invariant.proofs.After.{slot-kept, pins-else, pins-past}
+use Rattle.invariant.proofs.After.{slot-kept, pins-else}
 use Rattle.invariant.proofs.Sums.{sum-zero, sum-has}
-use Rattle.invariant.proofs.Searches.{few-frames, free-found, Fresh, fresh-means}
+use Rattle.invariant.proofs.Writes.{silent, keepsTable, untouched, lookup-kept}
+use Rattle.invariant.proofs.Searches.{none-evicted, free-found, Fresh, fresh-means}
 use Rattle.invariant.proofs.Never.{finds-some}
 use Rattle.invariant.proofs.Flags.{T-false}
+use Rattle.invariant.proofs.Steps.{around-ok}
 use Rattle.guarantee.specs.Claims.{AllHeld}
-use Rattle.guarantee.proofs.Steps.{On, Goes, answer-is, on-next, go1, go1-found, go2, go3, go4, go5, go5-none, go6, go7, go8, go8-on, go9, go10, go11, go12-dead, go12-idle, go12-busy, go12-full, go13-zero, go13-more, go14, go15, go16, go17-out, go17-not, go18}
-use Rattle.guarantee.proofs.Base.{Base, still, is-still, slot-still, pins-still, base-still, emptied}
-use Rattle.guarantee.proofs.Solo.{keepsTable, lookup-kept, next-is, absent-next, around-is, some-empty, no-ghost}
-use Rattle.guarantee.proofs.Sweep.{held-pins, pins-held, Behind, behind-none, behind-next, behind-all}
-
-around-in : (s i : ℕ) → i < s → around s i < s
-around-in s i h = elim (around-is s i h) [ inl n ↦ omega (arith, n) | inr n ↦ omega (arith, n) ]
+use Rattle.guarantee.proofs.SoloSteps.{On, Goes, answer-is, on-next, go1, go1-found, go2, go3, go4, go5, go5-none, go6, go7, go8, go8-on, go9, go10, go11}
+use Rattle.guarantee.proofs.SoloSteps.{go12-dead, go12-idle, go12-busy, go12-full, go13-zero, go13-more, go14, go15, go16, go17-out, go17-not, go18}
+use Rattle.guarantee.proofs.Base.{Base, slot-still, pins-still, base-still, emptied}
+use Rattle.guarantee.proofs.Solo.{next-is, absent-next, some-empty, no-ghost}
+use Rattle.guarantee.proofs.Frames.{held-pinned}
+use Rattle.guarantee.proofs.Sweep.{pins-held, Behind, behind-none, behind-next, behind-all}
 
 -- the sweep is to visit slot i, and each of the r slots before it names a pinned frame
 pub record Sweep (p : Pool) (i r : ℕ) : Type 0 where
@@ -51,7 +52,7 @@ module _ (p₀ : Pool) (b g : ℕ) (reached : Reached p₀) (rest : (c : ℕ) �
   abbrev pub Full : Type 0
   Full = (resident p₀ g ≡ false) × AllHeld p₀
 
-  abbrev pub Not : Type 0
+  abbrev Not : Type 0
   Not = Full → ⊥
 
   -- at stage i, the page not found; before and after it is settled that the request will be granted
@@ -66,10 +67,10 @@ module _ (p₀ : Pool) (b g : ℕ) (reached : Reached p₀) (rest : (c : ℕ) �
     pub not : Not
 
   -- its sweep so far; its victim stands in the slot it visits
-  abbrev pub Swept : Pool → Type 0
+  abbrev Swept : Pool → Type 0
   Swept p = Sweep p (client p b .place) (client p b .busy)
 
-  abbrev pub Seen : Pool → Type 0
+  abbrev Seen : Pool → Type 0
   Seen p = slot p (client p b .place) ≡ client p b .victim
 
   pub data Path (p : Pool) : Type 0 where
@@ -102,13 +103,13 @@ module _ (p₀ : Pool) (b g : ℕ) (reached : Reached p₀) (rest : (c : ℕ) �
     k = client p b
 
     -- the next pool is early, late
-    early : {i : ℕ} {m : Move} (j : ℕ) → Early p i → Goes p b m → m .next .stage ≡ j → m .next .page ≡ k .page → T (still (m .write))
+    early : {i : ℕ} {m : Move} (j : ℕ) → Early p i → Goes p b m → m .next .stage ≡ j → m .next .page ≡ k .page → T (silent (m .write))
         → Early (callOf p (Step b) .pool) j
     early {m = m} j e w s q t =
         record {
           on = on-next w j (e .on) s q;
           base = next-is (e .on) w (λ x _. Base p₀ x g) (base-still p b m (e .on .reached) t (e .base));
-          absent = absent-next (e .on) w (is-still 0 [] (m .write) t .table) (e .absent);
+          absent = absent-next (e .on) w (untouched 0 [] (m .write) t .table) (e .absent);
         }
 
     settle : {i : ℕ} {m : Move} (j : ℕ) → On p b g i → lookup p g ≡ none → Not → Goes p b m → m .next .stage ≡ j → m .next .page ≡ k .page
@@ -154,11 +155,11 @@ module _ (p₀ : Pool) (b g : ℕ) (reached : Reached p₀) (rest : (c : ℕ) �
         goes-on 5 (answer-is w) (at5 (record {
           on = on-next w 5 o refl refl;
           base = next-is o w (λ q _. Base p₀ q g) (record {
-            slots = λ i. slot-kept p b m (o .reached .shape) refl i ∙ e .base .slots i;
+            slots = λ i. slot-kept p b m refl i ∙ e .base .slots i;
             looked = lookup-kept p b m tt g ∙ e .base .looked;
             size = e .base .size;
             pins = λ i.
-                pins-else p b m (o .reached .shape) (freeFrame p) (pinned 1) refl (slot p₀ i) (λ q. fresh .no-slot i (e .base .slots i ∙ q)) ∙ e .base .pins i;
+                pins-else p b m (freeFrame p) (pinned 1) refl (slot p₀ i) (λ q. fresh .no-slot i (e .base .slots i ∙ q)) ∙ e .base .pins i;
           });
           absent = absent-next o w tt (e .absent);
         }))
@@ -200,7 +201,7 @@ module _ (p₀ : Pool) (b g : ℕ) (reached : Reached p₀) (rest : (c : ℕ) �
     next14 e v h =
         let w = go14 p b g (e .on) h in
         goes-on 15 (answer-is w) (at15 (late 15 e w refl refl tt)
-        (next-is (e .on) w (λ q x. slot q (x .place) ≡ x .victim) (slot-kept p b _ (e .on .reached .shape) refl _ ∙ v)))
+        (next-is (e .on) w (λ q x. slot q (x .place) ≡ x .victim) (slot-kept p b _ refl _ ∙ v)))
 
     next15 : Late p 15 → Seen p → Next (callOf p (Step b))
     next15 e v = let w = go15 p b g (e .on) v in goes-on 16 (answer-is w) (at16 (late 16 e w refl refl tt))
@@ -235,7 +236,7 @@ module _ (p₀ : Pool) (b g : ℕ) (reached : Reached p₀) (rest : (c : ℕ) �
 
     -- a slot whose frame has no pins is not held
     not-held : Base p₀ p g → (i : ℕ) → i < p .size → pins p (slot p i) < pinned 1 → Not
-    not-held h i l e f = omega (arith, held-pins p₀ reached (slot p₀ i) (f .1 i (omega (arith, h .size)) .1), pins-same h i)
+    not-held h i l e f = omega (arith, held-pinned p₀ reached (slot p₀ i) (f .1 i (omega (arith, h .size)) .1), pins-same h i)
 
     -- no slot is empty where none is free and nobody fills one
     no-empty : {i : ℕ} → On p b g i → T (not (filling i)) → p .free ≡ 0 → (j : ℕ) → j < p .size → slot p j ≢ none
@@ -253,7 +254,7 @@ module _ (p₀ : Pool) (b g : ℕ) (reached : Reached p₀) (rest : (c : ℕ) �
         idle c (no q) = rw (o .alone c q) refl
 
     -- the sweep goes on, at m's place and with its busy run
-    sweeps : {i : ℕ} {m : Move} → On p b g i → Goes p b m → T (still (m .write)) → freeAfter (p .free) (m .write) ≡ 0 → m .next .place < p .size
+    sweeps : {i : ℕ} {m : Move} → On p b g i → Goes p b m → T (silent (m .write)) → freeAfter (p .free) (m .write) ≡ 0 → m .next .place < p .size
         → ((j : ℕ) → j < p .size → Behind (m .next .place) (m .next .busy) (p .size) j → pinned 1 ≤ pins p (slot p j))
         → Swept (callOf p (Step b) .pool)
     unfolding apply
@@ -294,7 +295,7 @@ module _ (p₀ : Pool) (b g : ℕ) (reached : Reached p₀) (rest : (c : ℕ) �
     absent₀ : Early p 12 → resident p₀ g ≡ false
     unfolding resident
     absent₀ e =
-        ap not (eq-eqb _ evicted (ap (pins p₀) (sym (e .base .looked) ∙ e .absent) ∙ pins-past p₀ none (omega (arith, few-frames p₀ (reached .shape)))))
+        ap not (eq-eqb _ evicted (ap (pins p₀) (sym (e .base .looked) ∙ e .absent) ∙ none-evicted p₀ (reached .shape)))
 
     next12 : Early p 12 → Swept p → Seen p → Next (callOf p (Step b))
     unfolding freeAfter
@@ -320,7 +321,8 @@ module _ (p₀ : Pool) (b g : ℕ) (reached : Reached p₀) (rest : (c : ℕ) �
         go (no x) (no y) (no z) =
             let h : pinned 1 ≤ pins p (k .victim) = omega arith in
             let w = go12-busy p b g o h z in
-            goes-on 11 (answer-is w) (at11 (early 11 e w refl refl tt) (sweeps o w tt (s .none-free) (around-in (p .size) (k .place) (s .place))
+            goes-on 11 (answer-is w) (at11 (early 11 e w refl refl tt)
+            (sweeps o w tt (s .none-free) (around-ok (p .size) (k .place) (o .reached .shape .size-low))
             (λ j l x. grown s (omega (arith, there)) j l (behind-next (k .place) (k .busy) (p .size) j (s .place) l x))))
         go (no x) (no y) (yes z) =
             let h : pinned 1 ≤ pins p (k .victim) = omega arith in
@@ -340,7 +342,7 @@ module _ (p₀ : Pool) (b g : ℕ) (reached : Reached p₀) (rest : (c : ℕ) �
           | no c ↦
               let w = go13-more p b g o c in
               goes-on 11 (answer-is w) (at11 (early 11 e w refl refl tt)
-              (sweeps o w tt (s .none-free) (around-in (p .size) (k .place) (s .place)) (λ j l x. absurd (behind-none _ (p .size) j l x))))
+              (sweeps o w tt (s .none-free) (around-ok (p .size) (k .place) (o .reached .shape .size-low)) (λ j l x. absurd (behind-none _ (p .size) j l x))))
         ]
 
     pub next : Path p → Next (callOf p (Step b))

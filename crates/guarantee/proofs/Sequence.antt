@@ -1,56 +1,33 @@
--- The sequential pool follows every list of calls. Assumes nothing.
-use mathlib.Core.Path.{_≡_, refl, sym, ap, _∙_}
-use mathlib.Core.Bool.{Bool, true, false}
+-- The sequential pool follows every list of calls: it mirrors the fresh pool when both are empty, and each call leaves two pools that are alike again
+-- (`Follow`). Assumes nothing.
+use mathlib.Core.Path.{_≡_, refl, ap}
+use mathlib.Core.Bool.{true}
 use mathlib.Core.List.{List, [], _∷_}
-use Prim.Native.Nat.{ℕ, zero, suc, _+_, _*_, _<_}
-use native.Mathlib.Decide.{ℕ-discrete, decLt}
-use native.Mathlib.Omega.{arith}
-use lib.Dec.{ltb}
-use lib.ListN.{getD, replicate, getD-replicate}
-use borrow.Author.Tests.{lt-ltb}
+use Prim.Native.Nat.{ℕ, zero, suc}
+use lib.ListN.{replicate}
 use Rattle.pool.specs.Choose.{choose}
-use Rattle.pool.specs.State.{evicted, within, slot, pins, client, no-client, grantPage}
-use Rattle.pool.specs.State as State
-use Rattle.pool.specs.Answers.{refusalOf}
-use Rattle.pool.specs.Valid.{valid}
-use Rattle.pool.specs.Calls.{fresh, refusal, callOf, setupOf}
+use Rattle.pool.specs.State.{slot, client, grantPage}
+use Rattle.pool.specs.Valid.{numbersOk}
+use Rattle.pool.specs.Calls.{fresh, setupOf}
 use Rattle.pool.specs.declared.Pool.{Pool}
 use Rattle.pool.specs.declared.Call.{Call}
-use Rattle.pool.specs.declared.Outcome.{Outcome}
 use Rattle.pool.specs.declared.Answer.the-variants.{Done}
-use Rattle.laws.specs.Choices.{by-test, chosen}
-use Rattle.invariant.proofs.Reached.{Reached, Shape}
-use Rattle.invariant.proofs.After.{client-past}
-use Rattle.invariant.proofs.Valid.{valid-reached}
-use Rattle.invariant.proofs.Calls.{never-stuck, call-moves, call-turned, reached-call}
+use Rattle.invariant.proofs.Reached.{Reached}
+use Rattle.invariant.proofs.Setup.{pins-none, rests}
+use Rattle.invariant.proofs.Calls.{reached-call}
 use Rattle.guarantee.specs.Sequential.{Sequential, empty, resting, start}
 use Rattle.guarantee.specs.Claims.{Follows, ends, goes}
 use Rattle.guarantee.proofs.Mirror.{seen, seen-evicted, Mirrors, upTo, downFrom, viewTaker, view, mirrors-view}
-use Rattle.guarantee.proofs.Places.{same-pages}
+use Rattle.guarantee.proofs.Pages.{same-pages}
 use Rattle.guarantee.proofs.Start.{starts}
-use Rattle.guarantee.proofs.Follow.{Followed, turned-alike, turned, moved}
-
-module _ {p : Pool} {q : Sequential} (r : Reached p) (mirror : Mirrors p q) where
-  pub followed : (x : Call) → Followed q x (callOf p x)
-  unfolding refusalOf
-  followed x = go (ℕ-discrete (refusal p x) 0)
-    where
-      ok : valid p ≡ true
-      ok = valid-reached p r
-
-      go : Dec (refusal p x ≡ 0) → Followed q x (callOf p x)
-      go (yes e) = rw (call-moves p x r e) (moved r mirror ok x e (λ w. never-stuck p x r e (ap refusalOf w)))
-      go (no z) = rw (call-turned p x (refusal p x) refl z) (turned r mirror x (refusal p x) (sym (turned-alike r mirror ok x)) z)
+use Rattle.guarantee.proofs.Follow.{followed}
 
 -- from any pool that the sequential pool mirrors
-pub follows-on : {p : Pool} {q : Sequential} (calls : List Call) → Reached p → Mirrors p q → Follows p q calls
+follows-on : {p : Pool} {q : Sequential} (calls : List Call) → Reached p → Mirrors p q → Follows p q calls
 follows-on [] r mirror = ends (same-pages r mirror)
 follows-on {p} {q} (x ∷ calls) r mirror =
     let f = followed r mirror x in
     goes (same-pages r mirror) (f .rule) (follows-on calls (reached-call p x r) (f .mirrors))
-
-pub follows : (p : Pool) (calls : List Call) → Reached p → Follows p (view p) calls
-follows p calls r = follows-on calls r (mirrors-view p (r .shape))
 
 -- ---- from setup
 
@@ -59,38 +36,25 @@ unfolding upTo
 all-same f zero a e = refl
 all-same f (suc n) a e = rw (e 0) (ap (λ (l : List _). a ∷ l) (all-same (λ i. f (suc i)) n a (λ i. e (suc i))))
 
-zeros : (n i : ℕ) → getD (replicate n evicted) i 0 ≡ evicted
-zeros zero i = refl
-zeros (suc n) zero = refl
-zeros (suc n) (suc i) = zeros n i
-
-pub view-start : (s t c h : ℕ) → Shape (fresh s t c h) → view (fresh s t c h) ≡ start s t
-unfolding view viewTaker downFrom pins within client choose
-view-start s t c h shape = λ i. record { places = all-same _ s empty vacant i; takers = all-same _ t (resting []) idle i }
+view-start : (s t c h : ℕ) → numbersOk s t c ≡ true → view (fresh s t c h) ≡ start s t
+unfolding view viewTaker downFrom choose
+view-start s t c h ok = λ i. record { places = all-same _ s empty vacant i; takers = all-same _ t (resting []) idle i }
   where
     p : Pool
     p = fresh s t c h
 
     vacant : (i : ℕ) → seen p (slot p i) ≡ empty
-    vacant i = seen-evicted p (slot p i) (go (ltb (slot p i) (s + 2 * t)))
-      where
-        go : (b : Bool) → choose b (getD (replicate 96 evicted) (slot p i) 0) evicted ≡ evicted
-        go true = zeros 96 (slot p i)
-        go false = refl
-
-    at-rest : (d : ℕ) → Dec (d < t) → client p d ≡ State.resting 0
-    at-rest d (yes h) = chosen _ _ _ (lt-ltb d t h) ∙ getD-replicate 16 d (State.resting 0) no-client (omega (arith, shape .clients-high))
-    at-rest d (no h) = client-past p d (omega arith)
+    vacant i = seen-evicted p (slot p i) (pins-none s t c h ok (slot p i))
 
     idle : (d : ℕ) → viewTaker (client p d) (downFrom (grantPage p d) (client p d .held)) ≡ resting []
-    idle d = rw (at-rest d (decLt d t)) refl
+    idle d = rw (rests s t c h ok d) refl
 
 -- at a setup that is done the sequential pool that has just started mirrors the pool
 pub mirrors-start : (s t c h : ℕ) → setupOf s t c h .answer ≡ Done s → Mirrors (setupOf s t c h .pool) (start s t)
 mirrors-start s t c h e =
     let first = starts s t c h e in
     let shape = rw (first .fresh-pool) at (first .reached .shape) in
-    rw (first .fresh-pool) (rw (view-start s t c h shape) at (mirrors-view (fresh s t c h) shape))
+    rw (first .fresh-pool) (rw (view-start s t c h (first .ok)) at (mirrors-view (fresh s t c h) shape))
 
 pub sequential : (s t c h : ℕ) → setupOf s t c h .answer ≡ Done s → (calls : List Call) → Follows (setupOf s t c h .pool) (start s t) calls
 sequential s t c h e calls = follows-on calls (starts s t c h e .reached) (mirrors-start s t c h e)

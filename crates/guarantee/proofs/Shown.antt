@@ -1,7 +1,7 @@
--- What each write leaves of the sequential pool's places: all of them as they were, unless a page is admitted or dropped. Assumes nothing.
+-- What each write leaves of the sequential pool's places. A place shows the page of a frame that stands in its slot, is not evicted and has an entry:
+-- so a write changes a place only where it evicts such a frame or gives an entry to a frame in a slot, and then that place alone. Assumes nothing.
 use mathlib.Core.Path.{_≡_, refl, sym, ap, _∙_}
 use mathlib.Core.Logic.{_≢_, _⊎_, inl, inr}
-use mathlib.Core.Bool.{Bool, true, false}
 use Prim.Native.Nat.{ℕ, _<_}
 use native.Mathlib.Decide.{ℕ-discrete}
 use lib.Dec.{T, eqb}
@@ -9,13 +9,14 @@ use Rattle.pool.specs.State.{none, evicted, total, slot, pins, entryFrame}
 use Rattle.pool.specs.Apply.{slotsAfter, pinsAfter, entryPagesAfter, entryFramesAfter, apply}
 use Rattle.pool.specs.declared.Pool.{Pool}
 use Rattle.pool.specs.declared.Move.{Move}
-use Rattle.pool.specs.declared.Write.{Write}
-use Rattle.pool.specs.declared.Write.the-variants.{Keep, PutSlot, PutPins, PutCount, TakeFrame, PutEntry, PutHand, PutFree}
+use Rattle.pool.specs.declared.Write.the-variants.{PutSlot, PutPins, TakeFrame, PutEntry}
 use Rattle.invariant.proofs.Reached.{Reached, mapped}
 use Rattle.invariant.proofs.After.{slot-kept, slot-here, slot-else, slot-in, pins-kept, pins-here, pins-else}
+use Rattle.invariant.proofs.Writes.{silent, untouched}
 use Rattle.invariant.proofs.Table.{mapped-none, mapped-kept, put-other, put-new}
+use Rattle.invariant.proofs.Searches.{none-evicted}
 use Rattle.guarantee.specs.Sequential.{Place, empty, holds}
-use Rattle.guarantee.proofs.Mirror.{seen, seen-evicted, seen-unmapped, seen-full, seen-same, none-evicted}
+use Rattle.guarantee.proofs.Mirror.{seen, seen-evicted, seen-unmapped, seen-full, seen-same}
 
 -- every place is shown as it was
 abbrev pub Kept : Pool → ℕ → Move → Type 0
@@ -27,63 +28,33 @@ pub record Changed (p : Pool) (c : ℕ) (m : Move) (j : ℕ) (x : Place) : Type 
   pub there : seen (apply p c m) (slot (apply p c m) j) ≡ x
   pub others : (i : ℕ) → i ≢ j → seen (apply p c m) (slot (apply p c m) i) ≡ seen p (slot p i)
 
--- the writes that touch neither slots nor pins nor table
-abbrev pub silent : Write → Bool
-silent Keep = true
-silent (PutSlot i f) = false
-silent (PutPins f x) = false
-silent (PutCount f x) = true
-silent (TakeFrame f g x y) = false
-silent (PutEntry i g f) = false
-silent (PutHand h) = true
-silent (PutFree x) = true
-
 module _ (p : Pool) (c : ℕ) (m : Move) (r : Reached p) where
   abbrev q : Pool
   q = apply p c m
 
-  -- what the parts of the pool read as after the move, where they were not written
-  record Parts : Type 0 where
-    slots : slotsAfter (p .size) (p .slots) (m .write) ≡ p .slots
-    pins-as : pinsAfter (total p) (p .pins) (m .write) ≡ p .pins
-    entry-pages : entryPagesAfter (total p) (p .«table_pages») (m .write) ≡ p .«table_pages»
-    entry-frames : entryFramesAfter (total p) (p .«table_frames») (m .write) ≡ p .«table_frames»
-
   seen-kept : pinsAfter (total p) (p .pins) (m .write) ≡ p .pins → ((f : ℕ) → mapped q f ≡ mapped p f) → (f : ℕ) → seen q f ≡ seen p f
-  seen-kept a b f = seen-same p q f (ap (λ (x : ℕ). eqb x evicted) (pins-kept p c m (r .shape) a f)) (b f)
+  seen-kept a b f = seen-same p q f (ap (λ (x : ℕ). eqb x evicted) (pins-kept p c m a f)) (b f)
 
+  -- a write that touches neither slots nor pins nor table
   pub as-was : T (silent (m .write)) → Kept p c m
-  unfolding slotsAfter pinsAfter entryPagesAfter entryFramesAfter
-  as-was t = go (m .write) refl t
-    where
-      whole : Parts → Kept p c m
-      whole s i =
-          ap (seen q) (slot-kept p c m (r .shape) (s .slots) i)
-          ∙ seen-kept (s .pins-as) (mapped-kept p c m (r .shape) (s .entry-pages) (s .entry-frames)) (slot p i)
-
-      go : (w : Write) → m .write ≡ w → T (silent w) → Kept p c m
-      go Keep e _ = whole (record { slots = rw e refl; pins-as = rw e refl; entry-pages = rw e refl; entry-frames = rw e refl })
-      go (PutCount f x) e _ = whole (record { slots = rw e refl; pins-as = rw e refl; entry-pages = rw e refl; entry-frames = rw e refl })
-      go (PutHand h) e _ = whole (record { slots = rw e refl; pins-as = rw e refl; entry-pages = rw e refl; entry-frames = rw e refl })
-      go (PutFree x) e _ = whole (record { slots = rw e refl; pins-as = rw e refl; entry-pages = rw e refl; entry-frames = rw e refl })
-      go (PutSlot i f) e t = absurd t
-      go (PutPins f x) e t = absurd t
-      go (TakeFrame f g x y) e t = absurd t
-      go (PutEntry i g f) e t = absurd t
+  as-was t i =
+      ap (seen q) (slot-kept p c m (untouched _ _ (m .write) t .slots) i)
+      ∙ seen-kept (untouched _ _ (m .write) t .pins)
+      (mapped-kept p c m (untouched _ _ (m .write) t .entry-pages) (untouched _ _ (m .write) t .entry-frames)) (slot p i)
 
   -- a frame's pins change
   module _ (f x : ℕ) (e : m .write ≡ PutPins f x) where
     pins-slot : (i : ℕ) → slot q i ≡ slot p i
     unfolding slotsAfter
-    pins-slot = slot-kept p c m (r .shape) (rw e refl)
+    pins-slot = slot-kept p c m (rw e refl)
 
     pins-mapped : (h : ℕ) → mapped q h ≡ mapped p h
     unfolding entryPagesAfter entryFramesAfter
-    pins-mapped = mapped-kept p c m (r .shape) (rw e refl) (rw e refl)
+    pins-mapped = mapped-kept p c m (rw e refl) (rw e refl)
 
     pins-other : (h : ℕ) → h ≢ f → seen q h ≡ seen p h
     unfolding pinsAfter
-    pins-other h z = seen-same p q h (ap (λ (y : ℕ). eqb y evicted) (pins-else p c m (r .shape) f x (rw e refl) h z)) (pins-mapped h)
+    pins-other h z = seen-same p q h (ap (λ (y : ℕ). eqb y evicted) (pins-else p c m f x (rw e refl) h z)) (pins-mapped h)
 
     -- it is evicted as before, or in no entry
     pub pins-put : f < total p → (eqb x evicted ≡ eqb (pins p f) evicted) ⊎ (mapped p f ≡ 0) → Kept p c m
@@ -109,9 +80,9 @@ module _ (p : Pool) (c : ℕ) (m : Move) (r : Reached p) where
   pub taken-frame : (f g x y : ℕ) → m .write ≡ TakeFrame f g x y → ((i : ℕ) → slot p i ≢ f) → Kept p c m
   unfolding slotsAfter pinsAfter entryPagesAfter entryFramesAfter
   taken-frame f g x y e out i =
-      ap (seen q) (slot-kept p c m (r .shape) (rw e refl) i)
-      ∙ seen-same p q (slot p i) (ap (λ (v : ℕ). eqb v evicted) (pins-else p c m (r .shape) f x (rw e refl) (slot p i) (out i)))
-      (mapped-kept p c m (r .shape) (rw e refl) (rw e refl) (slot p i))
+      ap (seen q) (slot-kept p c m (rw e refl) i)
+      ∙ seen-same p q (slot p i) (ap (λ (v : ℕ). eqb v evicted) (pins-else p c m f x (rw e refl) (slot p i) (out i)))
+      (mapped-kept p c m (rw e refl) (rw e refl) (slot p i))
 
   -- a frame that is in no entry is put into a slot whose frame is evicted, as no frame is
   pub slot-put : (j f : ℕ) → m .write ≡ PutSlot j f → j < p .size → mapped p f ≡ 0 → pins p (slot p j) ≡ evicted → Kept p c m
@@ -119,10 +90,10 @@ module _ (p : Pool) (c : ℕ) (m : Move) (r : Reached p) where
   slot-put j f e low n out i = go (ℕ-discrete i j)
     where
       same : (h : ℕ) → seen q h ≡ seen p h
-      same = seen-kept (rw e refl) (mapped-kept p c m (r .shape) (rw e refl) (rw e refl))
+      same = seen-kept (rw e refl) (mapped-kept p c m (rw e refl) (rw e refl))
 
       go : Dec (i ≡ j) → seen q (slot q i) ≡ seen p (slot p i)
-      go (no z) = ap (seen q) (slot-else p c m (r .shape) j f (rw e refl) i z) ∙ same (slot p i)
+      go (no z) = ap (seen q) (slot-else p c m j f (rw e refl) i z) ∙ same (slot p i)
       go (yes w) =
           rw w (ap (seen q) (slot-here p c m (r .shape) j f (rw e refl) low) ∙ (same f ∙ (seen-unmapped p f n ∙ sym (seen-evicted p (slot p j) out))))
 
@@ -130,11 +101,11 @@ module _ (p : Pool) (c : ℕ) (m : Move) (r : Reached p) where
   module _ (j g f : ℕ) (e : m .write ≡ PutEntry j g f) (low : j < total p) (out : pins p (entryFrame p j) ≡ evicted) where
     entry-slot : (i : ℕ) → slot q i ≡ slot p i
     unfolding slotsAfter
-    entry-slot = slot-kept p c m (r .shape) (rw e refl)
+    entry-slot = slot-kept p c m (rw e refl)
 
     entry-pins : (h : ℕ) → pins q h ≡ pins p h
     unfolding pinsAfter
-    entry-pins = pins-kept p c m (r .shape) (rw e refl)
+    entry-pins = pins-kept p c m (rw e refl)
 
     entry-other : (h : ℕ) → h ≢ f → seen q h ≡ seen p h
     entry-other h z = go (ℕ-discrete h (entryFrame p j))

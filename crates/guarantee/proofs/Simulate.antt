@@ -1,5 +1,7 @@
--- A move of the pool as a step of the sequential pool that mirrors it. Each stage is one of six kinds of move: it is quiet, adds a grant, answers
--- one, admits a page, drops a page, or refuses; and each write is one of those that leave every place as it was, or change one. Assumes nothing.
+-- A move of the pool as a step of the sequential pool that mirrors it. Each is one of six kinds: it is quiet, adds a grant, answers one, admits a
+-- page, drops a page, or refuses; and each write leaves every place as it was, or changes one. The premises of the sequential rules are clauses of the
+-- invariant: the wanted page is there because its frame is not evicted, absent because the look-up finds none or an evicted frame, and a dropped page
+-- has no grants because its frame has no pins. Assumes nothing.
 use mathlib.Core.Path.{_≡_, refl, sym, ap, _∙_}
 use mathlib.Core.Logic.{_≢_, _⊎_, inl, inr}
 use mathlib.Core.Bool.{Bool, true, false, _&&_}
@@ -16,25 +18,26 @@ use Rattle.pool.specs.Apply.{apply}
 use Rattle.pool.specs.declared.Pool.{Pool}
 use Rattle.pool.specs.declared.Client.{Client}
 use Rattle.pool.specs.declared.Move.{Move}
-use Rattle.pool.specs.declared.Answer.the-variants.{Refused}
 use Rattle.pool.specs.declared.Counted.{Counted}
 use Rattle.pool.specs.declared.Counted.the-variants.{Nothing, Drop}
 use Rattle.pool.specs.declared.GrantChange.the-variants.{Same}
 use Rattle.pool.specs.declared.Write.the-variants.{PutPins, PutEntry}
 use Rattle.invariant.proofs.Reached.{Reached, one, mapped, pinsFound, Seated, Live, Placed, Orphan}
 use Rattle.invariant.proofs.After.{client-same, client-other, pins-in}
+use Rattle.invariant.proofs.Writes.{silent}
 use Rattle.invariant.proofs.Sums.{sum-zero}
 use Rattle.invariant.proofs.Facts.{own-pins, grant-live}
-use Rattle.invariant.proofs.Grants.{Granting, keeps, opens}
+use Rattle.invariant.proofs.Grants.{grantsOf, Granting, keeps, opens, grantsOf-other, grantsOf-keeps, grantsOf-opens}
 use Rattle.invariant.proofs.Table.{suc-not, some-suc}
-use Rattle.guarantee.specs.Sequential.{Place, empty, holds, Taker, Sequential, place, resting, taker, member, Absent, Unused, adding, admitting, answering, StepRule, adds, admits, drops, answers, moves, refuses}
-use Rattle.guarantee.proofs.Mirror.{seen, seen-unmapped, seen-full, not-member, grantsOf, Taken, open-many, open-grants, taken-as, Mirrors, none-evicted}
-use Rattle.guarantee.proofs.Takers.{Outward, outward, working, gotten, denied, quiet, quiet-means, Stays, Gets, rests, stays, pins-more, answered, admitted}
-use Rattle.guarantee.proofs.Pages.{pages-other, pages-kept, pages-more}
+use Rattle.invariant.proofs.Searches.{live-named}
+use Rattle.guarantee.specs.Sequential.{Place, empty, holds, Taker, Sequential, place, resting, taker, member, Absent, Unused, adding, admitting}
+use Rattle.guarantee.specs.Sequential.{answering, StepRule, adds, admits, drops, answers, moves, refuses}
+use Rattle.guarantee.proofs.Mirror.{seen, seen-unmapped, seen-full, not-member, Taken, open-many, open-grants, taken-as, Mirrors}
+use Rattle.guarantee.proofs.Takers.{Outward, outward, working, gotten, denied, Quiet, Stays, Gets, rests, stays, pins-more, answered, admitted}
 use Rattle.guarantee.proofs.Frames.{same-frame, live-found, found-pinned}
-use Rattle.guarantee.proofs.Places.{there, shows}
+use Rattle.guarantee.proofs.Pages.{there, shows}
 use Rattle.guarantee.proofs.Weights.{full, kept-set, gained, lost, Weighs}
-use Rattle.guarantee.proofs.Shown.{Kept, Changed, silent, as-was, pins-put, pins-out, entry-new}
+use Rattle.guarantee.proofs.Shown.{Kept, Changed, as-was, pins-put, pins-out, entry-new}
 
 -- the move is a step of the sequential pool, and the two pools after it are alike again
 pub record Simulates (p : Pool) (c : ℕ) (q : Sequential) (m : Move) : Type 0 where
@@ -43,11 +46,6 @@ pub record Simulates (p : Pool) (c : ℕ) (q : Sequential) (m : Move) : Type 0 w
   pub rule : StepRule q (taker q c) (m .answer) places next
   pub weighs : Weighs (m .counted) (q .places) places
   pub mirrors : Mirrors (apply p c m) (record { places = places; takers = set (q .takers) c next })
-
--- no pool from setup meets the second
-pub data Stepped (p : Pool) (c : ℕ) (q : Sequential) (m : Move) : Type 0 where
-  goes : Simulates p c q m → Stepped p c q m
-  stops : m .answer ≡ Refused 8 → Stepped p c q m
 
 -- ---- the two pools after a move
 
@@ -67,7 +65,7 @@ module _ {p : Pool} {c : ℕ} {q : Sequential} (acting : Acting p c q) where
   mirror : Mirrors p q
   mirror = acting .mirror
 
-  abbrev pub k : Client
+  abbrev k : Client
   k = client p c
 
   abbrev t : Taker
@@ -76,7 +74,7 @@ module _ {p : Pool} {c : ℕ} {q : Sequential} (acting : Acting p c q) where
   abbrev After : Move → List Place → Taker → Type 0
   After m places next = Mirrors (apply p c m) (record { places = places; takers = set (q .takers) c next })
 
-  pub taken : Taken k (grantsOf p c) t
+  taken : Taken k (grantsOf p c) t
   taken = mirror .takers c
 
   -- the pools after a move are alike if the places and the acting client are
@@ -87,8 +85,8 @@ module _ {p : Pool} {c : ℕ} {q : Sequential} (acting : Acting p c q) where
         go : Dec (d ≡ c) → Taken (client (apply p c m) d) (grantsOf (apply p c m) d) (getD (set (q .takers) c next) d (resting []))
         go (yes e) = rw (e, client-same p c m (r .shape) here, getD-set-same (q .takers) c next (resting []) (omega (arith, mirror .count))) new
         go (no z) =
-            rw (client-other p c m (r .shape) d z, getD-set-other (q .takers) c d next (resting []) z)
-            (taken-as (pages-other p c m (r .shape) here (r .ranges .held-ok) how d z) (mirror .takers d))
+            rw (client-other p c m d z, getD-set-other (q .takers) c d next (resting []) z)
+            (taken-as (grantsOf-other p c m (r .shape) here (r .ranges .held-ok) how d z) (mirror .takers d))
 
     with-places : (places : List Place) → length places ≡ length (q .places)
         → ((i : ℕ) → getD places i empty ≡ seen (apply p c m) (slot (apply p c m) i)) → After m places next
@@ -125,7 +123,7 @@ module _ {p : Pool} {c : ℕ} {q : Sequential} (acting : Acting p c q) where
           at-stage = ap (λ (x : Outward). x .stage) o;
           same-page = ap (λ (x : Outward). x .page) o;
           same-held = same-held;
-          same-grants = pages-kept p c m (r .shape) here few (ap (λ (x : Outward). x .grants) o) same-held;
+          same-grants = grantsOf-keeps p c m (r .shape) here few (ap (λ (x : Outward). x .grants) o) same-held;
         }
 
   module _ (m : Move) (f : ℕ) (u : Counted) (o : outward m ≡ gotten k f u) (room : k .held < 8) where
@@ -140,31 +138,27 @@ module _ {p : Pool} {c : ℕ} {q : Sequential} (acting : Acting p c q) where
         record {
           at-rest = ap (λ (x : Outward). x .stage) o;
           more-held = more-held;
-          more-grants = pages-more p c m (r .shape) here few (k .page) f (ap (λ (x : Outward). x .grants) o) more-held room;
+          more-grants = grantsOf-opens p c m (r .shape) here few (k .page) f (ap (λ (x : Outward). x .grants) o) more-held room;
         }
 
   -- ---- the six kinds of move
 
   module _ (busy : k .stage ≢ 0) where
-    pub quietly : (i j : ℕ) → k .stage ≡ i → {m : Move} → outward m ≡ working k j Nothing → T (quiet i j) → Kept p c m → Stepped p c q m
-    quietly i j e {m} o h same =
-        let w = quiet-means i j h in
-        goes (record {
+    pub quietly : (i j : ℕ) → k .stage ≡ i → {m : Move} → outward m ≡ working k j Nothing → Quiet i j → Kept p c m → Simulates p c q m
+    quietly i j e {m} o w same =
+        record {
           places = q .places;
           next = record { stage = j; wants = t .wants; grants = t .grants };
           rule = rw (ap (λ (x : Outward). x .answer) o) (moves {j = j} (rw (taken .stage ∙ e) (w .still)) (w .low) (w .high));
           weighs = rw (ap (λ (x : Outward). x .counted) o) refl;
           mirrors = same-places m _ (keeping m j Nothing o) (stays taken (works-on m j Nothing o busy) (rw e (w .pins-alike))) same;
-        })
-
-    pub calmly : (i j : ℕ) → k .stage ≡ i → {m : Move} → outward m ≡ working k j Nothing → T (quiet i j) → T (silent (m .write)) → Stepped p c q m
-    calmly i j e {m} o h s = quietly i j e o h (as-was p c m r s)
+        }
 
     pub adds-one : (i j : ℕ) → k .stage ≡ i → T (adding i j) → pinsFound i ≡ false → pinsFound j ≡ true → Live p k → pins p (k .found) ≢ evicted
-        → {m : Move} → outward m ≡ working k j Nothing → m .write ≡ PutPins (k .found) (pins p (k .found) + 1) → Stepped p c q m
+        → {m : Move} → outward m ≡ working k j Nothing → m .write ≡ PutPins (k .found) (pins p (k .found) + 1) → Simulates p c q m
     adds-one i j e h pi pj know live {m} o w =
         let n : ℕ = pins p (k .found) in
-        goes (record {
+        record {
           places = q .places;
           next = record { stage = j; wants = t .wants; grants = t .wants ∷ t .grants };
           rule =
@@ -174,13 +168,13 @@ module _ {p : Pool} {c : ℕ} {q : Sequential} (acting : Acting p c q) where
           mirrors =
               same-places m _ (keeping m j Nothing o) (pins-more taken (works-on m j Nothing o busy) pj (rw e pi))
               (pins-put p c m r (k .found) (n + 1) w (pins-in p (k .found) live) (inl (ne-eqb (n + 1) 0 (λ z. omega arith) ∙ sym (ne-eqb n 0 live))));
-        })
+        }
 
     pub answers-one : (i : ℕ) (u : Counted) → k .stage ≡ i → T (answering i) → pinsFound i ≡ true → gained u ≡ 0 → lost u ≡ 0 → Live p k → k .held < 8
-        → {m : Move} → outward m ≡ gotten k (k .found) u → T (silent (m .write)) → Stepped p c q m
+        → {m : Move} → outward m ≡ gotten k (k .found) u → T (silent (m .write)) → Simulates p c q m
     answers-one i u e h pi no-gain no-loss know room {m} o s =
         let live : pins p (k .found) ≢ evicted = λ z. omega (arith, found-pinned p r c (rw e pi)) in
-        goes (record {
+        record {
           places = q .places;
           next = resting (t .grants);
           rule =
@@ -188,20 +182,20 @@ module _ {p : Pool} {c : ℕ} {q : Sequential} (acting : Acting p c q) where
               (answers {f = k .found} (rw (taken .stage ∙ e) h) (rw (taken .wants busy) (there r mirror (know .0) live (know .1 live))));
           weighs = rw (ap (λ (x : Outward). x .counted) o, no-gain, no-loss) refl;
           mirrors = same-places m _ (opening m (k .found) u o room) (answered taken (gets m (k .found) u o room) (rw e pi)) (as-was p c m r s);
-        })
+        }
 
     -- the wanted page's frames are evicted, and so is the frame of the entry that the own frame gets
     pub admits-one : (i : ℕ) (u : Counted) → k .stage ≡ i → T (admitting i) → pinsFound i ≡ false → gained u ≡ 1 → lost u ≡ 0 → Placed p k → k .held < 8
         → ((f : ℕ) → f ≢ none → mapped p f ≡ suc (k .page) → pins p f ≡ evicted) → (j : ℕ) → j < total p → pins p (entryFrame p j) ≡ evicted
-        → {m : Move} → outward m ≡ gotten k (k .own) u → m .write ≡ PutEntry j (k .page) (k .own) → Stepped p c q m
+        → {m : Move} → outward m ≡ gotten k (k .own) u → m .write ≡ PutEntry j (k .page) (k .own) → Simulates p c q m
     admits-one i u e h pi gain no-loss own room gone j low out {m} o w =
-        goes (record {
+        record {
           places = set (q .places) s x;
           next = resting (t .wants ∷ t .grants);
           rule = rw (ap (λ (x : Outward). x .answer) o) (admits (rw (taken .stage ∙ e) h) absent unused s inside vacant);
           weighs = rw (ap (λ (x : Outward). x .counted) o, gain, no-loss) (omega (arith, kept-set (q .places) s x inside, ap full vacant));
           mirrors = one-place m _ (opening m (k .own) u o room) (admitted taken (gets m (k .own) u o room) busy (rw e pi)) changed;
-        })
+        }
       where
         s : ℕ
         s = own .1 .0
@@ -226,14 +220,14 @@ module _ {p : Pool} {c : ℕ} {q : Sequential} (acting : Acting p c q) where
         absent : Absent q (t .wants)
         absent f at =
             let v = shows r mirror at in
-            v .live (gone (slot p (at .0)) (λ z. v .live (ap (pins p) z ∙ none-evicted p (r .shape))) (v .entry ∙ ap suc (taken .wants busy)))
+            v .live (gone (slot p (at .0)) (live-named p (r .shape) _ (v .live)) (v .entry ∙ ap suc (taken .wants busy)))
 
         unused : Unused q (k .own)
         unused g at = let v = shows r mirror at in suc-not (v .entry) (ap (mapped p) (v .frame) ∙ unmapped)
 
-    pub refuses-one : (i : ℕ) → k .stage ≡ i → pinsFound i ≡ false → {m : Move} → outward m ≡ denied k → T (silent (m .write)) → Stepped p c q m
+    pub refuses-one : (i : ℕ) → k .stage ≡ i → pinsFound i ≡ false → {m : Move} → outward m ≡ denied k → T (silent (m .write)) → Simulates p c q m
     refuses-one i e pi {m} o s =
-        goes (record {
+        record {
           places = q .places;
           next = resting (t .grants);
           rule = rw (ap (λ (x : Outward). x .answer) o) refuses;
@@ -241,8 +235,8 @@ module _ {p : Pool} {c : ℕ} {q : Sequential} (acting : Acting p c q) where
           mirrors =
               same-places m _ (keeps grants held)
               (rests (ap (λ (x : Outward). x .stage) o) (open-many taken pk ∙ sym held)
-              (λ g. open-grants taken pk g ∙ sym (pages-kept p c m (r .shape) here few grants held g))) (as-was p c m r s);
-        })
+              (λ g. open-grants taken pk g ∙ sym (grantsOf-keeps p c m (r .shape) here few grants held g))) (as-was p c m r s);
+        }
       where
         grants : m .grants ≡ Same
         grants = ap (λ (x : Outward). x .grants) o
@@ -278,7 +272,7 @@ module _ {p : Pool} {c : ℕ} {q : Sequential} (acting : Acting p c q) where
             ap one (ne-eqb _ _ (λ w. only (client p d .found) (know .0) two (know .1 (λ x. omega arith) ∙ ap suc w)))
 
     pub drops-one : k .stage ≡ 14 → k .victim ≢ none → pins p (k .victim) ≡ pinned 0 → Seated p (k .victim)
-        → {m : Move} → outward m ≡ working k 15 Drop → m .write ≡ PutPins (k .victim) evicted → Stepped p c q m
+        → {m : Move} → outward m ≡ working k 15 Drop → m .write ≡ PutPins (k .victim) evicted → Simulates p c q m
     drops-one e z unpinned seat {m} o w = by-known (r .outline .known f z live)
       where
         f : ℕ
@@ -293,10 +287,10 @@ module _ {p : Pool} {c : ℕ} {q : Sequential} (acting : Acting p c q) where
         changed : Changed p c m s empty
         changed = pins-out p c m r f evicted w refl (pins-in p f live) z s (seat .1)
 
-        drop : (g : ℕ) → mapped p f ≡ suc g → Stepped p c q m
+        drop : (g : ℕ) → mapped p f ≡ suc g → Simulates p c q m
         drop g n =
             let holding : place q s ≡ holds g f = mirror .places s ∙ (ap (seen p) (seat .1) ∙ seen-full p f live n) in
-            goes (record {
+            record {
               places = set (q .places) s empty;
               next = record { stage = 15; wants = t .wants; grants = t .grants };
               rule = rw (ap (λ (x : Outward). x .answer) o) (drops {j = 15} (rw (taken .stage ∙ e) tt) s holding (unheld f g z unpinned n));
@@ -304,9 +298,9 @@ module _ {p : Pool} {c : ℕ} {q : Sequential} (acting : Acting p c q) where
                   rw (ap (λ (x : Outward). x .counted) o)
                   (omega (arith, kept-set (q .places) s empty (omega (arith, mirror .size, changed .inside)), ap full holding));
               mirrors = one-place m _ (keeping m 15 Drop o) (stays taken (works-on m 15 Drop o busy) (rw e refl)) changed;
-            })
+            }
 
-        by-known : (mapped p f ≢ 0) ⊎ (((d : ℕ) × (client p d .own ≡ f)) ⊎ Orphan p f) → Stepped p c q m
+        by-known : (mapped p f ≢ 0) ⊎ (((d : ℕ) × (client p d .own ≡ f)) ⊎ Orphan p f) → Simulates p c q m
         by-known (inl n) = let g = some-suc (mapped p f) n in drop (g .0) (g .1)
         by-known (inr (inl d)) =
             let two : pins p f ≡ pinned 1 = rw (d .1) at (own-pins p r (d .0) (λ n. z (sym (d .1) ∙ n))) in

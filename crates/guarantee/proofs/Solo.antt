@@ -3,7 +3,7 @@
 -- it is d places on. Assumes nothing.
 use mathlib.Core.Path.{_≡_, refl, sym, ap, _∙_}
 use mathlib.Core.Logic.{_≢_, _⊎_, inl, inr}
-use mathlib.Core.Bool.{Bool, true, false}
+use mathlib.Core.Bool.{true, false}
 use mathlib.Core.List.{List, [], _∷_}
 use Prim.Native.Nat.{ℕ, zero, suc, _+_, _-_, _≤_, _<_, _%_}
 use native.Mathlib.Decide.{ℕ-discrete, decLt}
@@ -11,10 +11,10 @@ use native.Mathlib.Nat.{mod-lt}
 use native.Mathlib.Omega.{arith}
 use lib.Dec.{T, eqb}
 use borrow.Author.Tests.{eqb-true, eqb-false, ltb-true, ltb-false, not-true, not-false}
-use Rattle.pool.specs.State.{none, evicted, clientCount, total, slot, pins, entryPage, entryFrame, client}
-use Rattle.pool.specs.Table.{maps, entryOf, lookup, resident}
+use Rattle.pool.specs.State.{none, evicted, clientCount, slot, pins, client}
+use Rattle.pool.specs.Table.{lookup, resident}
 use Rattle.pool.specs.Moves.{works, withPlace}
-use Rattle.pool.specs.Apply.{slotsAfter, pinsAfter, freeAfter, entryPagesAfter, entryFramesAfter, apply}
+use Rattle.pool.specs.Apply.{slotsAfter, pinsAfter, freeAfter, apply}
 use Rattle.pool.specs.Stages.{around}
 use Rattle.pool.specs.Calls.{setupOf, beginMove, callOf, poolAfter}
 use Rattle.pool.specs.declared.Pool.{Pool}
@@ -24,47 +24,23 @@ use Rattle.pool.specs.declared.Outcome.{Outcome}
 use Rattle.pool.specs.declared.Call.{Call}
 use Rattle.pool.specs.declared.Call.the-variants.{Begin, Step}
 use Rattle.pool.specs.declared.Answer.the-variants.{Done, Granted}
-use Rattle.pool.specs.declared.Write.{Write}
-use Rattle.pool.specs.declared.Write.the-variants.{Keep, PutSlot, PutPins, PutCount, TakeFrame, PutEntry, PutHand, PutFree}
+use Rattle.pool.specs.declared.Write.the-variants.{Keep}
 use Rattle.laws.specs.Choices.{by-test}
 use Rattle.invariant.proofs.Reached.{one, sumTo, filling, Leaves, Shape, Reached}
-use Rattle.invariant.proofs.After.{pins-kept, pins-past, slot-kept}
-use Rattle.invariant.proofs.Searches.{few-frames}
+use Rattle.invariant.proofs.After.{pins-kept, slot-kept}
+use Rattle.invariant.proofs.Writes.{keepsTable, lookup-kept}
+use Rattle.invariant.proofs.Searches.{live-named}
 use Rattle.invariant.proofs.Table.{suc-not, lookup-mapped}
-use Rattle.invariant.proofs.Sums.{sum-zero, sum-has, sum-some}
+use Rattle.invariant.proofs.Sums.{sum-zero, sum-has, some-one}
 use Rattle.invariant.proofs.Calls.{reached-calls}
 use Rattle.guarantee.specs.Runs.{events, At}
 use Rattle.guarantee.specs.Claims.{GrantedWithin, Claim-limits}
 use Rattle.guarantee.proofs.Start.{starts}
-use Rattle.guarantee.proofs.Turned.{other-answer, down, by-move, went}
-use Rattle.guarantee.proofs.Steps.{On, Goes, begun-is, begun-on, answer-is, onto, on-next, go1, go1-found, go2, go3, go4, go5, go6, go7, go8, go8-on, go9, go18}
+use Rattle.guarantee.proofs.Turned.{down, by-move, went}
+use Rattle.guarantee.proofs.SoloSteps.{On, Goes, begun-is, begun-on, answer-is, onto, on-next, go1, go1-found, go2, go3, go4, go5, go6, go7, go8, go8-on}
+use Rattle.guarantee.proofs.SoloSteps.{go9, go18}
 
--- ---- what a write leaves of a look-up
-
-abbrev pub keepsTable : Write → Bool
-keepsTable Keep = true
-keepsTable (PutSlot i f) = true
-keepsTable (PutPins f x) = true
-keepsTable (PutCount f x) = true
-keepsTable (TakeFrame f g x y) = true
-keepsTable (PutEntry i g f) = false
-keepsTable (PutHand h) = true
-keepsTable (PutFree x) = true
-
-table-kept : (w : Write) → T (keepsTable w) → (n : ℕ) (l : List ℕ) → (entryPagesAfter n l w ≡ l) × (entryFramesAfter n l w ≡ l)
-unfolding entryPagesAfter entryFramesAfter
-table-kept Keep t n l = (refl, refl)
-table-kept (PutSlot i f) t n l = (refl, refl)
-table-kept (PutPins f x) t n l = (refl, refl)
-table-kept (PutCount f x) t n l = (refl, refl)
-table-kept (TakeFrame f g x y) t n l = (refl, refl)
-table-kept (PutEntry i g f) t n l = absurd t
-table-kept (PutHand h) t n l = (refl, refl)
-table-kept (PutFree x) t n l = (refl, refl)
-
-pub lookup-kept : (p : Pool) (c : ℕ) (m : Move) → T (keepsTable (m .write)) → (g : ℕ) → lookup (apply p c m) g ≡ lookup p g
-unfolding apply lookup entryOf maps entryPage entryFrame
-lookup-kept p c m t g = rw (table-kept (m .write) t (total p) (p .«table_pages») .0, table-kept (m .write) t (total p) (p .«table_frames») .1) refl
+-- ---- the pool after a step
 
 module _ {p : Pool} {b g i : ℕ} {m : Move} (on : On p b g i) (w : Goes p b m) where
   pub next-is : (P : Pool → Client → Type 0) → P (apply p b m) (m .next) → P (callOf p (Step b) .pool) (client (callOf p (Step b) .pool) b)
@@ -100,7 +76,7 @@ unfolding pinsAfter
 hit1 p b g on n z =
     let w = go1-found p b g on n in
     within-next p b 2 (hit2 _ b g (on-next w 2 on refl refl) (next-is on w (λ q k. pins q (k .found) ≢ evicted)
-    (λ e. z (ap (λ (x : ℕ). pins p (lookup p x)) (sym (on .page)) ∙ (sym (pins-kept p b _ (on .reached .shape) refl _) ∙ e)))))
+    (λ e. z (ap (λ (x : ℕ). pins p (lookup p x)) (sym (on .page)) ∙ (sym (pins-kept p b _ refl _) ∙ e)))))
 
 -- ---- an admission to an empty slot
 
@@ -145,7 +121,7 @@ closer p j i d h = go (around-is (p .size) j (h .place)) (h .far)
 ahead-next : (p : Pool) (b : ℕ) (m : Move) {j i d : ℕ} → Shape p → m .write ≡ Keep → Ahead p j i d → Ahead (apply p b m) j i d
 unfolding apply slotsAfter
 ahead-next p b m s e h =
-    record { place = h .place; inside = h .inside; empty = slot-kept p b m s (rw e refl) _ ∙ h .empty; far = h .far }
+    record { place = h .place; inside = h .inside; empty = slot-kept p b m (rw e refl) _ ∙ h .empty; far = h .far }
 
 adm8 : (d : ℕ) (p : Pool) (b g i : ℕ) → On p b g 8 → lookup p g ≡ none → Ahead p (client p b .place) i d → GrantedWithin p b (d + 3)
 adm8 zero p b g i on a h = fills p b g on a (go (h .far))
@@ -163,14 +139,6 @@ adm8 (suc d) p b g i on a h =
           (ih (on-next w 8 on refl refl) (absent-next on w tt a)
           (next-is on w (λ q k. Ahead q (k .place) i d) (ahead-next p b _ (on .reached .shape) refl (closer p _ i d h)))))
     ]
-
--- a sum of tests that is not 0 has one that passes
-pub some-one : (t : ℕ → Bool) (n : ℕ) → sumTo (λ i. one (t i)) n ≢ 0 → (i : ℕ) × (i < n) × (t i ≡ true)
-some-one t n z = let r = sum-some (λ i. one (t i)) n z in (r .0, r .1, passes (t (r .0)) (r .2))
-  where
-    passes : (b : Bool) → one b ≢ 0 → b ≡ true
-    passes true _ = refl
-    passes false n = absurd (n refl)
 
 -- some slot is empty where the empty slots are not none
 pub some-empty : (p : Pool) → sumTo (λ i. one (eqb (slot p i) none)) (p .size) ≢ 0 → (i : ℕ) × (i < p .size) × (slot p i ≡ none)
@@ -249,13 +217,13 @@ module _ (p : Pool) (r : Reached p) (rest : (c : ℕ) → client p c .stage ≡ 
       go (c, (_, inr h)) = let q : _≡_ {A = ℕ} 0 15 = sym (rest c) ∙ h .0 in omega arith
 
   -- so a page is resident exactly if the look-up finds it
-  pub resident-found : (g : ℕ) → resident p g ≡ true → (lookup p g ≢ none) × (pins p (lookup p g) ≢ evicted)
+  resident-found : (g : ℕ) → resident p g ≡ true → (lookup p g ≢ none) × (pins p (lookup p g) ≢ evicted)
   unfolding resident
   resident-found g e =
       let live = eqb-false _ evicted (not-true _ e) in
-      ((λ z. live (ap (pins p) z ∙ pins-past p none (omega (arith, few-frames p (r .shape))))), live)
+      (live-named p (r .shape) _ live, live)
 
-  pub absent-found : (g : ℕ) → resident p g ≡ false → lookup p g ≡ none
+  absent-found : (g : ℕ) → resident p g ≡ false → lookup p g ≡ none
   unfolding resident
   absent-found g e =
       elim (ℕ-discrete (lookup p g) none) [ yes q ↦ q | no z ↦ absurd (no-ghost g z (eqb-true _ evicted (not-false _ e))) ]
@@ -271,14 +239,14 @@ module _ (p : Pool) (r : Reached p) (rest : (c : ℕ) → client p c .stage ≡ 
         sum-zero (λ c. one (filling (client p c .stage))) (clientCount p) (λ c _. ap (λ (x : ℕ). one (filling x)) (rest c)),
       )
 
-  pub limits-from : (n b g : ℕ) → p .size ≡ n → callOf p (Begin b g) .answer ≡ Done g
+  limits-from : (n b g : ℕ) → p .size ≡ n → callOf p (Begin b g) .answer ≡ Done g
       → (resident p g ≡ true → GrantedWithin (callOf p (Begin b g) .pool) b 3)
       × (resident p g ≡ false → (i : ℕ) → i < p .size → slot p i ≡ none → GrantedWithin (callOf p (Begin b g) .pool) b (n + 7))
   unfolding apply pinsAfter freeAfter
   limits-from n b g sz a = (
     (λ e. let f = resident-found g e in
         hit1 _ b g on (begun-is p b g a (λ q. lookup q g ≢ none) (rw (lookup-kept p b m tt g) (f .0)))
-        (begun-is p b g a (λ q. pins q (lookup q g) ≢ evicted) (rw (lookup-kept p b m tt g, pins-kept p b m (r .shape) refl (lookup p g)) (f .1)))),
+        (begun-is p b g a (λ q. pins q (lookup q g) ≢ evicted) (rw (lookup-kept p b m tt g, pins-kept p b m refl (lookup p g)) (f .1)))),
     (λ e i h s. adm1 _ b g n (begun-is p b g a (λ q. q .size ≡ n) sz) on
         (begun-is p b g a (λ q. lookup q g ≡ none) (lookup-kept p b m tt g ∙ absent-found g e))
         (begun-is p b g a (λ q. q .free ≢ 0) (free-some i h s))),
@@ -305,4 +273,5 @@ pub limits : Claim-limits
 limits s t c h e calls b g rest a =
     let first = starts s t c h e in
     let size = ap (λ (p : Pool). p .size) (first .fresh-pool) in
-    limits-from (poolAfter (setupOf s t c h .pool) calls) (reached-calls _ calls (first .reached)) rest s b g (size-after (setupOf s t c h .pool) calls ∙ size) a
+    limits-from (poolAfter (setupOf s t c h .pool) calls) (reached-calls _ calls (first .reached)) rest s b g
+    (size-after (setupOf s t c h .pool) calls ∙ size) a

@@ -1,4 +1,4 @@
--- What each stage answers, where its client stands then, and what the tally counts: one line for each of the 23. `edges` says which stages an
+-- What each stage answers and where its client stands then, of every pool, a handed one too: one line for each of the 23. `edges` says which stages an
 -- answer `Working` leads to and `granting` which stages grant; a fact about these is then checked on the lists alone (`on-edges`, `on-grants`).
 -- Assumes nothing.
 use mathlib.Core.Path.{_≡_, refl}
@@ -10,15 +10,16 @@ use lib.ListN.{getD}
 use borrow.Author.Tests.{eqb-true}
 use Rattle.pool.specs.Choose.{choose}
 use Rattle.pool.specs.Moves.{stuck, granted, refused15}
-use Rattle.pool.specs.Stages.{busyVisit, evictOwn, Stage, noStage, stages, stageMove, stage1, stage2, stage3, stage4, stage5, stage6, stage7, stage8, stage9, stage10, stage11, stage12, stage13, stage14, stage15, stage16, stage17, stage18, stage19, stage20, stage21, stage22, stage23}
+use Rattle.pool.specs.Stages.{busyVisit, evictOwn, Stage, noStage, stages, stageMove, stage1, stage2, stage3, stage4, stage5, stage6, stage7, stage8, stage9}
+use Rattle.pool.specs.Stages.{stage10, stage11, stage12, stage13, stage14, stage15, stage16, stage17, stage18, stage19, stage20, stage21, stage22, stage23}
 use Rattle.pool.specs.declared.Pool.{Pool}
 use Rattle.pool.specs.declared.Client.{Client}
 use Rattle.pool.specs.declared.Move.{Move}
 use Rattle.pool.specs.declared.Write.{Write}
 use Rattle.pool.specs.declared.Answer.the-variants.{Working, Granted}
 use Rattle.pool.specs.declared.Counted.{Counted}
-use Rattle.pool.specs.declared.Counted.the-variants.{Nothing, Hit, Join, Admitted, Revived, Drop}
 use Rattle.laws.specs.Choices.{by-test}
+use Rattle.invariant.proofs.Flags.{and-parts}
 use Rattle.invariant.proofs.Each.{Each, fin, _also_, each-at}
 
 -- ---- the edges between the stages
@@ -41,20 +42,13 @@ among j (x ∷ xs) = cond (eqb j x) true (among j xs)
 abbrev pub leads : ℕ → ℕ → Bool
 leads i j = among j (getD edges i [])
 
--- the tally counts a 14 that evicted
-abbrev pub leadsAs : ℕ → ℕ → Counted
-leadsAs i j = cond (eqb i 14 && eqb j 15) Drop Nothing
-
-abbrev pub grantsAs : ℕ → Counted
-grantsAs i = cond (eqb i 3) Hit (cond (eqb i 18) Admitted (cond (eqb i 21) Join Revived))
-
 -- "Granted at 3 or 21 answers the wanted page's frame", the one found; at 18 or 22 the own frame
 abbrev pub given : ℕ → Client → ℕ
 given i k = cond (eqb i 3 || eqb i 21) (k .found) (k .own)
 
 -- ---- what holds at each granting stage, and a test that each edge passes
 
-abbrev pub AllOf : (ℕ → Type 0) → List ℕ → Type 0
+abbrev AllOf : (ℕ → Type 0) → List ℕ → Type 0
 AllOf P [] = Unit {0}
 AllOf P (x ∷ xs) = P x × AllOf P xs
 
@@ -69,25 +63,21 @@ among-all P (x ∷ xs) a j h = go (eqb j x) refl h (among-all P xs (a .1) j)
 pub on-grants : (P : ℕ → Type 0) → P 3 → P 18 → P 21 → P 22 → (i : ℕ) → T (among i granting) → P i
 on-grants P a b c d i h = among-all P granting (a, (b, (c, (d, tt)))) i h
 
-abbrev pub forAll : (ℕ → Bool) → List ℕ → Bool
+abbrev forAll : (ℕ → Bool) → List ℕ → Bool
 forAll t [] = true
 forAll t (x ∷ xs) = t x && forAll t xs
 
-abbrev pub forEdges : (ℕ → ℕ → Bool) → ℕ → List (List ℕ) → Bool
+abbrev forEdges : (ℕ → ℕ → Bool) → ℕ → List (List ℕ) → Bool
 forEdges t i [] = true
 forEdges t i (l ∷ ls) = forAll (t i) l && forEdges t (suc i) ls
 
-pub and-both : (a b : Bool) → T (a && b) → T a × T b
-and-both true b h = (tt, h)
-and-both false b h = absurd h
-
 all-of : (t : ℕ → Bool) (l : List ℕ) → T (forAll t l) → AllOf (λ x. T (t x)) l
 all-of t [] a = tt
-all-of t (x ∷ xs) a = let p = and-both (t x) (forAll t xs) a in (p .0, all-of t xs (p .1))
+all-of t (x ∷ xs) a = let p = and-parts (t x) (forAll t xs) a in (p .0, all-of t xs (p .1))
 
 edges-from : (t : ℕ → ℕ → Bool) (ls : List (List ℕ)) (i : ℕ) → T (forEdges t i ls) → Each (λ i l. AllOf (λ x. T (t i x)) l) i ls
 edges-from t [] i a = fin
-edges-from t (l ∷ ls) i a = let p = and-both (forAll (t i) l) (forEdges t (suc i) ls) a in all-of (t i) l (p .0) also edges-from t ls (suc i) (p .1)
+edges-from t (l ∷ ls) i a = let p = and-parts (forAll (t i) l) (forEdges t (suc i) ls) a in all-of (t i) l (p .0) also edges-from t ls (suc i) (p .1)
 
 pub on-edges : (t : ℕ → ℕ → Bool) → T (forEdges t 0 edges) → (i j : ℕ) → T (leads i j) → T (t i j)
 on-edges t a i j h =
@@ -96,9 +86,8 @@ on-edges t a i j h =
 -- ---- the stages
 
 pub data Fits (k : Client) (m : Move) : Type 0 where
-  goes : (j : ℕ) → T (leads (k .stage) j) → m .answer ≡ Working j → m .next .stage ≡ j → m .counted ≡ leadsAs (k .stage) j → Fits k m
-  grants : (f : ℕ) → T (among (k .stage) granting) → f ≡ given (k .stage) k → m .answer ≡ Granted f → m .next .stage ≡ 0 → m .counted ≡ grantsAs (k .stage)
-      → Fits k m
+  goes : (j : ℕ) → T (leads (k .stage) j) → m .answer ≡ Working j → m .next .stage ≡ j → Fits k m
+  grants : (f : ℕ) → T (among (k .stage) granting) → f ≡ given (k .stage) k → m .answer ≡ Granted f → m .next .stage ≡ 0 → Fits k m
   refuses : m ≡ refused15 k → Fits k m
   sticks : m ≡ stuck k → Fits k m
 
@@ -107,51 +96,52 @@ FitsAt i f = (p : Pool) (k : Client) → k .stage ≡ i → Fits k (f p k)
 
 module _ {k : Client} {i : ℕ} (e : k .stage ≡ i) where
   -- the move leads on to stage j
-  to : {m : Move} (j : ℕ) → T (leads i j) → m .answer ≡ Working j → m .next .stage ≡ j → m .counted ≡ leadsAs i j → Fits k m
-  to j h a n c = goes j (rw e h) a n (rw e c)
+  to : {m : Move} (j : ℕ) → T (leads i j) → m .answer ≡ Working j → m .next .stage ≡ j → Fits k m
+  to j h a n = goes j (rw e h) a n
 
-  gives : (f : ℕ) (w : Write) (u : Counted) → T (among i granting) → f ≡ given i k → u ≡ grantsAs i → Fits k (granted k f w u)
+  gives : (f : ℕ) (w : Write) (u : Counted) → T (among i granting) → f ≡ given i k → Fits k (granted k f w u)
   unfolding granted
-  gives f w u h g c = by-test (Fits k) (λ _. grants f (rw e h) (rw e g) refl refl (rw e c)) (λ _. sticks refl)
+  gives f w u h g = by-test (Fits k) (λ _. grants f (rw e h) (rw e g) refl refl) (λ _. sticks refl)
 
-  busy : (size : ℕ) → T (leads i 11) → Nothing ≡ leadsAs i 11 → Fits k (busyVisit k size)
+  busy : (size : ℕ) → T (leads i 11) → Fits k (busyVisit k size)
   unfolding busyVisit
-  busy size h c = by-test (Fits k) (λ _. refuses refl) (λ _. to 11 h refl refl c)
+  busy size h = by-test (Fits k) (λ _. refuses refl) (λ _. to 11 h refl refl)
 
-  evicts : (n j : ℕ) → T (leads i j) → Nothing ≡ leadsAs i j → Fits k (evictOwn k n j)
+  evicts : (n j : ℕ) → T (leads i j) → Fits k (evictOwn k n j)
   unfolding evictOwn
-  evicts n j h c = by-test (Fits k) (λ _. to j h refl refl c) (λ _. to j h refl refl c)
+  evicts n j h = by-test (Fits k) (λ _. to j h refl refl) (λ _. to j h refl refl)
 
 fork : {k : Client} (t : Bool) {x y : Move} → Fits k x → Fits k y → Fits k (choose t x y)
 fork {k} t a b = by-test (Fits k) (λ _. a) (λ _. b)
 
 fits-stages : Each FitsAt 0 stages
-unfolding stage1 stage2 stage3 stage4 stage5 stage6 stage7 stage8 stage9 stage10 stage11 stage12 stage13 stage14 stage15 stage16 stage17 stage18 stage19 stage20 stage21 stage22 stage23
+unfolding stage1 stage2 stage3 stage4 stage5 stage6 stage7 stage8 stage9 stage10 stage11 stage12 stage13
+    stage14 stage15 stage16 stage17 stage18 stage19 stage20 stage21 stage22 stage23
 fits-stages =
     (λ p k e. sticks refl)
-    also (λ p k e. fork _ (to e 4 tt refl refl refl) (to e 2 tt refl refl refl))
-    also (λ p k e. fork _ (to e 4 tt refl refl refl) (to e 3 tt refl refl refl))
-    also (λ p k e. gives e _ _ _ tt refl refl)
-    also (λ p k e. fork _ (sticks refl) (to e 5 tt refl refl refl))
-    also (λ p k e. fork _ (to e 10 tt refl refl refl) (to e 6 tt refl refl refl))
-    also (λ p k e. fork _ (fork _ (sticks refl) (to e 7 tt refl refl refl)) (to e 5 tt refl refl refl))
-    also (λ p k e. to e 8 tt refl refl refl)
-    also (λ p k e. fork _ (to e 9 tt refl refl refl) (to e 8 tt refl refl refl))
-    also (λ p k e. to e 18 tt refl refl refl)
-    also (λ p k e. to e 11 tt refl refl refl)
-    also (λ p k e. fork _ (busy e _ tt refl) (to e 12 tt refl refl refl))
-    also (λ p k e. fork _ (to e 15 tt refl refl refl) (fork _ (to e 13 tt refl refl refl) (busy e _ tt refl)))
-    also (λ p k e. fork _ (to e 14 tt refl refl refl) (to e 11 tt refl refl refl))
-    also (λ p k e. fork _ (to e 15 tt refl refl refl) (to e 11 tt refl refl refl))
-    also (λ p k e. fork _ (to e 16 tt refl refl refl) (to e 11 tt refl refl refl))
-    also (λ p k e. to e 17 tt refl refl refl)
-    also (λ p k e. fork _ (to e 18 tt refl refl refl) (to e 18 tt refl refl refl))
-    also (λ p k e. fork _ (fork _ (sticks refl) (gives e _ _ _ tt refl refl)) (to e 19 tt refl refl refl))
-    also (λ p k e. fork _ (to e 22 tt refl refl refl) (to e 20 tt refl refl refl))
-    also (λ p k e. evicts e _ 21 tt refl)
-    also (λ p k e. gives e _ _ _ tt refl refl)
-    also (λ p k e. fork _ (gives e _ _ _ tt refl refl) (to e 23 tt refl refl refl))
-    also (λ p k e. evicts e _ 4 tt refl)
+    also (λ p k e. fork _ (to e 4 tt refl refl) (to e 2 tt refl refl))
+    also (λ p k e. fork _ (to e 4 tt refl refl) (to e 3 tt refl refl))
+    also (λ p k e. gives e _ _ _ tt refl)
+    also (λ p k e. fork _ (sticks refl) (to e 5 tt refl refl))
+    also (λ p k e. fork _ (to e 10 tt refl refl) (to e 6 tt refl refl))
+    also (λ p k e. fork _ (fork _ (sticks refl) (to e 7 tt refl refl)) (to e 5 tt refl refl))
+    also (λ p k e. to e 8 tt refl refl)
+    also (λ p k e. fork _ (to e 9 tt refl refl) (to e 8 tt refl refl))
+    also (λ p k e. to e 18 tt refl refl)
+    also (λ p k e. to e 11 tt refl refl)
+    also (λ p k e. fork _ (busy e _ tt) (to e 12 tt refl refl))
+    also (λ p k e. fork _ (to e 15 tt refl refl) (fork _ (to e 13 tt refl refl) (busy e _ tt)))
+    also (λ p k e. fork _ (to e 14 tt refl refl) (to e 11 tt refl refl))
+    also (λ p k e. fork _ (to e 15 tt refl refl) (to e 11 tt refl refl))
+    also (λ p k e. fork _ (to e 16 tt refl refl) (to e 11 tt refl refl))
+    also (λ p k e. to e 17 tt refl refl)
+    also (λ p k e. fork _ (to e 18 tt refl refl) (to e 18 tt refl refl))
+    also (λ p k e. fork _ (fork _ (sticks refl) (gives e _ _ _ tt refl)) (to e 19 tt refl refl))
+    also (λ p k e. fork _ (to e 22 tt refl refl) (to e 20 tt refl refl))
+    also (λ p k e. evicts e _ 21 tt)
+    also (λ p k e. gives e _ _ _ tt refl)
+    also (λ p k e. fork _ (gives e _ _ _ tt refl) (to e 23 tt refl refl))
+    also (λ p k e. evicts e _ 4 tt)
     also fin
 
 pub fits : (p : Pool) (k : Client) → Fits k (stageMove p k)

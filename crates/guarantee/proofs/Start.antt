@@ -1,7 +1,9 @@
--- A setup that is done gives a fresh pool, and that is reached. Assumes nothing.
+-- A setup that is done has numbers in range and gives a fresh pool, and that is reached. Assumes nothing.
 use mathlib.Core.Path.{_≡_, refl}
+use mathlib.Core.Bool.{true}
 use Prim.Native.Nat.{ℕ}
 use native.Mathlib.Omega.{arith}
+use Rattle.pool.specs.Valid.{numbersOk}
 use Rattle.pool.specs.Calls.{fresh, setupOf}
 use Rattle.pool.specs.declared.Outcome.{Outcome}
 use Rattle.pool.specs.declared.Pool.{Pool}
@@ -11,6 +13,7 @@ use Rattle.invariant.proofs.Reached.{Reached}
 use Rattle.invariant.proofs.Setup.{reached-setup}
 
 pub record Starts (s t c h : ℕ) (p : Pool) : Type 0 where
+  pub ok : numbersOk s t c ≡ true
   pub fresh-pool : p ≡ fresh s t c h
   pub reached : Reached p
 
@@ -18,4 +21,4 @@ pub starts : (s t c h : ℕ) → setupOf s t c h .answer ≡ Done s → Starts s
 unfolding setupOf
 starts s t c h =
     by-test (λ (o : Outcome). o .answer ≡ Done s → Starts s t c h (o .pool))
-    (λ ok _. record { fresh-pool = refl; reached = reached-setup s t c h ok }) (λ _ e. let z : _≡_ {A = ℕ} 0 1 = cc in absurd (omega arith))
+    (λ ok _. record { ok = ok; fresh-pool = refl; reached = reached-setup s t c h ok }) (λ _ e. let z : _≡_ {A = ℕ} 0 1 = cc in absurd (omega arith))

@@ -20,18 +20,19 @@ use Rattle.pool.specs.declared.Counted.{Counted}
 use Rattle.pool.specs.declared.Counted.the-variants.{Nothing, Hit, Join, Admitted, Revived, Drop, Refusal}
 use Rattle.laws.specs.Choices.{by-test, chosen, passed}
 use Rattle.invariant.proofs.Reached.{Reached, Apart, one, sumTo, mapped}
-use Rattle.invariant.proofs.After.{slot-in, pins-in, entry-in}
+use Rattle.invariant.proofs.After.{few-frames, slot-in, pins-in, entry-in}
 use Rattle.invariant.proofs.Sums.{sum-same}
-use Rattle.invariant.proofs.Searches.{few-frames}
+use Rattle.invariant.proofs.Searches.{live-named}
 use Rattle.invariant.proofs.Table.{mapped-entry, mapped-is}
 use Rattle.invariant.proofs.Calls.{reached-call}
 use Rattle.invariant.proofs.Pigeon.{below, equal, below-all, equal-has, equal-none, equal-least}
 use Rattle.guarantee.specs.Runs.{Event, events}
 use Rattle.guarantee.specs.Sequential.{Sequential, place}
 use Rattle.guarantee.specs.Claims.{tallyOf, Below, Claim-sum}
-use Rattle.guarantee.proofs.Mirror.{seen, seen-evicted, seen-unmapped, seen-full, Mirrors, none-evicted}
+use Rattle.guarantee.proofs.Mirror.{seen, seen-evicted, seen-unmapped, seen-full, Mirrors}
 use Rattle.guarantee.proofs.Weights.{occupied, full, kept, kept-sum, kept-none, gained, lost}
-use Rattle.guarantee.proofs.Sequence.{followed, mirrors-start}
+use Rattle.guarantee.proofs.Follow.{followed}
+use Rattle.guarantee.proofs.Sequence.{mirrors-start}
 use Rattle.guarantee.proofs.Start.{starts}
 
 -- ---- a numbering that gives each number with a property once gives as many of them as there are
@@ -53,7 +54,7 @@ module _ (P : ℕ → Bool) (g : ℕ → ℕ) (n b : ℕ) (few : b ≤ none) (lo
       go true a e = record { has = a; is = e }
       go false a e = absurd (omega arith)
 
-  pub same-count : Apart g none → ((f : ℕ) → P f ≡ true → (i : ℕ) × (i < n) × (g i ≡ f)) → sumTo (λ f. one (P f)) b ≡ sumTo (λ i. one (P (g i))) n
+  same-count : Apart g none → ((f : ℕ) → P f ≡ true → (i : ℕ) × (i < n) × (g i ≡ f)) → sumTo (λ f. one (P f)) b ≡ sumTo (λ i. one (P (g i))) n
   unfolding below
   same-count apart stands =
       sum-same (equal picked n) _ b (λ f h. once f h (P f) refl)
@@ -87,7 +88,7 @@ how-many t (suc n) = go (t n) (how-many t n)
     go true e = omega arith
     go false e = omega arith
 
-pub residents-kept : (p : Pool) (q : Sequential) → Reached p → Mirrors p q → residents p ≡ kept (q .places)
+residents-kept : (p : Pool) (q : Sequential) → Reached p → Mirrors p q → residents p ≡ kept (q .places)
 unfolding residents
 residents-kept p q r mirror =
     how-many _ (total p)
@@ -105,9 +106,6 @@ residents-kept p q r mirror =
     entered : (f : ℕ) → P f ≡ true → mapped p f ≢ 0
     entered f h e = true≢false (sym h ∙ ap occupied (seen-unmapped p f e))
 
-    named : (f : ℕ) → pins p f ≢ evicted → f ≢ none
-    named f l z = l (ap (pins p) z ∙ none-evicted p (r .shape))
-
     counted : (g : ℕ → ℕ) (n : ℕ) → Apart g none → ((f : ℕ) → P f ≡ true → (i : ℕ) × (i < n) × (g i ≡ f))
         → sumTo (λ f. one (P f)) (total p) ≡ sumTo (λ i. one (P (g i))) n
     counted g n = same-count P g n (total p) (omega (arith, few-frames p (r .shape))) (λ f h. pins-in p f (live f h))
@@ -115,11 +113,11 @@ residents-kept p q r mirror =
     in-entry : (f : ℕ) → P f ≡ true → (i : ℕ) × (i < total p) × (entryFrame p i ≡ f)
     in-entry f h =
         let e = mapped-entry p f (entered f h) in
-        (e .0, entry-in p (e .0) (λ z. named f (live f h) (sym (e .1) ∙ z)), e .1)
+        (e .0, entry-in p (e .0) (λ z. live-named p (r .shape) f (live f h) (sym (e .1) ∙ z)), e .1)
 
     in-slot : (f : ℕ) → P f ≡ true → (i : ℕ) × (i < p .size) × (slot p i ≡ f)
     in-slot f h =
-        let z = named f (live f h) in
+        let z = live-named p (r .shape) f (live f h) in
         let s = r .outline .resident f z (live f h) (entered f h) in
         (s .0, slot-in p (s .0) (λ w. z (sym (s .1) ∙ w)), s .1)
 
@@ -128,7 +126,7 @@ residents-kept p q r mirror =
     entry-full i true e = ap full (sym (seen-evicted p (entryFrame p i) (eqb-true _ _ e)))
     entry-full i false e =
         let l : pins p (entryFrame p i) ≢ evicted = eqb-false _ _ e in
-        ap full (sym (seen-full p (entryFrame p i) l (mapped-is p (entryFrame p i) (r .outline .entries-apart) (named _ l) i refl)))
+        ap full (sym (seen-full p (entryFrame p i) l (mapped-is p (entryFrame p i) (r .outline .entries-apart) (live-named p (r .shape) _ l) i refl)))
 
     shown : kept (q .places) ≡ sumTo (λ i. one (P (slot p i))) (p .size)
     shown = kept-sum (q .places) ∙ (ap (sumTo (λ i. full (place q i))) (mirror .size) ∙ sum-same _ _ (p .size) (λ i _. ap full (mirror .places i)))

@@ -7,27 +7,19 @@ use Prim.Native.Nat.{ℕ, suc, _+_, _≤_, _<_}
 use native.Mathlib.Decide.{ℕ-discrete, decLt}
 use native.Mathlib.Omega.{arith}
 use lib.Dec.{eqb}
-use borrow.Author.Tests.{eqb-true}
 use Rattle.pool.specs.State.{none, pinned, clientCount, slot, pins, client, grantFrame}
 use Rattle.pool.specs.Grants.{holds, held}
 use Rattle.pool.specs.Stages.{around}
 use Rattle.pool.specs.declared.Pool.{Pool}
-use Rattle.laws.specs.Scans.{some-true, some-yes}
+use Rattle.laws.specs.Scans.{some-yes}
 use Rattle.invariant.proofs.Reached.{grantsOn, claims, claimed, Balance, gone, held as balanced, orphan, Reached}
-use Rattle.invariant.proofs.Sums.{sum-some}
-use Rattle.invariant.proofs.Facts.{none-own, grant-live}
-use Rattle.guarantee.proofs.Solo.{some-one, around-is}
+use Rattle.invariant.proofs.Sums.{sum-some, some-one}
+use Rattle.invariant.proofs.Facts.{none-own}
+use Rattle.guarantee.proofs.Solo.{around-is}
 
 -- ---- held and pinned
 
 module _ (p : Pool) (r : Reached p) where
-  pub held-pins : (f : ℕ) → held p f ≡ true → pinned 1 ≤ pins p f
-  unfolding held holds
-  held-pins f e =
-      let c = some-true (holds p f) (clientCount p) e in
-      let i = some-true (λ i. eqb (grantFrame p (c .0) i) f) (client p (c .0) .held) (c .2) in
-      rw (eqb-true (grantFrame p (c .0) (i .0)) f (i .2)) at (grant-live p r (c .0) (i .0) (r .outline .grant-named (c .0) (i .0) (i .1)))
-
   pub pins-held : ((c : ℕ) → client p c .stage ≡ 0) → (i : ℕ) → slot p i ≢ none → pinned 1 ≤ pins p (slot p i) → held p (slot p i) ≡ true
   unfolding held holds claimed grantsOn
   pins-held rest i z h = go (r .counts .balance f z)

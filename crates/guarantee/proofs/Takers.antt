@@ -1,4 +1,6 @@
--- What a move shows of itself, and what the acting client of the sequential pool has after it. Assumes nothing.
+-- The acting client of the sequential pool after a move. Of the move only its outward side matters: answer, count, change of grants, stage, page and
+-- number of grants. The sequential client has its page among its grants from the step that pins it on, so an answer at 3 or 21 adds nothing there, and
+-- one at 18 or 22 does. Assumes nothing.
 use mathlib.Core.Path.{_≡_, refl, sym, _∙_}
 use mathlib.Core.Logic.{_≢_}
 use mathlib.Core.Bool.{Bool, true, false, not, _&&_, _||_}
@@ -7,7 +9,6 @@ use Prim.Native.Nat.{ℕ, _+_, _≤_}
 use native.Mathlib.Omega.{arith}
 use lib.Dec.{T, eqb, leb}
 use lib.ListN.{length}
-use borrow.Author.Tests.{leb-true}
 use Rattle.pool.specs.declared.Client.{Client}
 use Rattle.pool.specs.declared.Move.{Move}
 use Rattle.pool.specs.declared.Answer.{Answer}
@@ -17,7 +18,7 @@ use Rattle.pool.specs.declared.Counted.the-variants.{Refusal}
 use Rattle.pool.specs.declared.GrantChange.{GrantChange}
 use Rattle.pool.specs.declared.GrantChange.the-variants.{Same, Open}
 use Rattle.invariant.proofs.Reached.{one, pinsFound}
-use Rattle.invariant.proofs.Flags.{T-true}
+use Rattle.invariant.proofs.Flags.{and-parts, at-most, alike, alike-same, Onward}
 use Rattle.guarantee.specs.Sequential.{Taker, resting, adding, dropping}
 use Rattle.guarantee.proofs.Mirror.{times, Taken, open-many, open-grants}
 
@@ -46,12 +47,8 @@ denied k = record { answer = Refused 15; counted = Refusal; grants = Same; stage
 
 -- ---- the steps that move no page and add no grant
 
-abbrev pub alike : Bool → Bool → Bool
-alike true b = b
-alike false b = not b
-
 abbrev pub quiet : ℕ → ℕ → Bool
-quiet i j = not (adding i j || dropping i j) && (leb 1 j && (leb j 23 && alike (pinsFound i) (pinsFound j)))
+quiet i j = not (adding i j || dropping i j) && (leb 1 j && (leb j 23 && alike (pinsFound j) (pinsFound i)))
 
 pub record Quiet (i j : ℕ) : Type 0 where
   pub still : T (not (adding i j || dropping i j))
@@ -61,20 +58,13 @@ pub record Quiet (i j : ℕ) : Type 0 where
 
 pub quiet-means : (i j : ℕ) → T (quiet i j) → Quiet i j
 quiet-means i j h =
-    let a = T-both (not (adding i j || dropping i j)) _ h in
-    let b = T-both (leb 1 j) _ (a .1) in
-    let d = T-both (leb j 23) _ (b .1) in
-    record { still = a .0; low = leb-true 1 j (T-true _ (b .0)); high = leb-true j 23 (T-true _ (d .0)); pins-alike = same (pinsFound i) (pinsFound j) (d .1) }
-  where
-    T-both : (a b : Bool) → T (a && b) → T a × T b
-    T-both true b h = (tt, h)
-    T-both false b h = absurd h
+    let a = and-parts (not (adding i j || dropping i j)) _ h in
+    let b = and-parts (leb 1 j) _ (a .1) in
+    let d = and-parts (leb j 23) _ (b .1) in
+    record { still = a .0; low = at-most 1 j (b .0); high = at-most j 23 (d .0); pins-alike = alike-same (pinsFound j) (pinsFound i) (d .1) }
 
-    same : (a b : Bool) → T (alike a b) → b ≡ a
-    same true true h = refl
-    same true false h = absurd h
-    same false true h = absurd h
-    same false false h = refl
+pub onward-quiet : {i j : ℕ} → Onward i j → Quiet i j
+onward-quiet h = record { still = h .plain-step; low = h .starts; high = h .stage-ok; pins-alike = h .pins-alike }
 
 -- ---- a client n that was k, of which x and y say how many open grants it had and has on each page
 

@@ -2,18 +2,16 @@
 -- refusal 15, which is claimed to be `refused15`, and stuck ones, which are answered by 8 and change nothing. Assumes nothing.
 use mathlib.Core.Path.{_≡_, refl, sym, ap, _∙_}
 use mathlib.Core.Logic.{_≢_, _⊎_, inl, inr}
-use mathlib.Core.Bool.{true, not}
-use Prim.Native.Nat.{ℕ, _<_}
+use mathlib.Core.Bool.{not}
+use Prim.Native.Nat.{ℕ}
 use native.Mathlib.Omega.{arith}
 use lib.Dec.{T, eqb}
-use borrow.Author.Tests.{eqb-true, eqb-false, eq-eqb, ltb-true, not-true}
+use borrow.Author.Tests.{eqb-true, eqb-false, not-true}
 use Rattle.pool.specs.Answers.{refusalOf}
-use Rattle.pool.specs.State.{none, clientCount, client}
-use Rattle.pool.specs.Grants.{grantOf}
+use Rattle.pool.specs.State.{client}
 use Rattle.pool.specs.Moves.{refused15, stuck}
 use Rattle.pool.specs.Apply.{apply}
-use Rattle.pool.specs.Valid.{valid}
-use Rattle.pool.specs.Calls.{turnedDown, caller, refusalAt, refusal, releaseMove, moveOf, finished, callOf}
+use Rattle.pool.specs.Calls.{turnedDown, caller, refusal, releaseMove, moveOf, finished, callOf}
 use Rattle.pool.specs.declared.Pool.{Pool}
 use Rattle.pool.specs.declared.Client.{Client}
 use Rattle.pool.specs.declared.Move.{Move}
@@ -25,30 +23,30 @@ use Rattle.pool.specs.declared.Answer.{Answer}
 use Rattle.pool.specs.declared.Answer.the-variants.{Done, Working, Granted, Refused}
 use Rattle.laws.specs.Choices.{by-test}
 use Rattle.laws.specs.Scans.{both-true}
+use Rattle.invariant.proofs.Flags.{differ}
+use Rattle.invariant.proofs.Allowed.{refusal-low}
+use Rattle.invariant.proofs.Calls.{did}
 use Rattle.guarantee.specs.Claims.{Claim-turned, Claim-refused}
 use Rattle.guarantee.proofs.Stages.{Fits, goes, grants, refuses, sticks, fits}
 
 -- ---- answers and calls of different kinds
 
-abbrev pub answerKind : Answer → ℕ
+abbrev answerKind : Answer → ℕ
 answerKind (Done n) = 0
 answerKind (Working n) = 1
 answerKind (Granted n) = 2
 answerKind (Refused n) = 3
 
-abbrev pub callKind : Call → ℕ
+abbrev callKind : Call → ℕ
 callKind (Begin c g) = 0
 callKind (Step c) = 1
 callKind (Release c g) = 2
 
-differ : {A : Type 0} (m n : ℕ) → m ≡ n → T (not (eqb m n)) → A
-differ m n e h = absurd (rw (eq-eqb m n e) at h)
-
 pub other-answer : {A : Type 0} {a b : Answer} → a ≡ b → T (not (eqb (answerKind a) (answerKind b))) → A
-other-answer {A} {a} {b} e h = differ (answerKind a) (answerKind b) (ap answerKind e) h
+other-answer {A} {a} {b} e h = absurd (differ (answerKind a) (answerKind b) h (ap answerKind e))
 
 pub other-call : {A : Type 0} {a b : Call} → a ≡ b → T (not (eqb (callKind a) (callKind b))) → A
-other-call {A} {a} {b} e h = differ (callKind a) (callKind b) (ap callKind e) h
+other-call {A} {a} {b} e h = absurd (differ (callKind a) (callKind b) h (ap callKind e))
 
 -- ---- parts of equal outcomes, equal clients
 
@@ -63,29 +61,16 @@ same-stage e = ap (λ (k : Client). k .stage) e
 
 -- ---- a call is turned down, or is one move
 
-abbrev pub did : Pool → ℕ → Move → Outcome
-did p c m = record { answer = m .answer; counted = m .counted; pool = apply p c m }
-
 abbrev pub moved : Pool → Call → Outcome
 moved p x = did p (caller x) (moveOf p x)
 
 -- by a check before its action, or by 8 after it
-abbrev pub Down : Pool → Call → ℕ → Type 0
+abbrev Down : Pool → Call → ℕ → Type 0
 Down p x n = ((refusal p x ≡ n) × (n ≢ 0)) ⊎ (n ≡ 8)
 
 pub data Went (p : Pool) (x : Call) (o : Outcome) : Type 0 where
   down : (n : ℕ) → Down p x n → o ≡ turnedDown n p → Went p x o
   by-move : refusal p x ≡ 0 → refusalOf (moveOf p x .answer) ≢ 8 → o ≡ moved p x → Went p x o
-
-refusal-at : (p : Pool) (k : Client) (x : Call) → refusalAt p k x < 14
-unfolding refusalAt
-refusal-at p k (Begin c g) = by-test (λ n. n < 14) (λ _. by-test (λ n. n < 14) (λ _. omega arith) (λ _. omega arith)) (λ _. omega arith)
-refusal-at p k (Step c) = by-test (λ n. n < 14) (λ _. omega arith) (λ _. omega arith)
-refusal-at p k (Release c g) = by-test (λ n. n < 14) (λ _. by-test (λ n. n < 14) (λ _. omega arith) (λ _. omega arith)) (λ _. omega arith)
-
-pub refusal-low : (p : Pool) (x : Call) → refusal p x < 14
-unfolding refusal
-refusal-low p x = by-test (λ n. n < 14) (λ _. by-test (λ n. n < 14) (λ _. refusal-at p (client p (caller x)) x) (λ _. omega arith)) (λ _. omega arith)
 
 pub went : (p : Pool) (x : Call) → Went p x (callOf p x)
 unfolding callOf finished
@@ -100,55 +85,16 @@ pub down-by : (p : Pool) (x : Call) (n : ℕ) → Down p x n → n ≢ 15
 down-by p x n (inl r) z = omega (arith, refusal-low p x, r .0)
 down-by p x n (inr r) z = omega arith
 
--- what a call that is not turned down at once has passed
-pub record Allowed (p : Pool) (x : Call) : Type 0 where
-  pub ok : valid p ≡ true
-  pub here : caller x < clientCount p
-  pub may : refusalAt p (client p (caller x)) x ≡ 0
-
-pub allowed : (p : Pool) (x : Call) → refusal p x ≡ 0 → Allowed p x
-unfolding refusal
-allowed p x =
-    by-test (λ n. n ≡ 0 → Allowed p x)
-    (λ v. by-test (λ n. n ≡ 0 → Allowed p x) (λ h m. record { ok = v; here = ltb-true _ _ h; may = m }) (λ _ e. absurd (omega arith)))
-    (λ _ e. absurd (omega arith))
-
-module _ (p : Pool) (k : Client) (c : ℕ) where
-  pub may-begin : (g : ℕ) → refusalAt p k (Begin c g) ≡ 0 → (k .stage ≡ 0) × (k .held < 8)
-  unfolding refusalAt
-  may-begin g =
-      by-test (λ n. n ≡ 0 → (k .stage ≡ 0) × (k .held < 8))
-      (λ t. by-test (λ n. n ≡ 0 → (k .stage ≡ 0) × (k .held < 8)) (λ h _. (eqb-true _ _ t, ltb-true _ _ h)) (λ _ e. absurd (omega arith)))
-      (λ _ e. absurd (omega arith))
-
-  pub may-step : refusalAt p k (Step c) ≡ 0 → k .stage ≢ 0
-  unfolding refusalAt
-  may-step = by-test (λ n. n ≡ 0 → k .stage ≢ 0) (λ _ e. absurd (omega arith)) (λ t _. eqb-false _ _ t)
-
-  pub may-release : (g : ℕ) → refusalAt p k (Release c g) ≡ 0 → (k .stage ≡ 0) × (grantOf p c g ≢ none)
-  unfolding refusalAt
-  may-release g =
-      by-test (λ n. n ≡ 0 → (k .stage ≡ 0) × (grantOf p c g ≢ none))
-      (λ t. by-test (λ n. n ≡ 0 → (k .stage ≡ 0) × (grantOf p c g ≢ none)) (λ _ e. absurd (omega arith)) (λ h _. (eqb-true _ _ t, eqb-false _ _ h)))
-      (λ _ e. absurd (omega arith))
-
--- of a working client it is a step
-pub only-step : (p : Pool) (x : Call) → Allowed p x → client p (caller x) .stage ≢ 0 → x ≡ Step (caller x)
-unfolding caller
-only-step p (Begin c g) a z = absurd (z (may-begin p (client p c) c g (a .may) .0))
-only-step p (Step c) a z = refl
-only-step p (Release c g) a z = absurd (z (may-release p (client p c) c g (a .may) .0))
-
 -- ---- a move that is refused
 
 -- a release is done, or stuck
 pub data Released (k : Client) (g : ℕ) (m : Move) : Type 0 where
-  ends : m .answer ≡ Done g → m .next .stage ≡ k .stage → m .next .own ≡ k .own → Released k g m
+  ends : m .answer ≡ Done g → m .next .stage ≡ k .stage → Released k g m
   halts : m ≡ stuck k → Released k g m
 
 pub released : (p : Pool) (c g : ℕ) → Released (client p c) g (moveOf p (Release c g))
 unfolding moveOf releaseMove
-released p c g = by-test (Released (client p c) g) (λ _. halts refl) (λ _. ends refl refl refl)
+released p c g = by-test (Released (client p c) g) (λ _. halts refl) (λ _. ends refl refl)
 
 abbrev RefusedBy : Pool → Call → ℕ → Type 0
 RefusedBy p x n = (n ≡ 8) ⊎ ((c : ℕ) × (x ≡ Step c) × (moveOf p x ≡ refused15 (client p c)))
@@ -159,14 +105,14 @@ refused-by p (Begin c g) n a = other-answer a tt
 refused-by p (Step c) n a = go (fits p (client p c))
   where
     go : Fits (client p c) (moveOf p (Step c)) → RefusedBy p (Step c) n
-    go (goes j _ e _ _) = other-answer (sym e ∙ a) tt
-    go (grants f _ _ e _ _) = other-answer (sym e ∙ a) tt
+    go (goes j _ e _) = other-answer (sym e ∙ a) tt
+    go (grants f _ _ e _) = other-answer (sym e ∙ a) tt
     go (refuses e) = inr (c, refl, e)
     go (sticks e) = inl (ap refusalOf (sym a ∙ ap (λ (m : Move). m .answer) e))
 refused-by p (Release c g) n a = go (released p c g)
   where
     go : Released (client p c) g (moveOf p (Release c g)) → RefusedBy p (Release c g) n
-    go (ends e _ _) = other-answer (sym e ∙ a) tt
+    go (ends e _) = other-answer (sym e ∙ a) tt
     go (halts e) = inl (ap refusalOf (sym a ∙ ap (λ (m : Move). m .answer) e))
 
 -- ---- the claims

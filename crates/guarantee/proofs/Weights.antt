@@ -1,4 +1,5 @@
--- How many pages a sequential pool keeps, and what an action's count says that it gains or loses. Assumes nothing.
+-- How many pages a sequential pool keeps: a place that is set changes the number by what it held and holds. And what an action's count says that it
+-- gains or loses. Assumes nothing.
 use mathlib.Core.Path.{_≡_, refl, sym, ap, _∙_}
 use mathlib.Core.Bool.{Bool, true, false}
 use mathlib.Core.List.{List, [], _∷_}

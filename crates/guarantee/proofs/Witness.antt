@@ -13,8 +13,11 @@ use Rattle.pool.specs.Table.{maps, entryOf, lookup, unusedEntry}
 use Rattle.pool.specs.Grants.{grantOf, holds, held}
 use Rattle.pool.specs.Frames.{names, referenced, firstTried, freeFrame}
 use Rattle.pool.specs.Moves.{granted}
-use Rattle.pool.specs.Apply.{stored, slotsAfter, pagesAfter, pinsAfter, countsAfter, entryPagesAfter, entryFramesAfter, handAfter, freeAfter, lastAfter, grantPagesAfter, grantFramesAfter, apply}
-use Rattle.pool.specs.Stages.{around, advanced, growth, raised, busyVisit, evictOwn, stage1, stage2, stage3, stage4, stage5, stage6, stage7, stage8, stage9, stage10, stage11, stage12, stage13, stage14, stage15, stage16, stage17, stage18, stage19, stage20, stage21, stage22, stage23, stageMove}
+use Rattle.pool.specs.Apply.{stored, slotsAfter, pagesAfter, pinsAfter, countsAfter, entryPagesAfter, entryFramesAfter, handAfter, freeAfter, lastAfter}
+use Rattle.pool.specs.Apply.{grantPagesAfter, grantFramesAfter, apply}
+use Rattle.pool.specs.Stages.{around, advanced, growth, raised, busyVisit, evictOwn, stage1, stage2, stage3, stage4, stage5, stage6, stage7, stage8, stage9}
+use Rattle.pool.specs.Stages.{stage10, stage11, stage12, stage13, stage14, stage15, stage16, stage17, stage18, stage19, stage20, stage21, stage22, stage23}
+use Rattle.pool.specs.Stages.{stageMove}
 use Rattle.pool.specs.Valid.{numbersOk, frameOk, usedOk, stateOk, entryOk, grantOk, countsOk, namesOk, clientOk, valid}
 use Rattle.pool.specs.Calls.{setupOf, caller, refusalAt, refusal, releaseMove, moveOf, finished, callOf, poolAfter}
 use Rattle.pool.specs.Cases.{steps, admit, admitAndRelease}
@@ -28,7 +31,14 @@ use Rattle.guarantee.proofs.Turned.{other-call}
 
 -- all that a run computes
 unfoldable computing : ℕ
-unfolding choose both either scan howMany refusalOf within slot page pins count entryPage entryFrame client ofClient grantPage grantFrame maps entryOf lookup unusedEntry grantOf holds held names referenced firstTried freeFrame granted stored slotsAfter pagesAfter pinsAfter countsAfter entryPagesAfter entryFramesAfter handAfter freeAfter lastAfter grantPagesAfter grantFramesAfter apply around advanced growth raised busyVisit evictOwn stage1 stage2 stage3 stage4 stage5 stage6 stage7 stage8 stage9 stage10 stage11 stage12 stage13 stage14 stage15 stage16 stage17 stage18 stage19 stage20 stage21 stage22 stage23 stageMove numbersOk frameOk usedOk stateOk entryOk grantOk countsOk namesOk clientOk valid setupOf caller refusalAt refusal releaseMove moveOf finished callOf poolAfter events At takesEffect
+unfolding choose both either scan howMany refusalOf within slot page pins count entryPage entryFrame client ofClient grantPage grantFrame
+    maps entryOf lookup unusedEntry grantOf holds held names referenced firstTried freeFrame granted
+    stored slotsAfter pagesAfter pinsAfter countsAfter entryPagesAfter entryFramesAfter handAfter freeAfter lastAfter grantPagesAfter
+    grantFramesAfter apply
+    around advanced growth raised busyVisit evictOwn stage1 stage2 stage3 stage4 stage5 stage6 stage7 stage8 stage9 stage10 stage11 stage12
+    stage13 stage14 stage15 stage16 stage17 stage18 stage19 stage20 stage21 stage22 stage23 stageMove
+    numbersOk frameOk usedOk stateOk entryOk grantOk countsOk namesOk clientOk valid
+    setupOf caller refusalAt refusal releaseMove moveOf finished callOf poolAfter events At takesEffect
 computing = 0
 
 -- page 9 is admitted and released, and page 5 takes its slot: event 18 is the stage 14, event 19 the stage 15, event 22 the answer

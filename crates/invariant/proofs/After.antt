@@ -1,5 +1,6 @@
--- How the pool reads after a move, through its accessors alone: what the write and the change of grants leave as it was, and what stands at the
--- one place that they put something. Assumes nothing.
+-- How the pool reads after a move. A move writes at most one place of a list, so every other place reads as it did, and the lists keep their lengths;
+-- the acting client's record is the move's, and every other client's is the one it had. The pool is read through its accessors alone, so what stands
+-- past the part in use never matters. Assumes nothing.
 use mathlib.Core.Path.{_≡_, refl, ap, _∙_}
 use mathlib.Core.Logic.{_≢_}
 use mathlib.Core.List.{List}
@@ -12,7 +13,8 @@ use lib.Seq.{getD-set-same, getD-set-other}
 use borrow.Author.Tests.{lt-ltb, le-ltb}
 use Rattle.pool.specs.Choose.{choose}
 use Rattle.pool.specs.State.{none, evicted, clientCount, total, within, resting, no-client, slot, page, pins, count, entryPage, entryFrame, client, grantPlace}
-use Rattle.pool.specs.Apply.{stored, slotsAfter, pagesAfter, pinsAfter, countsAfter, entryPagesAfter, entryFramesAfter, grantPagesAfter, grantFramesAfter, apply}
+use Rattle.pool.specs.Apply.{stored, slotsAfter, pagesAfter, pinsAfter, countsAfter, entryPagesAfter, entryFramesAfter, grantPagesAfter, grantFramesAfter}
+use Rattle.pool.specs.Apply.{apply}
 use Rattle.pool.specs.declared.Pool.{Pool}
 use Rattle.pool.specs.declared.Client.{Client}
 use Rattle.pool.specs.declared.Move.{Move}
@@ -24,6 +26,9 @@ use Rattle.laws.specs.Choices.{chosen, passed, by-test}
 use Rattle.invariant.proofs.Reached.{Shape}
 
 -- ---- a list of which the first n count
+
+pub inside : (i n : ℕ) → (n ≤ i → ⊥) → i < n
+inside i n z = elim (decLt i n) [ yes h ↦ h | no h ↦ absurd (z (omega arith)) ]
 
 pub within-in : (l : List ℕ) (n d i : ℕ) → i < n → within l n d i ≡ getD l i 0
 unfolding within
@@ -154,10 +159,10 @@ module _ (p : Pool) (w : Write) where
     abbrev pub CountsPut : Type 0
     CountsPut = countsAfter (total p) (p .counts) w ≡ stored (p .counts) (total p) i v
 
-    abbrev pub EntryPagesPut : Type 0
+    abbrev EntryPagesPut : Type 0
     EntryPagesPut = entryPagesAfter (total p) (p .«table_pages») w ≡ stored (p .«table_pages») (total p) i v
 
-    abbrev pub EntryFramesPut : Type 0
+    abbrev EntryFramesPut : Type 0
     EntryFramesPut = entryFramesAfter (total p) (p .«table_frames») w ≡ stored (p .«table_frames») (total p) i v
 
 -- ---- clients
@@ -168,33 +173,13 @@ client-past p c h = passed _ _ _ (le-ltb c (clientCount p) h)
 
 -- a client of which anything is known that does not hold of one at rest is one of the pool's
 pub client-here : (p : Pool) (P : Client → Type 0) (c : ℕ) → P (client p c) → (P (resting 0) → ⊥) → c < clientCount p
-client-here p P c h no-rest = go (decLt c (clientCount p))
-  where
-    go : Dec (c < clientCount p) → c < clientCount p
-    go (yes l) = l
-    go (no l) = absurd (no-rest (rw (client-past p c (omega arith)) at h))
+client-here p P c h no-rest = inside c (clientCount p) (λ l. no-rest (rw (client-past p c l) at h))
 
-module _ (p : Pool) (c : ℕ) (m : Move) (shape : Shape p) where
-  pub client-same : c < clientCount p → client (apply p c m) c ≡ m .next
-  unfolding apply client
-  client-same h =
-      let r = shape .clients in
-      chosen _ _ _ (lt-ltb c (clientCount p) h) ∙ getD-set-same (p .clients) c (m .next) no-client (omega arith)
-
+-- what a move does not write reads as it did
+module _ (p : Pool) (c : ℕ) (m : Move) where
   pub client-other : (d : ℕ) → d ≢ c → client (apply p c m) d ≡ client p d
   unfolding apply client
   client-other d q = ap (λ (k : Client). choose (ltb d (clientCount p)) k (resting 0)) (getD-set-other (p .clients) c d (m .next) no-client q)
-
-  -- what holds of the other clients as they were, and of the acting one as it is now, holds of all
-  pub all-clients : (P : ℕ → Client → Type 0) → c < clientCount p → ((d : ℕ) → d ≢ c → P d (client p d)) → P c (m .next)
-      → (d : ℕ) → P d (client (apply p c m) d)
-  all-clients P h old new d = go (ℕ-discrete d c)
-    where
-      go : Dec (d ≡ c) → P d (client (apply p c m) d)
-      go (yes e) = rw (e, client-same h) new
-      go (no e) = rw (client-other d e) (old d e)
-
-  -- ---- what the clients share
 
   pub slot-kept : SlotsStay p (m .write) → (i : ℕ) → slot (apply p c m) i ≡ slot p i
   unfolding apply slot
@@ -220,69 +205,76 @@ module _ (p : Pool) (c : ℕ) (m : Move) (shape : Shape p) where
   unfolding apply entryFrame
   entryFrame-kept e i = ap (λ (l : List ℕ). within l (total p) none i) e
 
-  -- one place is written
+  -- one place is written: the others
   module _ (j v : ℕ) where
-    pub slot-here : SlotsPut p (m .write) j v → j < p .size → slot (apply p c m) j ≡ v
-    unfolding apply slot
-    slot-here e h = let a = shape .slots in let b = shape .size-high in within-here (p .slots) _ (p .size) j v e none h (omega arith)
-
     pub slot-else : SlotsPut p (m .write) j v → (i : ℕ) → i ≢ j → slot (apply p c m) i ≡ slot p i
     unfolding apply slot
     slot-else e i = within-else (p .slots) _ (p .size) j v e none i
-
-    pub pins-here : PinsPut p (m .write) j v → j < total p → pins (apply p c m) j ≡ v
-    unfolding apply pins
-    pins-here e h =
-        let a = shape .pins in let b = shape .size-high in let d = shape .clients-high in
-        within-here (p .pins) _ (total p) j v e evicted h (omega arith)
 
     pub pins-else : PinsPut p (m .write) j v → (i : ℕ) → i ≢ j → pins (apply p c m) i ≡ pins p i
     unfolding apply pins
     pins-else e i = within-else (p .pins) _ (total p) j v e evicted i
 
-    pub page-here : PagesPut p (m .write) j v → j < total p → page (apply p c m) j ≡ v
-    unfolding apply page
-    page-here e h =
-        let a = shape .pages in let b = shape .size-high in let d = shape .clients-high in
-        within-here (p .pages) _ (total p) j v e 0 h (omega arith)
-
     pub page-else : PagesPut p (m .write) j v → (i : ℕ) → i ≢ j → page (apply p c m) i ≡ page p i
     unfolding apply page
     page-else e i = within-else (p .pages) _ (total p) j v e 0 i
-
-    pub count-here : CountsPut p (m .write) j v → j < total p → count (apply p c m) j ≡ v
-    unfolding apply count
-    count-here e h =
-        let a = shape .counts in let b = shape .size-high in let d = shape .clients-high in
-        within-here (p .counts) _ (total p) j v e 0 h (omega arith)
 
     pub count-else : CountsPut p (m .write) j v → (i : ℕ) → i ≢ j → count (apply p c m) i ≡ count p i
     unfolding apply count
     count-else e i = within-else (p .counts) _ (total p) j v e 0 i
 
-    pub entryPage-here : EntryPagesPut p (m .write) j v → j < total p
-        → entryPage (apply p c m) j ≡ v
-    unfolding apply entryPage
-    entryPage-here e h =
-        let a = shape .entry-pages in let b = shape .size-high in let d = shape .clients-high in
-        within-here (p .«table_pages») _ (total p) j v e 0 h (omega arith)
-
-    pub entryPage-else : EntryPagesPut p (m .write) j v → (i : ℕ) → i ≢ j
-        → entryPage (apply p c m) i ≡ entryPage p i
+    pub entryPage-else : EntryPagesPut p (m .write) j v → (i : ℕ) → i ≢ j → entryPage (apply p c m) i ≡ entryPage p i
     unfolding apply entryPage
     entryPage-else e i = within-else (p .«table_pages») _ (total p) j v e 0 i
 
-    pub entryFrame-here : EntryFramesPut p (m .write) j v → j < total p
-        → entryFrame (apply p c m) j ≡ v
-    unfolding apply entryFrame
-    entryFrame-here e h =
-        let a = shape .entry-frames in let b = shape .size-high in let d = shape .clients-high in
-        within-here (p .«table_frames») _ (total p) j v e none h (omega arith)
-
-    pub entryFrame-else : EntryFramesPut p (m .write) j v → (i : ℕ) → i ≢ j
-        → entryFrame (apply p c m) i ≡ entryFrame p i
+    pub entryFrame-else : EntryFramesPut p (m .write) j v → (i : ℕ) → i ≢ j → entryFrame (apply p c m) i ≡ entryFrame p i
     unfolding apply entryFrame
     entryFrame-else e i = within-else (p .«table_frames») _ (total p) j v e none i
+
+-- and what it writes, as the lists are long enough
+pub few-frames : (p : Pool) → Shape p → total p ≤ 96
+few-frames p shape = omega (arith, shape .size-high, shape .clients-high)
+
+module _ (p : Pool) (c : ℕ) (m : Move) (shape : Shape p) where
+  pub client-same : c < clientCount p → client (apply p c m) c ≡ m .next
+  unfolding apply client
+  client-same h =
+      chosen _ _ _ (lt-ltb c (clientCount p) h) ∙
+      getD-set-same (p .clients) c (m .next) no-client (omega (arith, shape .clients, shape .clients-high))
+
+  -- what holds of the other clients as they were, and of the acting one as it is now, holds of all
+  pub all-clients : (P : ℕ → Client → Type 0) → c < clientCount p → ((d : ℕ) → d ≢ c → P d (client p d)) → P c (m .next)
+      → (d : ℕ) → P d (client (apply p c m) d)
+  all-clients P h old new d = go (ℕ-discrete d c)
+    where
+      go : Dec (d ≡ c) → P d (client (apply p c m) d)
+      go (yes e) = rw (e, client-same h) new
+      go (no e) = rw (client-other p c m d e) (old d e)
+
+  module _ (j v : ℕ) where
+    pub slot-here : SlotsPut p (m .write) j v → j < p .size → slot (apply p c m) j ≡ v
+    unfolding apply slot
+    slot-here e h = within-here (p .slots) _ (p .size) j v e none h (omega (arith, shape .size-high, shape .slots))
+
+    pub pins-here : PinsPut p (m .write) j v → j < total p → pins (apply p c m) j ≡ v
+    unfolding apply pins
+    pins-here e h = within-here (p .pins) _ (total p) j v e evicted h (omega (arith, few-frames p shape, shape .pins))
+
+    pub page-here : PagesPut p (m .write) j v → j < total p → page (apply p c m) j ≡ v
+    unfolding apply page
+    page-here e h = within-here (p .pages) _ (total p) j v e 0 h (omega (arith, few-frames p shape, shape .pages))
+
+    pub count-here : CountsPut p (m .write) j v → j < total p → count (apply p c m) j ≡ v
+    unfolding apply count
+    count-here e h = within-here (p .counts) _ (total p) j v e 0 h (omega (arith, few-frames p shape, shape .counts))
+
+    pub entryPage-here : EntryPagesPut p (m .write) j v → j < total p → entryPage (apply p c m) j ≡ v
+    unfolding apply entryPage
+    entryPage-here e h = within-here (p .«table_pages») _ (total p) j v e 0 h (omega (arith, few-frames p shape, shape .entry-pages))
+
+    pub entryFrame-here : EntryFramesPut p (m .write) j v → j < total p → entryFrame (apply p c m) j ≡ v
+    unfolding apply entryFrame
+    entryFrame-here e h = within-here (p .«table_frames») _ (total p) j v e none h (omega (arith, few-frames p shape, shape .entry-frames))
 
 -- ---- past the part that the pool has
 
@@ -302,25 +294,13 @@ pub entryFrame-past : (p : Pool) (i : ℕ) → total p ≤ i → entryFrame p i 
 unfolding entryFrame
 entryFrame-past p i h = within-past (p .«table_frames») (total p) none i h
 
+-- what is not neutral stands in the pool
 module _ (p : Pool) (i : ℕ) where
-  -- what is not neutral stands in the pool
   pub slot-in : slot p i ≢ none → i < p .size
-  slot-in z = go (decLt i (p .size))
-    where
-      go : Dec (i < p .size) → i < p .size
-      go (yes h) = h
-      go (no h) = absurd (z (slot-past p i (omega arith)))
+  slot-in z = inside i (p .size) (λ h. z (slot-past p i h))
 
   pub pins-in : pins p i ≢ evicted → i < total p
-  pins-in z = go (decLt i (total p))
-    where
-      go : Dec (i < total p) → i < total p
-      go (yes h) = h
-      go (no h) = absurd (z (pins-past p i (omega arith)))
+  pins-in z = inside i (total p) (λ h. z (pins-past p i h))
 
   pub entry-in : entryFrame p i ≢ none → i < total p
-  entry-in z = go (decLt i (total p))
-    where
-      go : Dec (i < total p) → i < total p
-      go (yes h) = h
-      go (no h) = absurd (z (entryFrame-past p i (omega arith)))
+  entry-in z = inside i (total p) (λ h. z (entryFrame-past p i h))

@@ -1,5 +1,5 @@
--- The invariant over calls: every call of a reached pool that is not turned down makes its move, is never answered by 8, and leaves a reached
--- pool. So every pool that comes from setup and calls is reached. Assumes nothing.
+-- The invariant over calls: a call of a reached pool that is not turned down makes its move, as that is never stuck and leaves a reached pool, which
+-- passes check 8; one that is turned down changes nothing. So every pool that comes from setup and calls is reached. Assumes nothing.
 use mathlib.Core.Path.{_≡_, refl, sym, ap, subst, _∙_}
 use mathlib.Core.Logic.{_≢_}
 use mathlib.Core.Bool.{true}
@@ -15,18 +15,16 @@ use Rattle.pool.specs.Apply.{apply}
 use Rattle.pool.specs.Valid.{numbersOk}
 use Rattle.pool.specs.Calls.{turnedDown, fresh, caller, refusalAt, refusal, moveOf, finished, callOf, poolAfter}
 use Rattle.pool.specs.declared.Pool.{Pool}
-use Rattle.pool.specs.declared.Client.{Client}
 use Rattle.pool.specs.declared.Call.{Call}
-use Rattle.pool.specs.declared.Call.the-variants.{Begin, Step, Release}
 use Rattle.pool.specs.declared.Move.{Move}
 use Rattle.pool.specs.declared.Outcome.{Outcome}
-use Rattle.pool.specs.declared.Answer.the-variants.{Refused}
 use Rattle.laws.specs.Choices.{by-test, chosen, passed}
 use Rattle.laws.specs.Scans.{both-yes}
 use Rattle.invariant.proofs.Reached.{Reached}
 use Rattle.invariant.proofs.After.{shape-next}
 use Rattle.invariant.proofs.Flags.{differ}
-use Rattle.invariant.proofs.Edges.{Edge, on, found1, found18, lost2, lost22, pins2, pins19, gets3, gets21, takes, fills, swaps, gives-up, drops, removes, admits, revives, evicts20, evicts23, begins, releases}
+use Rattle.invariant.proofs.Allowed.{refusal-at}
+use Rattle.invariant.proofs.Edges.{Edge}
 use Rattle.invariant.proofs.Steps.{call-edge}
 use Rattle.invariant.proofs.Effects.{Effect, effect}
 use Rattle.invariant.proofs.Ranges.{ranges-next}
@@ -40,63 +38,34 @@ use Rattle.invariant.proofs.Setup.{reached-setup}
 
 -- ---- a move
 
-pub reached-move : (p : Pool) (c : ℕ) (m : Move) → c < clientCount p → Reached p → Edge p c m → Reached (apply p c m)
+reached-move : (p : Pool) (c : ℕ) (m : Move) → c < clientCount p → Reached p → Edge p c m → Reached (apply p c m)
 reached-move p c m h r e =
     let x : Effect p c m = effect p c h r e in
     record {
       shape = shape-next p c m (r .shape);
-      ranges = ranges-next p c h r m e x;
-      places = places-next p c h r m x;
-      private = private-next p c h r m x;
-      counts = counts-next p c h r e x;
-      outline = outline-next p c h r e x;
-      calm = calm-next p c h r e x;
+      ranges = ranges-next e x;
+      places = places-next x;
+      private = private-next x;
+      counts = counts-next p c r e x;
+      outline = outline-next p c r e x;
+      calm = calm-next p c r e x;
     }
-
--- no such move is stuck
-edge-answer : (p : Pool) (c : ℕ) {m : Move} → Edge p c m → refusalOf (m .answer) ≢ 8
-unfolding refusalOf
-edge-answer p c (on _ _ _ _) = differ 0 8 tt
-edge-answer p c (found1 _ _) = differ 0 8 tt
-edge-answer p c (found18 _ _) = differ 0 8 tt
-edge-answer p c (lost2 _ _) = differ 0 8 tt
-edge-answer p c (lost22 _ _) = differ 0 8 tt
-edge-answer p c (pins2 _ _) = differ 0 8 tt
-edge-answer p c (pins19 _ _) = differ 0 8 tt
-edge-answer p c (gets3 _) = differ 0 8 tt
-edge-answer p c (gets21 _) = differ 0 8 tt
-edge-answer p c (takes _ _) = differ 0 8 tt
-edge-answer p c (fills _ _) = differ 0 8 tt
-edge-answer p c (swaps _ _) = differ 0 8 tt
-edge-answer p c (gives-up _ _) = differ 15 8 tt
-edge-answer p c (drops _ _) = differ 0 8 tt
-edge-answer p c (removes _ _) = differ 0 8 tt
-edge-answer p c (admits _ _ _) = differ 0 8 tt
-edge-answer p c (revives _ _) = differ 0 8 tt
-edge-answer p c (evicts20 _) = differ 0 8 tt
-edge-answer p c (evicts23 _) = differ 0 8 tt
-edge-answer p c (begins _ _ _) = differ 0 8 tt
-edge-answer p c (releases _ _ _) = differ 0 8 tt
 
 -- ---- a call
 
--- none of the checks after 8 is 8
-refused-at : (p : Pool) (k : Client) (x : Call) → refusalAt p k x ≢ 8
-unfolding refusalAt
-refused-at p k (Begin c g) = by-test (λ (n : ℕ). n ≢ 8) (λ _. by-test (λ (n : ℕ). n ≢ 8) (λ _. differ 0 8 tt) (λ _. differ 12 8 tt)) (λ _. differ 10 8 tt)
-refused-at p k (Step c) = by-test (λ (n : ℕ). n ≢ 8) (λ _. differ 11 8 tt) (λ _. differ 0 8 tt)
-refused-at p k (Release c g) = by-test (λ (n : ℕ). n ≢ 8) (λ _. by-test (λ (n : ℕ). n ≢ 8) (λ _. differ 13 8 tt) (λ _. differ 0 8 tt)) (λ _. differ 10 8 tt)
+-- what a call leaves that is the move m of client c
+abbrev pub did : Pool → ℕ → Move → Outcome
+did p c m = record { answer = m .answer; counted = m .counted; pool = apply p c m }
 
 module _ (p : Pool) (x : Call) where
   pub never-stuck : Reached p → refusal p x ≡ 0 → refusalOf (moveOf p x .answer) ≢ 8
-  never-stuck r e = edge-answer p (caller x) (call-edge p x r e .1)
+  never-stuck r e = let w = call-edge p x r e in differ (refusalOf (moveOf p x .answer)) 8 (effect p (caller x) (w .0) r (w .1) .sound)
 
-  pub reached-next : Reached p → refusal p x ≡ 0 → Reached (apply p (caller x) (moveOf p x))
+  reached-next : Reached p → refusal p x ≡ 0 → Reached (apply p (caller x) (moveOf p x))
   reached-next r e = let w = call-edge p x r e in reached-move p (caller x) (moveOf p x) (w .0) r (w .1)
 
   -- a call that is not turned down makes its move
-  pub call-moves : Reached p → refusal p x ≡ 0
-      → callOf p x ≡ record { answer = moveOf p x .answer; counted = moveOf p x .counted; pool = apply p (caller x) (moveOf p x) }
+  pub call-moves : Reached p → refusal p x ≡ 0 → callOf p x ≡ did p (caller x) (moveOf p x)
   unfolding callOf finished
   call-moves r e =
       chosen _ _ _ (eq-eqb _ _ e) ∙
@@ -114,21 +83,13 @@ module _ (p : Pool) (x : Call) where
       go (yes e) = subst (λ (o : Outcome). Reached (o .pool)) (sym (call-moves r e)) (reached-next r e)
       go (no e) = subst (λ (o : Outcome). Reached (o .pool)) (sym (call-turned (refusal p x) refl e)) r
 
-  -- 8 is no refusal of a reached pool, and no answer of one
+  -- 8 is no refusal of a reached pool
   pub refusal-not-8 : Reached p → refusal p x ≢ 8
   unfolding refusal
   refusal-not-8 r e = go x (sym (chosen _ _ 8 (valid-reached p r)) ∙ e)
     where
       go : (x : Call) → choose (ltb (caller x) (clientCount p)) (refusalAt p (client p (caller x)) x) 9 ≡ 8 → ⊥
-      go x = by-test (λ (n : ℕ). n ≡ 8 → ⊥) (λ _. refused-at p (client p (caller x)) x) (λ _. differ 9 8 tt)
-
-  pub never-8 : Reached p → callOf p x .answer ≢ Refused 8
-  unfolding refusalOf
-  never-8 r w = go (ℕ-discrete (refusal p x) 0)
-    where
-      go : Dec (refusal p x ≡ 0) → ⊥
-      go (yes e) = never-stuck r e (ap refusalOf (sym (ap (λ (o : Outcome). o .answer) (call-moves r e)) ∙ w))
-      go (no e) = refusal-not-8 r (ap refusalOf (sym (ap (λ (o : Outcome). o .answer) (call-turned (refusal p x) refl e)) ∙ w))
+      go x = by-test (λ (n : ℕ). n ≡ 8 → ⊥) (λ _. refusal-at p (client p (caller x)) x .1) (λ _. differ 9 8 tt)
 
 -- ---- lists of calls
 

@@ -1,5 +1,6 @@
--- Empty slots are those that are free or claimed by a client that has not filled its slot yet; a victim that is hunted stands in no slot but that
--- of its hunter; and an evicted frame that is still in the table has a client that takes it out. Assumes nothing.
+-- Empty slots are those that are free or claimed by a client that has not filled its slot yet: 6 takes one from free and claims one, and 8 fills one.
+-- A victim that is hunted stands in no slot but its hunter's place, as it was read there and no frame stands in two slots. An evicted frame that is
+-- still in the table has a client that takes it out: the one that evicted it, until it has removed the entry. Assumes nothing.
 use mathlib.Core.Path.{_≡_, refl, sym, ap, subst, _∙_}
 use mathlib.Core.Logic.{_≢_, _⊎_, inl, inr}
 use mathlib.Core.Bool.{not}
@@ -14,7 +15,8 @@ use Rattle.pool.specs.declared.Pool.{Pool}
 use Rattle.pool.specs.declared.Client.{Client}
 use Rattle.pool.specs.declared.Move.{Move}
 use Rattle.invariant.proofs.Reached.{Reached, Calm, Knows, one, sumTo, mapped, unplaced, leaving, filling, hunting, Leaves}
-use Rattle.invariant.proofs.After.{SlotsStay, SlotsPut, client-same, client-other, all-clients, slot-kept, slot-here, slot-else, pins-kept, pins-here, pins-else}
+use Rattle.invariant.proofs.After.{SlotsStay, SlotsPut, client-same, client-other, all-clients, slot-kept, slot-here, slot-else, pins-kept, pins-here}
+use Rattle.invariant.proofs.After.{pins-else}
 use Rattle.invariant.proofs.Sums.{one-not, sum-same, sum-put}
 use Rattle.invariant.proofs.Searches.{lookup-found}
 use Rattle.invariant.proofs.Table.{put-gone}
@@ -22,8 +24,9 @@ use Rattle.invariant.proofs.Never.{know}
 use Rattle.invariant.proofs.Flags.{T-not, never, differ, leavesNone, hunt-unplaced}
 use Rattle.invariant.proofs.Steps.{no-leaves}
 use Rattle.invariant.proofs.Facts.{own-live, own-not-victim}
-use Rattle.invariant.proofs.Edges.{Hunts, Edge, on, found1, found18, lost2, lost22, pins2, pins19, gets3, gets21, takes, fills, swaps, gives-up, drops, removes, admits, revives, evicts20, evicts23, begins, releases}
-use Rattle.invariant.proofs.Effects.{PinChange, adds, lowers, drops-victim, drops-own, takes-one, PinsOk, pins-stay, pins-put, untouched, Effect}
+use Rattle.invariant.proofs.Edges.{Hunts, Edge, on, found1, found18, lost2, lost22, pins2, pins19, gets3, gets21, takes, fills, swaps, gives-up, drops}
+use Rattle.invariant.proofs.Edges.{removes, admits, revives, evicts20, evicts23, begins, releases}
+use Rattle.invariant.proofs.Effects.{PinChange, adds, lowers, drops-victim, drops-own, takes-one, PinsOk, pins-stay, pins-put, unseen, Effect}
 use Rattle.invariant.proofs.Next.{SlotNow, TakenOut, slot-now, slot-or-out}
 use Rattle.invariant.proofs.Outline.{new-entry}
 
@@ -41,7 +44,13 @@ record Settles (p : Pool) (c : ℕ) (m : Move) : Type 0 where
 
 -- ---- a settling move keeps the layer
 
-module _ (p : Pool) (c : ℕ) (here : c < clientCount p) (r : Reached p) (m : Move) (x : Effect p c m) (s : Settles p c m) where
+module _ {p : Pool} {c : ℕ} {m : Move} (x : Effect p c m) (s : Settles p c m) where
+  abbrev r : Reached p
+  r = x .reached
+
+  abbrev here : c < clientCount p
+  here = x .here
+
   abbrev k : Client
   k = client p c
 
@@ -54,22 +63,22 @@ module _ (p : Pool) (c : ℕ) (here : c < clientCount p) (r : Reached p) (m : Mo
   empties-next : empty q ≡ freeAfter (p .free) (m .write) + sumTo (λ d. one (filling (client q d .stage))) (clientCount p)
   empties-next =
       let n = sum-put (λ d. one (filling (client p d .stage))) (λ d. one (filling (client q d .stage))) (clientCount p) c here
-      (λ d _ o. ap (λ (n : Client). one (filling (n .stage))) (client-other p c m (r .shape) d o)) in
+      (λ d _ o. ap (λ (n : Client). one (filling (n .stage))) (client-other p c m d o)) in
       omega (arith, r .calm .empties, s .level, n, ap (λ (n : Client). one (filling (n .stage))) at-c)
 
   only-next : (d i : ℕ) → T (hunting (client q d .stage)) → client q d .victim ≢ none → slot q i ≡ client q d .victim → i ≡ client q d .place
   only-next d i =
       all-clients p c m (r .shape) (λ _ n. T (hunting (n .stage)) → n .victim ≢ none → slot q i ≡ n .victim → i ≡ n .place) here others
-      (mine (slot-now p c here r m x i)) d
+      (mine (slot-now x i)) d
     where
       others : (d : ℕ) → d ≢ c → T (hunting (client p d .stage)) → client p d .victim ≢ none → slot q i ≡ client p d .victim → i ≡ client p d .place
-      others d _ t z h = go (slot-now p c here r m x i)
+      others d _ t z h = go (slot-now x i)
         where
-          go : SlotNow p c here r m x i → i ≡ client p d .place
+          go : SlotNow x i → i ≡ client p d .place
           go (inl e) = r .calm .only d i t z (sym e ∙ h)
           go (inr e) = absurd (own-not-victim p r c d (e .1) (e .3) t (sym h ∙ e .0))
 
-      mine : SlotNow p c here r m x i → T (hunting (m .next .stage)) → m .next .victim ≢ none → slot q i ≡ m .next .victim → i ≡ m .next .place
+      mine : SlotNow x i → T (hunting (m .next .stage)) → m .next .victim ≢ none → slot q i ≡ m .next .victim → i ≡ m .next .place
       mine (inr e) t z h = absurd (T-not (unplaced (m .next .stage)) (e .2) (hunt-unplaced (m .next .stage) t))
       mine (inl e) t z h = go (s .hunts t)
         where
@@ -83,19 +92,19 @@ module _ (p : Pool) (c : ℕ) (here : c < clientCount p) (r : Reached p) (m : Mo
     evicted-now = go (x .pins)
       where
         go : PinsOk p c m → (pins p f ≡ evicted) ⊎ Leaves q (m .next) f
-        go (pins-stay e) = inl (sym (pins-kept p c m (r .shape) e f) ∙ d)
-        go (pins-put g y e h _ ch) = by (ℕ-discrete f g) ch
+        go (pins-stay e) = inl (sym (pins-kept p c m e f) ∙ d)
+        go (pins-put g y e h ch) = by (ℕ-discrete f g) ch
           where
             now : f ≡ g → y ≡ evicted
             now w = sym (pins-here p c m (r .shape) g y e h) ∙ ap (pins q) (sym w) ∙ d
 
             by : Dec (f ≡ g) → PinChange p c m g y → (pins p f ≡ evicted) ⊎ Leaves q (m .next) f
-            by (no w) _ = inl (sym (pins-else p c m (r .shape) g y e f w) ∙ d)
-            by (yes w) (adds _ _ v _) = absurd (let u = now w in let y : ⊥ = omega arith in y)
-            by (yes w) (lowers _ _ l v) = absurd (let u = now w in let y : ⊥ = omega arith in y)
-            by (yes w) (takes-one _ _ v) = absurd (let u = now w in let y : ⊥ = omega arith in y)
-            by (yes w) (drops-own v _ _ _) = absurd (n (ap (mapped p) (w ∙ v) ∙ r .private .own-unmapped c (λ u. z (w ∙ v ∙ u))))
-            by (yes w) (drops-victim v one-pin _ a st vi pl) = inr (vi ∙ sym (w ∙ v), inr (st, out (slot-or-out p c here r m x f (k .place) z stands)))
+            by (no w) _ = inl (sym (pins-else p c m g y e f w) ∙ d)
+            by (yes w) (adds _ v _) = absurd (let u = now w in let y : ⊥ = omega arith in y)
+            by (yes w) (lowers l v) = absurd (let u = now w in let y : ⊥ = omega arith in y)
+            by (yes w) (takes-one _ v) = absurd (let u = now w in let y : ⊥ = omega arith in y)
+            by (yes w) (drops-own v _) = absurd (n (ap (mapped p) (w ∙ v) ∙ r .private .own-unmapped c (λ u. z (w ∙ v ∙ u))))
+            by (yes w) (drops-victim v one-pin _ a st vi pl) = inr (vi ∙ sym (w ∙ v), inr (st, out (slot-or-out x f (k .place) z stands)))
               where
                 kn : Knows 14 p k
                 kn = know p r c 14 a
@@ -106,7 +115,7 @@ module _ (p : Pool) (c : ℕ) (here : c < clientCount p) (r : Reached p) (m : Mo
                 stands : slot p (k .place) ≡ f
                 stands = ap (slot p) (sym (r .calm .only c (seat .0) (rw a tt) (kn .1 .0) (seat .1))) ∙ seat .1 ∙ sym (w ∙ v)
 
-                out : (slot q (k .place) ≡ f) ⊎ TakenOut p c here r m x f → slot q (m .next .place) ≡ f
+                out : (slot q (k .place) ≡ f) ⊎ TakenOut x f → slot q (m .next .place) ≡ f
                 out (inl u) = ap (slot q) pl ∙ u
                 out (inr u) = absurd (let e : pins p g ≡ evicted = ap (pins p) (sym w) ∙ u .0 in let y : ⊥ = omega arith in y)
 
@@ -121,14 +130,14 @@ module _ (p : Pool) (c : ℕ) (here : c < clientCount p) (r : Reached p) (m : Mo
                 → T (leaving (client p (w .0) .stage)) ⊎ ((client p (w .0) .stage ≡ 15) × (slot p (client p (w .0) .place) ≡ f))
                 → (d : ℕ) × Leaves q (client q d) f
             still e (inl l) = (w .0, rw e (w .1 .0, inl l))
-            still e (inr l) = go (slot-or-out p c here r m x f (client p (w .0) .place) z (l .1))
+            still e (inr l) = go (slot-or-out x f (client p (w .0) .place) z (l .1))
               where
-                go : (slot q (client p (w .0) .place) ≡ f) ⊎ TakenOut p c here r m x f → (d : ℕ) × Leaves q (client q d) f
+                go : (slot q (client p (w .0) .place) ≡ f) ⊎ TakenOut x f → (d : ℕ) × Leaves q (client q d) f
                 go (inl u) = (w .0, rw e (w .1 .0, inr (l .0, u)))
                 go (inr u) = (c, rw at-c (u .2, inl (u .1)))
 
             by : Dec (w .0 ≡ c) → (d : ℕ) × Leaves q (client q d) f
-            by (no o) = still (client-other p c m (r .shape) (w .0) o) (w .1 .1)
+            by (no o) = still (client-other p c m (w .0) o) (w .1 .1)
             by (yes o) = (c, rw at-c (s .leaves f z n n′ (subst (λ (d : ℕ). Leaves p (client p d) f) o (w .1))))
 
   ghosts-next : (f : ℕ) → f ≢ none → mapped q f ≢ 0 → pins q f ≡ evicted → (d : ℕ) × Leaves q (client q d) f
@@ -137,7 +146,7 @@ module _ (p : Pool) (c : ℕ) (here : c < clientCount p) (r : Reached p) (m : Mo
       go : Dec (mapped p f ≡ 0) → (d : ℕ) × Leaves q (client q d) f
       go (no e) = left f z e d n (evicted-now f z e d)
       go (yes e) =
-          let w = new-entry p c here r m x f z e n in
+          let w = new-entry x f z e n in
           absurd (own-live p r c (λ y. z (w .0 ∙ y)) (ap (pins p) (sym (w .0)) ∙ sym (w .3) ∙ d))
 
   calm-of : Calm q
@@ -152,7 +161,7 @@ module _ (p : Pool) (c : ℕ) (here : c < clientCount p) (r : Reached p) (m : Mo
 
 -- ---- each kind of move
 
-module _ (p : Pool) (c : ℕ) (here : c < clientCount p) (r : Reached p) where
+module _ (p : Pool) (c : ℕ) (r : Reached p) where
   abbrev me : Client
   me = client p c
 
@@ -162,7 +171,7 @@ module _ (p : Pool) (c : ℕ) (here : c < clientCount p) (r : Reached p) where
   -- the slots and free stay
   same-empty : (m : Move) → SlotsStay p (m .write) → empty (apply p c m) ≡ empty p
   unfolding apply
-  same-empty m e = sum-same _ _ (p .size) (λ i _. ap (λ (f : ℕ). one (eqb f none)) (slot-kept p c m (r .shape) e i))
+  same-empty m e = sum-same _ _ (p .size) (λ i _. ap (λ (f : ℕ). one (eqb f none)) (slot-kept p c m e i))
 
   settled : {m : Move} (i : ℕ) → client p c .stage ≡ i → SlotsStay p (m .write) → freeAfter (p .free) (m .write) ≡ p .free
       → filling i ≡ filling (m .next .stage) → T (not (eqb (m .next .stage) 6)) → (T (hunting (m .next .stage)) → Hunts p me (m .next))
@@ -186,21 +195,21 @@ module _ (p : Pool) (c : ℕ) (here : c < clientCount p) (r : Reached p) where
       omega (
         arith,
         sum-put (λ i. one (eqb (slot p i) none)) (λ i. one (eqb (slot (apply p c m) i) none)) (p .size) (me .place) (r .ranges .place-ok c)
-            (λ i _ o. ap (λ (f : ℕ). one (eqb f none)) (slot-else p c m (r .shape) (me .place) (me .own) e i o)),
+            (λ i _ o. ap (λ (f : ℕ). one (eqb f none)) (slot-else p c m (me .place) (me .own) e i o)),
       )
 
   settles : {m : Move} → Edge p c m → Effect p c m → Settles p c m
   unfolding slotsAfter freeAfter
   settles {m} (on n j w h) x =
       record {
-        level = let f = h .fills in omega (arith, same-empty m (untouched _ _ (h .quiet) .slots));
+        level = let f = h .fills in omega (arith, same-empty m (unseen _ _ (h .quiet) .slots));
         six = h .six;
         hunts = h .hunts;
         leaves = λ f z a _ l. shifted (h .leaves f z a l);
       }
     where
       at : (i : ℕ) → slot (apply p c m) i ≡ slot p i
-      at = slot-kept p c m (r .shape) (untouched _ _ (h .quiet) .slots)
+      at = slot-kept p c m (unseen _ _ (h .quiet) .slots)
 
       shifted : {f : ℕ} → Leaves p (m .next) f → Leaves (apply p c m) (m .next) f
       shifted (v, inl l) = (v, inl l)
@@ -260,4 +269,4 @@ module _ (p : Pool) (c : ℕ) (here : c < clientCount p) (r : Reached p) where
   settles (releases g e _) x = calmly 0 e refl refl (rw e refl) (rw e tt) (rw e tt) tt
 
   pub calm-next : {m : Move} → Edge p c m → Effect p c m → Calm (apply p c m)
-  calm-next {m} e x = calm-of p c here r m x (settles e x)
+  calm-next {m} e x = calm-of x (settles e x)

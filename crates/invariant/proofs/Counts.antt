@@ -17,7 +17,8 @@ use Rattle.pool.specs.declared.Pool.{Pool}
 use Rattle.pool.specs.declared.Client.{Client}
 use Rattle.pool.specs.declared.Move.{Move}
 use Rattle.pool.specs.declared.GrantChange.the-variants.{Same, Open}
-use Rattle.invariant.proofs.Reached.{Reached, Counts, Knows, one, grantsOn, claims, claimed, pinsFound, unplaced, ownless, Orphan, Balance, gone, held, orphan}
+use Rattle.invariant.proofs.Reached.{Reached, Counts, Knows, one, grantsOn, claims, claimed, pinsFound, unplaced, ownless, Orphan, Balance, gone, held}
+use Rattle.invariant.proofs.Reached.{orphan}
 use Rattle.invariant.proofs.After.{PinsStay, PinsPut, client-same, client-other, all-clients, slot-kept, pins-kept, pins-here, pins-else}
 use Rattle.invariant.proofs.Sums.{one-is, one-not, sum-zero, sum-put, sum-has}
 use Rattle.invariant.proofs.Searches.{Fresh, fresh-means, free-found, grantOf-found, grant-in}
@@ -26,8 +27,9 @@ use Rattle.invariant.proofs.Grants.{grantsOn-none, grantsOn-other, gran
 use Rattle.invariant.proofs.Never.{know}
 use Rattle.invariant.proofs.Facts.{none-own, foreign-claims, orphan-claims, own-pins, grant-live}
 use Rattle.invariant.proofs.Flags.{T-false, never, differ, imp-mp}
-use Rattle.invariant.proofs.Edges.{Edge, on, found1, found18, lost2, lost22, pins2, pins19, gets3, gets21, takes, fills, swaps, gives-up, drops, removes, admits, revives, evicts20, evicts23, begins, releases}
-use Rattle.invariant.proofs.Effects.{no-open, untouched, Effect}
+use Rattle.invariant.proofs.Edges.{Edge, on, found1, found18, lost2, lost22, pins2, pins19, gets3, gets21, takes, fills, swaps, gives-up, drops}
+use Rattle.invariant.proofs.Edges.{removes, admits, revives, evicts20, evicts23, begins, releases}
+use Rattle.invariant.proofs.Effects.{no-open, unseen, Effect}
 use Rattle.invariant.proofs.Next.{slot-now, all-grants}
 use Rattle.invariant.proofs.Private.{Secret, secret-unmapped, secret-unfound, secret-ungranted}
 
@@ -57,7 +59,13 @@ balance-next p q f a b v w s t e (orphan o) (shift u x y z) n l j = absurd (u o)
 balance-next p q f a b v w s t e (orphan o) (evict x y z) n l j = elim (j o) [ inl r ↦ orphan r | inr r ↦ gone y (omega (arith, r)) ]
 balance-next p q f a b v w s t e (orphan o) (revive x y z) n l j = held (omega arith)
 
-module _ (p : Pool) (c : ℕ) (here : c < clientCount p) (r : Reached p) (m : Move) (x : Effect p c m) where
+module _ {p : Pool} {c : ℕ} {m : Move} (x : Effect p c m) where
+  abbrev r : Reached p
+  r = x .reached
+
+  abbrev here : c < clientCount p
+  here = x .here
+
   abbrev k : Client
   k = client p c
 
@@ -82,7 +90,7 @@ module _ (p : Pool) (c : ℕ) (here : c < clientCount p) (r : Reached p) (m : Mo
       omega (
         arith,
         grantsOn-other p c m (r .shape) here few (x .grants) d o f,
-        ap (λ (n : Client). one (pinsFound (n .stage) && eqb (n .found) f) + one (eqb (n .own) f)) (client-other p c m (r .shape) d o),
+        ap (λ (n : Client). one (pinsFound (n .stage) && eqb (n .found) f) + one (eqb (n .own) f)) (client-other p c m d o),
       )
 
   claimed-next : (f : ℕ) → claimed q f + claims p c f ≡ claimed p f + claims q c f
@@ -91,7 +99,7 @@ module _ (p : Pool) (c : ℕ) (here : c < clientCount p) (r : Reached p) (m : Mo
 
   -- the grants stay, and what else is claimed
   claims-kept : m .grants ≡ Same → m .next .held ≡ k .held → (f : ℕ) → claims q c f ≡ grantsOn p c f + besides f
-  claims-kept g h f = omega (arith, claims-next f, grantsOn-keeps p c m (r .shape) here few (x .grants) g h f)
+  claims-kept g h f = omega (arith, claims-next f, grantsOn-keeps p c m (r .shape) here few g h f)
 
   -- one more grant, and nothing else is claimed
   claims-open : (g y : ℕ) → m .grants ≡ Open (k .held) g y → m .next .held ≡ k .held + 1 → k .held < 8 → m .next .stage ≡ 0 → m .next .own ≡ none
@@ -100,7 +108,7 @@ module _ (p : Pool) (c : ℕ) (here : c < clientCount p) (r : Reached p) (m : Mo
       omega (
         arith,
         claims-next f,
-        grantsOn-opens p c m (r .shape) here few (x .grants) g y e h l f,
+        grantsOn-opens p c m (r .shape) here few g y e h l f,
         ap (λ (n : ℕ). one (pinsFound n && eqb (m .next .found) f)) s,
         ap (λ (n : ℕ). one (eqb n f)) o,
         none-own f z,
@@ -111,17 +119,17 @@ module _ (p : Pool) (c : ℕ) (here : c < clientCount p) (r : Reached p) (m : Mo
   pub orphan-stays : (f : ℕ) → f ≢ none → Orphan p f → m .next .own ≢ f → Orphan q f
   orphan-stays f z o n =
       record {
-        no-slot = λ i. elim (slot-now p c here r m x i) [ inl e ↦ (λ w. o .no-slot i (sym e ∙ w)) | inr e ↦ (λ w. o .unowned c (sym (e .0) ∙ w)) ];
-        unmapped = secret-unmapped p c here r m x f z secret;
+        no-slot = λ i. elim (slot-now x i) [ inl e ↦ (λ w. o .no-slot i (sym e ∙ w)) | inr e ↦ (λ w. o .unowned c (sym (e .0) ∙ w)) ];
+        unmapped = secret-unmapped x f z secret;
         unowned = all-clients p c m (r .shape) (λ _ n. n .own ≢ f) here (λ d _. o .unowned d) n;
-        unfound = secret-unfound p c here r m x f z secret;
-        ungranted = secret-ungranted p c here r m x f z secret;
+        unfound = secret-unfound x f z secret;
+        ungranted = secret-ungranted x f z secret;
       }
     where
       secret : Secret p c (m .next) f
       secret = record { unmapped = o .unmapped; unfound = o .unfound; ungranted = o .ungranted; not-left = λ _. o .unowned c }
 
-  pub orphan-next : (f : ℕ) → f ≢ none → Orphan p f → Orphan q f ⊎ ((claimed p f ≡ 0) × (1 ≤ claims q c f))
+  orphan-next : (f : ℕ) → f ≢ none → Orphan p f → Orphan q f ⊎ ((claimed p f ≡ 0) × (1 ≤ claims q c f))
   orphan-next f z o = go (ℕ-discrete (m .next .own) f)
     where
       go : Dec (m .next .own ≡ f) → Orphan q f ⊎ ((claimed p f ≡ 0) × (1 ≤ claims q c f))
@@ -148,7 +156,7 @@ module _ (p : Pool) (c : ℕ) (here : c < clientCount p) (r : Reached p) (m : Mo
 
   -- no pins change, and no claims
   quiet : Ownless → PinsStay p (m .write) → ((f : ℕ) → f ≢ none → claims q c f ≡ claims p c f) → Tallies
-  quiet o w e = record { owns = o; change = λ f z. idle (pins-kept p c m (r .shape) w f) (e f z) }
+  quiet o w e = record { owns = o; change = λ f z. idle (pins-kept p c m w f) (e f z) }
 
   -- the pins of one frame change
   touch : (g y : ℕ) → Ownless → PinsPut p (m .write) g y → g < total p
@@ -156,14 +164,14 @@ module _ (p : Pool) (c : ℕ) (here : c < clientCount p) (r : Reached p) (m : Mo
   touch g y o w h ch e = record { owns = o; change = λ f z. go f z (ℕ-discrete f g) }
     where
       go : (f : ℕ) → f ≢ none → Dec (f ≡ g) → Change p q f (pins p f) (pins q f) (claims p c f) (claims q c f)
-      go f z (no n) = idle (pins-else p c m (r .shape) g y w f n) (e f z n)
+      go f z (no n) = idle (pins-else p c m g y w f n) (e f z n)
       go f z (yes n) =
           subst (λ (f : ℕ). Change p q f (pins p f) (pins q f) (claims p c f) (claims q c f)) (sym n)
           (subst (λ (b : ℕ). Change p q g (pins p g) b (claims p c g) (claims q c g)) (sym (pins-here p c m (r .shape) g y w h)) (ch (λ w. z (n ∙ w))))
 
 -- ---- each kind of move
 
-module _ (p : Pool) (c : ℕ) (here : c < clientCount p) (r : Reached p) where
+module _ (p : Pool) (c : ℕ) (r : Reached p) where
   abbrev me : Client
   me = client p c
 
@@ -180,22 +188,22 @@ module _ (p : Pool) (c : ℕ) (here : c < clientCount p) (r : Reached p) where
 
   module _ {m : Move} (x : Effect p c m) where
     abbrev Good : Type 0
-    Good = Tallies p c here r m x
+    Good = Tallies x
 
     abbrev NoOwn : Type 0
     NoOwn = T (ownless (m .next .stage)) → m .next .own ≡ none
 
     -- the grants stay, no pins change, and the client claims what it did
     still : NoOwn → PinsStay p (m .write) → m .grants ≡ Same → m .next .held ≡ me .held
-        → ((f : ℕ) → besides p c here r m x f ≡ one (pinsFound (me .stage) && eqb (me .found) f) + one (eqb (me .own) f)) → Good
-    still o w g h e = quiet p c here r m x o w (λ f _. omega (arith, claims-kept p c here r m x g h f, e f))
+        → ((f : ℕ) → besides x f ≡ one (pinsFound (me .stage) && eqb (me .found) f) + one (eqb (me .own) f)) → Good
+    still o w g h e = quiet x o w (λ f _. omega (arith, claims-kept x g h f, e f))
 
     -- the found frame has one claim more, and one pin
     pins-found : (i : ℕ) → client p c .stage ≡ i → T (not (pinsFound i)) → pinsFound (m .next .stage) ≡ true → NoOwn
         → PinsPut p (m .write) (me .found) (pins p (me .found) + 1) → m .grants ≡ Same → m .next .held ≡ me .held → m .next .found ≡ me .found
         → m .next .own ≡ me .own → me .found ≢ none → pins p (me .found) ≢ evicted → Good
     pins-found i e t u o w g h fo ow z l =
-        touch p c here r m x (me .found) _ o w (r .ranges .found-ok c z)
+        touch x (me .found) _ o w (r .ranges .found-ok c z)
         (λ _. shift (λ n. n .unfound c refl) l (λ n. let y : ⊥ = omega arith in y) (omega (arith, more (me .found), one-is (me .found))))
         (λ f _ n. omega (arith, more f, one-not (me .found) f (λ w. n (sym w))))
       where
@@ -203,7 +211,7 @@ module _ (p : Pool) (c : ℕ) (here : c < clientCount p) (r : Reached p) where
         more f =
             let a : one (pinsFound (me .stage) && eqb (me .found) f) ≡ 0 = by-found i f e ∙ rw (T-false (pinsFound i) t) refl in
             let b : one (pinsFound (m .next .stage) && eqb (m .next .found) f) ≡ one (eqb (me .found) f) = rw (u, fo) refl in
-            omega (arith, claims-kept p c here r m x g h f, ap (λ (o : ℕ). one (eqb o f)) ow)
+            omega (arith, claims-kept x g h f, ap (λ (o : ℕ). one (eqb o f)) ow)
 
     -- a claim becomes a grant: that of the found frame, or that of the own one
     becomes : (i y : ℕ) → me .stage ≡ i → T (not (eqb i 0)) → PinsStay p (m .write) → m .grants ≡ Open (me .held) (me .page) y
@@ -211,13 +219,13 @@ module _ (p : Pool) (c : ℕ) (here : c < clientCount p) (r : Reached p) where
         → ((f : ℕ) → f ≢ none → one (pinsFound (me .stage) && eqb (me .found) f) + one (eqb (me .own) f) ≡ one (eqb y f)) → Good
     becomes i y st n w g h s o e =
         let few : me .held < 8 = omega (arith, r .ranges .working-held c (λ z. differ i 0 n (sym st ∙ z))) in
-        quiet p c here r m x (λ _. o) w (λ f z. omega (arith, claims-open p c here r m x (me .page) y g h few s o f z, e f z))
+        quiet x (λ _. o) w (λ f z. omega (arith, claims-open x (me .page) y g h few s o f z, e f z))
 
     -- the own frame is evicted and forgotten
     evicts : (j : ℕ) → m .next .own ≡ none → PinsPut p (m .write) (me .own) evicted → m .grants ≡ Same → m .next .held ≡ me .held
         → pinsFound (m .next .stage) ≡ pinsFound (me .stage) → m .next .found ≡ me .found → me .own ≢ none → Good
     evicts j o w g h s fo z =
-        touch p c here r m x (me .own) evicted (λ _. o) w (r .ranges .own-ok c z)
+        touch x (me .own) evicted (λ _. o) w (r .ranges .own-ok c z)
         (λ _. evict (λ n. let y : ⊥ = omega (arith, two) in y) refl (omega (arith, less (me .own) z, one-is (me .own), two)))
         (λ f u n. omega (arith, less f u, one-not (me .own) f (λ w. n (sym w))))
       where
@@ -227,7 +235,7 @@ module _ (p : Pool) (c : ℕ) (here : c < clientCount p) (r : Reached p) where
         less : (f : ℕ) → f ≢ none → claims (apply p c m) c f + one (eqb (me .own) f) ≡ claims p c f
         less f u =
             let b : one (pinsFound (m .next .stage) && eqb (m .next .found) f) ≡ one (pinsFound (me .stage) && eqb (me .found) f) = rw (s, fo) refl in
-            omega (arith, claims-kept p c here r m x g h f, ap (λ (o : ℕ). one (eqb o f)) o, none-own f u)
+            omega (arith, claims-kept x g h f, ap (λ (o : ℕ). one (eqb o f)) o, none-own f u)
 
   -- a refused client leaves its own frame behind, with its pins
   pub stranded : Effect p c (refused15 me) → T (unplaced (me .stage)) → me .own ≢ none → Orphan (apply p c (refused15 me)) (me .own)
@@ -235,19 +243,19 @@ module _ (p : Pool) (c : ℕ) (here : c < clientCount p) (r : Reached p) where
   stranded x u z =
       let m : Move = refused15 me in
       record {
-        no-slot = λ i w. r .places .unplaced-out c i u z (sym (slot-kept p c m (r .shape) refl i) ∙ w);
-        unmapped = mapped-kept p c m (r .shape) refl refl (me .own) ∙ r .private .own-unmapped c z;
-        unowned = all-clients p c m (r .shape) (λ _ n. n .own ≢ me .own) here (λ d o w. o (sym (r .places .owns-apart c d z (sym w)))) (λ w. z (sym w));
-        unfound = all-clients p c m (r .shape) (λ _ n. n .found ≢ me .own) here (λ d _. r .private .own-unfound c d z) (λ w. z (sym w));
-        ungranted = λ d i w. all-grants p c here r m x (λ _ f. f ≢ me .own) (λ d i _. r .private .own-ungranted c d i z) (λ g f e. no-open e) d i
+        no-slot = λ i w. r .places .unplaced-out c i u z (sym (slot-kept p c m refl i) ∙ w);
+        unmapped = mapped-kept p c m refl refl (me .own) ∙ r .private .own-unmapped c z;
+        unowned = all-clients p c m (r .shape) (λ _ n. n .own ≢ me .own) (x .here) (λ d o w. o (sym (r .places .owns-apart c d z (sym w)))) (λ w. z (sym w));
+        unfound = all-clients p c m (r .shape) (λ _ n. n .found ≢ me .own) (x .here) (λ d _. r .private .own-unfound c d z) (λ w. z (sym w));
+        ungranted = λ d i w. all-grants x (λ _ f. f ≢ me .own) (λ d i _. r .private .own-ungranted c d i z) (λ g f e. no-open e) d i
             (grant-in (apply p c m) d i (λ n. z (sym w ∙ n))) w;
       }
 
-  tallies : {m : Move} → Edge p c m → (x : Effect p c m) → Tallies p c here r m x
+  tallies : {m : Move} → Edge p c m → (x : Effect p c m) → Tallies x
   unfolding pinsAfter claimed
   tallies (on n j w h) x =
       still x (λ t. h .same .own ∙ r .counts .owns-none c (imp-mp (ownless j) (ownless (me .stage)) (h .stages .from-ownless) t))
-      (untouched _ _ (h .quiet) .pins) refl (h .same .held)
+      (unseen _ _ (h .quiet) .pins) refl (h .same .held)
       (λ f. rw (h .stages .pins-alike, h .same .found, h .same .own) refl)
   tallies (found1 e _) x = still x (λ _. r .counts .owns-none c (rw e tt)) refl refl refl (λ f. rw e refl)
   tallies (found18 e _) x = still x never refl refl refl (λ f. rw e refl)
@@ -260,10 +268,10 @@ module _ (p : Pool) (c : ℕ) (here : c < clientCount p) (r : Reached p) where
   tallies (gets21 e) x =
       becomes x 21 (me .found) e tt refl refl refl refl refl (λ f z. omega (arith, by-found 21 f e, by-none f z (rw e tt)))
   tallies {m} (takes e z) x =
-      touch p c here r m x (freeFrame p) (pinned 1) never refl (free .0)
+      touch x (freeFrame p) (pinned 1) never refl (free .0)
       (λ _. revive (sum-zero (λ d. claims p d (freeFrame p)) (clientCount p) (λ d _. none-of d)) refl
-      (omega (arith, claims-kept p c here r m x refl refl (freeFrame p), grantsOn-none p c (freeFrame p) (fresh .no-grant c), one-is (freeFrame p))))
-      (λ f u n. omega (arith, claims-kept p c here r m x refl refl f, one-not (freeFrame p) f (λ w. n (sym w)), by-found 4 f e, by-none f u (rw e tt)))
+      (omega (arith, claims-kept x refl refl (freeFrame p), grantsOn-none p c (freeFrame p) (fresh .no-grant c), one-is (freeFrame p))))
+      (λ f u n. omega (arith, claims-kept x refl refl f, one-not (freeFrame p) f (λ w. n (sym w)), by-found 4 f e, by-none f u (rw e tt)))
     where
       free : (freeFrame p < total p) × (referenced p (freeFrame p) ≡ false)
       free = free-found p (r .shape) z
@@ -282,12 +290,12 @@ module _ (p : Pool) (c : ℕ) (here : c < clientCount p) (r : Reached p) where
           subst (λ (f : ℕ). Change p (apply p c m) f (pins p f) (pins (apply p c m) f) (claims p c f) (claims (apply p c m) c f)) h
           (strand (stranded x (v .is-unplaced) (λ w. z (sym h ∙ w))))
       go f z (no h) =
-          idle (pins-kept p c m (r .shape) refl f)
-          (omega (arith, claims-kept p c here r m x refl refl f, none-own f z, one-not _ _ h, ap (λ (b : Bool). one (b && eqb (me .found) f)) (v .no-pin)))
+          idle (pins-kept p c m refl f)
+          (omega (arith, claims-kept x refl refl f, none-own f z, one-not _ _ h, ap (λ (b : Bool). one (b && eqb (me .found) f)) (v .no-pin)))
   tallies {m} (drops e h) x =
-      touch p c here r m x (me .victim) evicted never refl (r .ranges .victim-ok c (kn 14 e .1 .0))
-      (λ _. evict (λ n. let y : ⊥ = omega arith in y) refl (omega (arith, claims-kept p c here r m x refl refl (me .victim), by-found 14 (me .victim) e)))
-      (λ f _ _. omega (arith, claims-kept p c here r m x refl refl f, by-found 14 f e))
+      touch x (me .victim) evicted never refl (r .ranges .victim-ok c (kn 14 e .1 .0))
+      (λ _. evict (λ n. let y : ⊥ = omega arith in y) refl (omega (arith, claims-kept x refl refl (me .victim), by-found 14 (me .victim) e)))
+      (λ f _ _. omega (arith, claims-kept x refl refl f, by-found 14 f e))
   tallies (removes e _) x = still x never refl refl refl (λ f. rw e refl)
   tallies (admits e _ _) x = becomes x 18 (me .own) e tt refl refl refl refl refl (λ f _. omega (arith, by-found 18 f e))
   tallies (revives e _) x = becomes x 22 (me .own) e tt refl refl refl refl refl (λ f _. omega (arith, by-found 22 f e))
@@ -295,7 +303,7 @@ module _ (p : Pool) (c : ℕ) (here : c < clientCount p) (r : Reached p) where
   tallies (evicts23 e) x = evicts x 4 refl refl refl refl (rw e refl) refl (kn 23 e .0)
   tallies (begins g e _) x = still x (λ _. r .counts .owns-none c (rw e tt)) refl refl refl (λ f. rw e refl)
   tallies {m} (releases g e z) x =
-      touch p c here r m x gf (pins p gf - 1) (λ t. r .counts .owns-none c t) refl (r .ranges .grant-ok c i named)
+      touch x gf (pins p gf - 1) (λ t. r .counts .owns-none c t) refl (r .ranges .grant-ok c i named)
       (λ _. shift (λ o. o .ungranted c i refl) (λ n. let y : ⊥ = omega (arith, two) in y) (λ n. let y : ⊥ = omega (arith, two) in y)
       (omega (arith, less gf, one-is gf, two)))
       (λ f _ n. omega (arith, less f, one-not gf f (λ w. n (sym w))))
@@ -314,8 +322,8 @@ module _ (p : Pool) (c : ℕ) (here : c < clientCount p) (r : Reached p) where
 
       less : (f : ℕ) → claims (apply p c m) c f + one (eqb gf f) ≡ claims p c f
       less f =
-          let h = grantsOn-ends p c m (r .shape) here (r .ranges .held-ok) (x .grants) i refl refl (grantOf-found p c g z .0) f in
-          omega (arith, claims-next p c here r m x f)
+          let h = grantsOn-ends p c m (r .shape) (x .here) (r .ranges .held-ok) i refl refl (grantOf-found p c g z .0) f in
+          omega (arith, claims-next x f)
 
   pub counts-next : {m : Move} → Edge p c m → Effect p c m → Counts (apply p c m)
-  counts-next {m} e x = counts-of p c here r m x (tallies e x)
+  counts-next {m} e x = counts-of x (tallies e x)

@@ -1,4 +1,5 @@
--- A property of each element of a list and its place: how a fact of all 23 stages is put together. Assumes nothing.
+-- A property of each element of a list and its place. A fact of all 23 stages is put together so: one proof a stage, in order, and the stage's number
+-- picks it. Assumes nothing.
 use mathlib.Core.List.{List, [], _∷_}
 use Prim.Native.Nat.{ℕ, zero, suc, _+_, _<_}
 use native.Mathlib.Nat.{add-zero, zero-add, add-suc, suc-add, not-suc-le-zero, le-of-suc-le-suc}

@@ -1,5 +1,5 @@
--- The moves that a call makes in a reached pool, one constructor for each kind, with what its tests found. No move is stuck there, so none of
--- them is. Most steps only move the client on, with its frames and grants as they were and the slots, frames and table untouched: `on`.
+-- The moves that a call makes in a reached pool, one constructor for each kind, with what its tests found. A stuck move is none of them: no reached
+-- pool makes one. Most steps only move the client on, with its frames and grants as they were and the slots, frames and table untouched: `on`.
 -- Definitions only. Assumes nothing.
 use mathlib.Core.Path.{_≡_}
 use mathlib.Core.Logic.{_≢_, _⊎_}
@@ -63,7 +63,7 @@ abbrev pub grants : Client → ℕ → Write → Counted → Move
 grants k f w counted = record { next = resting (k .held + 1); grants = Open (k .held) (k .page) f; write = w; answer = Granted f; counted = counted }
 
 module _ (p : Pool) (c : ℕ) where
-  abbrev pub k : Client
+  abbrev k : Client
   k = client p c
 
   -- its first grant on page g ends, and its last takes that place

@@ -7,13 +7,14 @@ use mathlib.Core.List.{List}
 use Prim.Native.Nat.{ℕ, suc, _+_, _-_, _≤_, _<_}
 use native.Mathlib.Omega.{arith}
 use lib.Dec.{T, eqb}
-use Rattle.pool.specs.State.{none, evicted, pinned, clientCount, total, slot, page, pins, count, entryPage, entryFrame, client, grantFrame}
+use Rattle.pool.specs.Answers.{refusalOf}
+use Rattle.pool.specs.State.{none, evicted, pinned, clientCount, total, slot, page, pins, count, entryPage, entryFrame, client}
 use Rattle.pool.specs.Table.{entryOf, lookup}
 use Rattle.pool.specs.Frames.{referenced, freeFrame}
 use Rattle.pool.specs.Grants.{grantOf}
 use Rattle.pool.specs.Moves.{withOwn, works}
 use Rattle.pool.specs.Stages.{raised}
-use Rattle.pool.specs.Apply.{slotsAfter, pagesAfter, pinsAfter, entryPagesAfter, entryFramesAfter}
+use Rattle.pool.specs.Apply.{slotsAfter, pagesAfter, pinsAfter, countsAfter, entryPagesAfter, entryFramesAfter, freeAfter, lastAfter}
 use Rattle.pool.specs.declared.Pool.{Pool}
 use Rattle.pool.specs.declared.Client.{Client}
 use Rattle.pool.specs.declared.Move.{Move}
@@ -22,15 +23,31 @@ use Rattle.pool.specs.declared.Counted.the-variants.{Hit, Join, Admitted, Reviv
 use Rattle.pool.specs.declared.GrantChange.the-variants.{Same, Open, End}
 use Rattle.pool.specs.declared.Write.{Write}
 use Rattle.pool.specs.declared.Write.the-variants.{PutSlot, PutPins, PutCount, TakeFrame, PutEntry}
-use Rattle.invariant.proofs.After.{SlotsStay, PinsStay, PinsPut, PagesStay, PagesPut, EntryPagesStay, EntryFramesStay}
+use Rattle.invariant.proofs.After.{SlotsStay, PinsStay, PinsPut, PagesStay, PagesPut, CountsStay, CountsPut, EntryPagesStay, EntryFramesStay}
+use Rattle.invariant.proofs.Writes.{silent, Untouched, untouched}
 use Rattle.invariant.proofs.Reached.{Reached, mapped, Seated, Knows, unplaced, pinsFound, leaving}
 use Rattle.invariant.proofs.Searches.{lookup-found, lookup-none, unused-found, grantOf-found, free-found}
 use Rattle.invariant.proofs.Table.{suc-not, lookup-mapped}
 use Rattle.invariant.proofs.Grants.{Granting, keeps, opens, ends}
 use Rattle.invariant.proofs.Never.{know}
 use Rattle.invariant.proofs.Flags.{differ, imp}
-use Rattle.invariant.proofs.Facts.{own-pins, grant-live, found-live, one-more}
-use Rattle.invariant.proofs.Edges.{Quiet, keep, hand, counts, free, Edge, on, grants, found1, found18, lost2, lost22, pins2, pins19, gets3, gets21, takes, fills, swaps, gives-up, drops, removes, admits, revives, evicts20, evicts23, begins, releases}
+use Rattle.invariant.proofs.Facts.{raised-ok, grant-live, found-live, one-more}
+use Rattle.invariant.proofs.Edges.{Quiet, keep, hand, counts, free, Edge, on, grants, found1, found18, lost2, lost22, pins2, pins19, gets3, gets21}
+use Rattle.invariant.proofs.Edges.{takes, fills, swaps, gives-up, drops, removes, admits, revives, evicts20, evicts23, begins, releases}
+
+-- the move is not stuck
+abbrev Sound : Move → Type 0
+Sound m = T (not (eqb (refusalOf (m .answer)) 8))
+
+-- a write keeps free, the last frame taken and the counts in their ranges
+pub data CountOk (p : Pool) (w : Write) : Type 0 where
+  counts-stay : CountsStay p w → CountOk p w
+  counts-put : (f x : ℕ) → CountsPut p w f x → x ≤ p .cap → CountOk p w
+
+pub record Written (p : Pool) (w : Write) : Type 0 where
+  pub free-ok : freeAfter (p .free) w ≤ p .size
+  pub last-ok : (lastAfter (p .last) w ≡ none) ⊎ (lastAfter (p .last) w < total p)
+  pub count-ok : CountOk p w
 
 module _ (p : Pool) (c : ℕ) (m : Move) where
   abbrev k : Client
@@ -40,7 +57,7 @@ module _ (p : Pool) (c : ℕ) (m : Move) where
   pub data OwnOk : Type 0 where
     forgot : m .next .own ≡ none → OwnOk
     kept : m .next .own ≡ k .own → T (imp (unplaced (m .next .stage)) (unplaced (k .stage))) → OwnOk
-    taken : k .own ≡ none → m .next .own ≢ none → m .next .own < total p → referenced p (m .next .own) ≡ false
+    taken : k .stage ≡ 4 → m .next .own < total p → referenced p (m .next .own) ≡ false
         → m .write ≡ TakeFrame (m .next .own) (m .next .page) (pinned 1) 1 → OwnOk
 
   -- the slot at i is empty, or the client takes its evicted victim out of it
@@ -51,43 +68,46 @@ module _ (p : Pool) (c : ℕ) (m : Move) where
   pub data SlotOk : Type 0 where
     slots-stay : SlotsStay p (m .write) → SlotOk
     puts : (i : ℕ) → m .write ≡ PutSlot i (k .own) → i < p .size → T (unplaced (k .stage)) → T (not (unplaced (m .next .stage)))
-        → m .next .own ≡ k .own → k .own ≢ none → Vacant i → SlotOk
+        → k .own ≢ none → Vacant i → SlotOk
 
   -- frame f gets pins x
   pub data PinChange (f x : ℕ) : Type 0 where
-    adds : f ≡ k .found → pins p f ≢ evicted → x ≡ pins p f + 1 → x ≤ pinned 128 → PinChange f x
-    lowers : (i : ℕ) → f ≡ grantFrame p c i → pinned 1 ≤ pins p f → x ≡ pins p f - 1 → PinChange f x
+    adds : pins p f ≢ evicted → x ≡ pins p f + 1 → x ≤ pinned 128 → PinChange f x
+    lowers : pinned 1 ≤ pins p f → x ≡ pins p f - 1 → PinChange f x
     drops-victim : f ≡ k .victim → pins p f ≡ pinned 0 → x ≡ evicted → k .stage ≡ 14 → m .next .stage ≡ 15 → m .next .victim ≡ k .victim
         → m .next .place ≡ k .place → PinChange f x
-    drops-own : f ≡ k .own → pins p f ≡ pinned 1 → x ≡ evicted → m .next .own ≡ none → PinChange f x
-    takes-one : f ≡ m .next .own → referenced p f ≡ false → x ≡ pinned 1 → PinChange f x
+    drops-own : f ≡ k .own → x ≡ evicted → PinChange f x
+    takes-one : referenced p f ≡ false → x ≡ pinned 1 → PinChange f x
 
   pub data PinsOk : Type 0 where
     pins-stay : PinsStay p (m .write) → PinsOk
-    pins-put : (f x : ℕ) → PinsPut p (m .write) f x → f < total p → f ≢ none → PinChange f x → PinsOk
+    pins-put : (f x : ℕ) → PinsPut p (m .write) f x → f < total p → PinChange f x → PinsOk
 
   pub data FoundOk : Type 0 where
     found-stays : m .next .found ≡ k .found → FoundOk
     lost : m .next .found ≡ none → FoundOk
-    looked : m .next .found ≢ none → m .next .found < total p → mapped p (m .next .found) ≢ 0 → FoundOk
+    looked : m .next .found < total p → mapped p (m .next .found) ≢ 0 → FoundOk
 
   -- whose frame f a new grant of page g names
   pub data Opened (g f : ℕ) : Type 0 where
     of-found : f ≡ k .found → f ≢ none → mapped p f ≡ suc g → pinned 1 ≤ pins p f → Opened g f
-    of-own : (i : ℕ) → f ≡ k .own → f ≢ none → g ≡ k .page → m .next .own ≡ none → m .write ≡ PutEntry i g f → i < total p → Opened g f
+    of-own : (i : ℕ) → f ≡ k .own → f ≢ none → m .next .own ≡ none → m .write ≡ PutEntry i g f → i < total p → Opened g f
 
   -- a page is mapped to the own frame, at a place that is unused or whose frame is evicted; or the evicted victim's entry is removed
   pub data EntryOk : Type 0 where
     entries-stay : EntryPagesStay p (m .write) → EntryFramesStay p (m .write) → EntryOk
     maps : (i : ℕ) → m .write ≡ PutEntry i (k .page) (k .own) → i < total p → k .own ≢ none → m .next .own ≡ none → Seated p (k .own)
         → (entryFrame p i ≡ none) ⊎ (pins p (entryFrame p i) ≡ evicted) → ((j : ℕ) → j ≢ i → entryFrame p j ≢ none → entryPage p j ≢ k .page) → EntryOk
-    unmaps : (i g : ℕ) → m .write ≡ PutEntry i g none → i < total p → k .victim ≢ none → entryFrame p i ≡ k .victim → pins p (k .victim) ≡ evicted → EntryOk
+    unmaps : (i g : ℕ) → m .write ≡ PutEntry i g none → i < total p → entryFrame p i ≡ k .victim → pins p (k .victim) ≡ evicted → EntryOk
 
   pub data PageOk : Type 0 where
     pages-stay : PagesStay p (m .write) → PageOk
-    paged : (f : ℕ) → referenced p f ≡ false → f < total p → PagesPut p (m .write) f (m .next .page) → f ≡ m .next .own → PageOk
+    paged : (f : ℕ) → referenced p f ≡ false → PagesPut p (m .write) f (m .next .page) → PageOk
 
+  -- with what it comes from: a client of a reached pool made the move
   pub record Effect : Type 0 where
+    pub here : c < clientCount p
+    pub reached : Reached p
     pub own : OwnOk
     pub slot : SlotOk
     pub pins : PinsOk
@@ -96,22 +116,19 @@ module _ (p : Pool) (c : ℕ) (m : Move) where
     pub opened : (g f : ℕ) → m .grants ≡ Open (k .held) g f → Opened g f
     pub entries : EntryOk
     pub pages : PageOk
+    pub written : Written p (m .write)
+    pub sound : Sound m
 
 -- ---- a quiet write leaves the lists
 
-pub record Untouched (n : ℕ) (l : List ℕ) (w : Write) : Type 0 where
-  pub slots : slotsAfter n l w ≡ l
-  pub pages : pagesAfter n l w ≡ l
-  pub pins : pinsAfter n l w ≡ l
-  pub entry-pages : entryPagesAfter n l w ≡ l
-  pub entry-frames : entryFramesAfter n l w ≡ l
+pub quiet-silent : {p : Pool} {w : Write} → Quiet p w → T (silent w)
+quiet-silent keep = tt
+quiet-silent hand = tt
+quiet-silent (counts _) = tt
+quiet-silent (free _) = tt
 
-pub untouched : {p : Pool} (n : ℕ) (l : List ℕ) {w : Write} → Quiet p w → Untouched n l w
-unfolding slotsAfter pagesAfter pinsAfter entryPagesAfter entryFramesAfter
-untouched n l keep = record { slots = refl; pages = refl; pins = refl; entry-pages = refl; entry-frames = refl }
-untouched n l hand = record { slots = refl; pages = refl; pins = refl; entry-pages = refl; entry-frames = refl }
-untouched n l (counts _) = record { slots = refl; pages = refl; pins = refl; entry-pages = refl; entry-frames = refl }
-untouched n l (free _) = record { slots = refl; pages = refl; pins = refl; entry-pages = refl; entry-frames = refl }
+pub unseen : {p : Pool} (n : ℕ) (l : List ℕ) {w : Write} → Quiet p w → Untouched n l w
+unseen n l {w} q = untouched n l w (quiet-silent q)
 
 -- ---- each kind of move
 
@@ -128,42 +145,63 @@ module _ (p : Pool) (c : ℕ) (here : c < clientCount p) (r : Reached p) where
   kn : (i : ℕ) → client p c .stage ≡ i → Knows i p me
   kn = know p r c
 
+  -- free, the last frame taken and the counts are not written
+  unwritten : {w : Write} → freeAfter (p .free) w ≡ p .free → lastAfter (p .last) w ≡ p .last → CountsStay p w → Written p w
+  unwritten a b e = record { free-ok = rw a (r .ranges .free-ok); last-ok = rw b (r .ranges .last-ok); count-ok = counts-stay e }
+
+  quiet-written : {w : Write} → Quiet p w → Written p w
+  unfolding freeAfter lastAfter countsAfter
+  quiet-written keep = unwritten refl refl refl
+  quiet-written hand = unwritten refl refl refl
+  quiet-written (counts {f} {x} h) = record { free-ok = r .ranges .free-ok; last-ok = r .ranges .last-ok; count-ok = counts-put f x refl h }
+  quiet-written (free h) = record { free-ok = h; last-ok = r .ranges .last-ok; count-ok = counts-stay refl }
+
   -- a quiet write: only the client changes
-  quietly : {m : Move} → Quiet p (m .write) → OwnOk p c m → FoundOk p c m → m .grants ≡ Same → m .next .held ≡ me .held → Effect p c m
-  quietly {m} w o f g h =
+  quietly : {m : Move} → Sound m → Quiet p (m .write) → OwnOk p c m → FoundOk p c m → m .grants ≡ Same → m .next .held ≡ me .held → Effect p c m
+  quietly {m} s w o f g h =
       record {
+        here = here;
+        reached = r;
         own = o;
-        slot = slots-stay (untouched _ _ w .slots);
-        pins = pins-stay (untouched _ _ w .pins);
+        slot = slots-stay (unseen _ _ w .slots);
+        pins = pins-stay (unseen _ _ w .pins);
         found = f;
         grants = keeps g h;
         opened = λ _ _ e. no-open (sym g ∙ e);
-        entries = entries-stay (untouched _ _ w .entry-pages) (untouched _ _ w .entry-frames);
-        pages = pages-stay (untouched _ _ w .pages);
+        entries = entries-stay (unseen _ _ w .entry-pages) (unseen _ _ w .entry-frames);
+        pages = pages-stay (unseen _ _ w .pages);
+        written = quiet-written w;
+        sound = s;
       }
 
   -- one frame's pins change, and no grant
-  pinning : {m : Move} (f x : ℕ) → m .write ≡ PutPins f x → f < total p → f ≢ none → PinChange p c m f x → OwnOk p c m → m .next .found ≡ me .found
+  pinning : {m : Move} → Sound m → (f x : ℕ) → m .write ≡ PutPins f x → f < total p → PinChange p c m f x → OwnOk p c m → m .next .found ≡ me .found
       → Granting p c m → ((g y : ℕ) → m .grants ≡ Open (me .held) g y → Opened p c m g y) → Effect p c m
-  unfolding slotsAfter pinsAfter entryPagesAfter entryFramesAfter pagesAfter
-  pinning f x e h z ch o fo g op =
+  unfolding slotsAfter pinsAfter entryPagesAfter entryFramesAfter pagesAfter freeAfter lastAfter countsAfter
+  pinning s f x e h ch o fo g op =
       record {
+        here = here;
+        reached = r;
         own = o;
         slot = slots-stay (rw e refl);
-        pins = pins-put f x (rw e refl) h z ch;
+        pins = pins-put f x (rw e refl) h ch;
         found = found-stays fo;
         grants = g;
         opened = op;
         entries = entries-stay (rw e refl) (rw e refl);
         pages = pages-stay (rw e refl);
+        written = unwritten (rw e refl) (rw e refl) (rw e refl);
+        sound = s;
       }
 
   -- the own frame goes into a slot
-  placing : {m : Move} (i : ℕ) → m .write ≡ PutSlot i (me .own) → SlotOk p c m → OwnOk p c m → m .next .found ≡ me .found
+  placing : {m : Move} → Sound m → (i : ℕ) → m .write ≡ PutSlot i (me .own) → SlotOk p c m → OwnOk p c m → m .next .found ≡ me .found
       → m .grants ≡ Same → m .next .held ≡ me .held → Effect p c m
-  unfolding slotsAfter pinsAfter entryPagesAfter entryFramesAfter pagesAfter
-  placing i e s o f g h =
+  unfolding slotsAfter pinsAfter entryPagesAfter entryFramesAfter pagesAfter freeAfter lastAfter countsAfter
+  placing so i e s o f g h =
       record {
+        here = here;
+        reached = r;
         own = o;
         slot = s;
         pins = pins-stay (rw e refl);
@@ -172,14 +210,18 @@ module _ (p : Pool) (c : ℕ) (here : c < clientCount p) (r : Reached p) where
         opened = λ _ _ x. no-open (sym g ∙ x);
         entries = entries-stay (rw e refl) (rw e refl);
         pages = pages-stay (rw e refl);
+        written = unwritten (rw e refl) (rw e refl) (rw e refl);
+        sound = so;
       }
 
   -- one entry of the table changes
-  entering : {m : Move} (i g f : ℕ) → m .write ≡ PutEntry i g f → EntryOk p c m → OwnOk p c m → FoundOk p c m → Granting p c m
+  entering : {m : Move} → Sound m → (i g f : ℕ) → m .write ≡ PutEntry i g f → EntryOk p c m → OwnOk p c m → FoundOk p c m → Granting p c m
       → ((g y : ℕ) → m .grants ≡ Open (me .held) g y → Opened p c m g y) → Effect p c m
-  unfolding slotsAfter pinsAfter pagesAfter
-  entering i g f e en o fo gr op =
+  unfolding slotsAfter pinsAfter pagesAfter freeAfter lastAfter countsAfter
+  entering s i g f e en o fo gr op =
       record {
+        here = here;
+        reached = r;
         own = o;
         slot = slots-stay (rw e refl);
         pins = pins-stay (rw e refl);
@@ -188,6 +230,8 @@ module _ (p : Pool) (c : ℕ) (here : c < clientCount p) (r : Reached p) where
         opened = op;
         entries = en;
         pages = pages-stay (rw e refl);
+        written = unwritten (rw e refl) (rw e refl) (rw e refl);
+        sound = s;
       }
 
   -- what a look-up finds
@@ -201,9 +245,10 @@ module _ (p : Pool) (c : ℕ) (here : c < clientCount p) (r : Reached p) where
   -- one more pin for the found frame
   pins-found : (i j : ℕ) → client p c .stage ≡ i → T (not (eqb i 0)) → T (not (pinsFound i)) → T (imp (unplaced j) (unplaced i))
       → me .found ≢ none → pins p (me .found) ≢ evicted → Effect p c (works me j (PutPins (me .found) (pins p (me .found) + 1)))
+  unfolding refusalOf
   pins-found i j e w t u z l =
       let few : pins p (me .found) < pinned 128 = one-more p r c here (λ s. differ i 0 w (sym e ∙ s)) (rw e t) z l in
-      pinning (me .found) _ refl (r .ranges .found-ok c z) z (adds refl l refl (omega arith)) (kept refl (rw e u)) refl (keeps refl refl)
+      pinning tt (me .found) _ refl (r .ranges .found-ok c z) (adds l refl (omega arith)) (kept refl (rw e u)) refl (keeps refl refl)
       (λ _ _ x. no-open x)
 
   -- a working client holds fewer than 8
@@ -213,10 +258,12 @@ module _ (p : Pool) (c : ℕ) (here : c < clientCount p) (r : Reached p) where
   gets-found : (i : ℕ) (u : Counted) → client p c .stage ≡ i → T (not (eqb i 0)) → T (pinsFound i) → me .found ≢ none
       → (pins p (me .found) ≢ evicted → mapped p (me .found) ≡ suc (me .page))
       → Effect p c (grants me (me .found) (PutCount (me .found) (raised (p .cap) (count p (me .found)))) u)
-  unfolding slotsAfter pinsAfter entryPagesAfter entryFramesAfter pagesAfter
+  unfolding slotsAfter pinsAfter entryPagesAfter entryFramesAfter pagesAfter freeAfter lastAfter countsAfter refusalOf
   gets-found i u e w t z live =
       let two = found-live p r c (rw e t) z in
       record {
+        here = here;
+        reached = r;
         own = forgot refl;
         slot = slots-stay refl;
         pins = pins-stay refl;
@@ -226,27 +273,31 @@ module _ (p : Pool) (c : ℕ) (here : c < clientCount p) (r : Reached p) where
             of-found b (λ n. z (sym b ∙ n)) (ap (mapped p) b ∙ live (λ n. let y : ⊥ = omega arith in y) ∙ ap suc a) (rw b two);
         entries = entries-stay refl refl;
         pages = pages-stay refl;
+        written = quiet-written (counts (raised-ok _ _ (r .ranges .count-ok (me .found))));
+        sound = tt;
       }
 
   -- the page is mapped to the own frame, which is granted
   gets-own : (i n : ℕ) (u : Counted) → client p c .stage ≡ i → T (not (eqb i 0)) → n < total p → me .own ≢ none
       → EntryOk p c (grants me (me .own) (PutEntry n (me .page) (me .own)) u) → Effect p c (grants me (me .own) (PutEntry n (me .page) (me .own)) u)
+  unfolding refusalOf
   gets-own i n u e w h z en =
-      entering n (me .page) (me .own) refl en (forgot refl) (lost refl) (opens (me .page) (me .own) refl refl (few i e w))
-      (λ g f x. let a : g ≡ me .page = cc in let b : f ≡ me .own = cc in of-own n b (λ y. z (sym b ∙ y)) a refl (rw (a, b) refl) h)
+      entering tt n (me .page) (me .own) refl en (forgot refl) (lost refl) (opens (me .page) (me .own) refl refl (few i e w))
+      (λ g f x. let a : g ≡ me .page = cc in let b : f ≡ me .own = cc in of-own n b (λ y. z (sym b ∙ y)) refl (rw (a, b) refl) h)
 
   evicts-own : (j : ℕ) → me .own ≢ none → Effect p c (works (withOwn me none) j (PutPins (me .own) evicted))
+  unfolding refusalOf
   evicts-own j z =
-      pinning (me .own) evicted refl (r .ranges .own-ok c z) z (drops-own refl (own-pins p r c z) refl refl) (forgot refl) refl (keeps refl refl)
+      pinning tt (me .own) evicted refl (r .ranges .own-ok c z) (drops-own refl refl) (forgot refl) refl (keeps refl refl)
       (λ _ _ x. no-open x)
 
   pub effect : {m : Move} → Edge p c m → Effect p c m
-  unfolding slotsAfter pinsAfter entryPagesAfter entryFramesAfter pagesAfter
-  effect (on n j w h) = quietly (h .quiet) (kept (h .same .own) (h .stages .from-unplaced)) (found-stays (h .same .found)) refl (h .same .held)
-  effect (found1 e z) = let l = looking (me .page) z in quietly keep (kept refl tt) (looked z (l .0) (l .1)) refl refl
-  effect (found18 e z) = let l = looking (me .page) z in quietly keep (kept refl tt) (looked z (l .0) (l .1)) refl refl
-  effect (lost2 e d) = quietly keep (kept refl tt) (lost refl) refl refl
-  effect (lost22 e _) = quietly keep (kept refl tt) (lost refl) refl refl
+  unfolding slotsAfter pinsAfter entryPagesAfter entryFramesAfter pagesAfter freeAfter lastAfter countsAfter refusalOf
+  effect (on n j w h) = quietly tt (h .quiet) (kept (h .same .own) (h .stages .from-unplaced)) (found-stays (h .same .found)) refl (h .same .held)
+  effect (found1 e z) = let l = looking (me .page) z in quietly tt keep (kept refl tt) (looked (l .0) (l .1)) refl refl
+  effect (found18 e z) = let l = looking (me .page) z in quietly tt keep (kept refl tt) (looked (l .0) (l .1)) refl refl
+  effect (lost2 e d) = quietly tt keep (kept refl tt) (lost refl) refl refl
+  effect (lost22 e _) = quietly tt keep (kept refl tt) (lost refl) refl refl
   effect (pins2 e l) = pins-found 2 3 e tt tt tt (kn 2 e .0) l
   effect (pins19 e l) = pins-found 19 20 e tt tt tt (kn 19 e .1 .0) l
   effect (gets3 e) = gets-found 3 Hit e tt tt (kn 3 e .0) (kn 3 e .1)
@@ -254,28 +305,32 @@ module _ (p : Pool) (c : ℕ) (here : c < clientCount p) (r : Reached p) where
   effect (takes e z) =
       let f = free-found p (r .shape) z in
       record {
-        own = taken (r .counts .owns-none c (rw e tt)) z (f .0) (f .1) refl;
+        here = here;
+        reached = r;
+        own = taken e (f .0) (f .1) refl;
         slot = slots-stay refl;
-        pins = pins-put (freeFrame p) (pinned 1) refl (f .0) z (takes-one refl (f .1) refl);
+        pins = pins-put (freeFrame p) (pinned 1) refl (f .0) (takes-one (f .1) refl);
         found = found-stays refl;
         grants = keeps refl refl;
         opened = λ _ _ x. no-open x;
         entries = entries-stay refl refl;
-        pages = paged (freeFrame p) (f .1) (f .0) refl refl;
+        pages = paged (freeFrame p) (f .1) refl;
+        written = record { free-ok = r .ranges .free-ok; last-ok = inr (f .0); count-ok = counts-put _ 1 refl (r .shape .cap-low) };
+        sound = tt;
       }
-  effect (fills e s) = placing (me .place) refl (puts (me .place) refl (r .ranges .place-ok c) (rw e tt) tt refl (kn 8 e) (inl s)) (kept refl tt) refl refl refl
+  effect (fills e s) = placing tt (me .place) refl (puts (me .place) refl (r .ranges .place-ok c) (rw e tt) tt (kn 8 e) (inl s)) (kept refl tt) refl refl refl
   effect (swaps e s) =
-      placing (me .place) refl (puts (me .place) refl (r .ranges .place-ok c) (rw e tt) tt refl (kn 15 e .0) (inr (s, kn 15 e .1 .1, tt, refl)))
+      placing tt (me .place) refl (puts (me .place) refl (r .ranges .place-ok c) (rw e tt) tt (kn 15 e .0) (inr (s, kn 15 e .1 .1, tt, refl)))
       (kept refl tt) refl refl refl
-  effect (gives-up v _) = quietly keep (forgot refl) (lost refl) refl refl
+  effect (gives-up v _) = quietly tt keep (forgot refl) (lost refl) refl refl
   effect (drops e h) =
       let z = kn 14 e .1 .0 in
-      pinning (me .victim) evicted refl (r .ranges .victim-ok c z) z (drops-victim refl h refl e refl refl refl) (kept refl (rw e tt)) refl
+      pinning tt (me .victim) evicted refl (r .ranges .victim-ok c z) (drops-victim refl h refl e refl refl refl) (kept refl (rw e tt)) refl
       (keeps refl refl) (λ _ _ x. no-open x)
   effect (removes e h) =
       let z = kn 17 e .1 .0 in
       let f = lookup-found p (r .shape) (page p (me .victim)) (λ w. z (sym h ∙ w)) in
-      entering _ _ none refl (unmaps _ _ refl (f .place) z (f .entry-frame ∙ h) (kn 17 e .1 .1)) (kept refl tt) (found-stays refl) (keeps refl refl)
+      entering tt _ _ none refl (unmaps _ _ refl (f .place) (f .entry-frame ∙ h) (kn 17 e .1 .1)) (kept refl tt) (found-stays refl) (keeps refl refl)
       (λ _ _ x. no-open x)
   effect (admits e l u) =
       let f = unused-found p (r .shape) u in
@@ -290,10 +345,10 @@ module _ (p : Pool) (c : ℕ) (here : c < clientCount p) (r : Reached p) where
       (λ j q y w. q (r .outline .pages-apart j (entryOf p (me .page)) y (λ x. z (sym n ∙ x)) (w ∙ sym (f .entry-page)))))
   effect (evicts20 e) = evicts-own 21 (kn 20 e .0 .0)
   effect (evicts23 e) = evicts-own 4 (kn 23 e .0)
-  effect (begins g e h) = quietly keep (kept refl tt) (found-stays refl) refl refl
+  effect (begins g e h) = quietly tt keep (kept refl tt) (found-stays refl) refl refl
   effect (releases g e z) =
       let i : ℕ = grantOf p c g in
       let h = grantOf-found p c g z .0 in
       let n = r .outline .grant-named c i h in
-      pinning _ _ refl (r .ranges .grant-ok c i n) n (lowers i refl (grant-live p r c i n) refl) (kept refl (rw e tt)) refl (ends i refl refl h)
+      pinning tt _ _ refl (r .ranges .grant-ok c i n) (lowers (grant-live p r c i n) refl) (kept refl (rw e tt)) refl (ends i refl refl h)
       (λ _ _ x. ends-no-open x)

@@ -1,4 +1,5 @@
--- What a reached pool says of one frame: how its pins and the claims on it go together. Assumes nothing.
+-- What a reached pool says of one frame. An own frame has one pin, its owner's, as nobody else may name it; a frame that somebody claims is pinned, as
+-- pins are claims; and there is room for one pin more, as no client claims a frame more than 8 times and there are at most 16. Assumes nothing.
 use mathlib.Core.Path.{_≡_, refl, sym, ap, _∙_}
 use mathlib.Core.Logic.{_≢_, _⊎_, inl, inr}
 use mathlib.Core.Bool.{not, _&&_}
@@ -13,7 +14,8 @@ use Rattle.pool.specs.Stages.{raised}
 use Rattle.pool.specs.declared.Pool.{Pool}
 use Rattle.pool.specs.declared.Client.{Client}
 use Rattle.laws.specs.Choices.{by-test}
-use Rattle.invariant.proofs.Reached.{one, mapped, Seated, grantsOn, claims, claimed, pinsFound, unplaced, hunting, Orphan, Balance, gone, held, orphan, Reached}
+use Rattle.invariant.proofs.Reached.{one, mapped, Seated, grantsOn, claims, claimed, pinsFound, unplaced, hunting, Orphan, Balance, gone, held, orphan}
+use Rattle.invariant.proofs.Reached.{Reached}
 use Rattle.invariant.proofs.Flags.{T-true, T-false, and-false, hunt-cases}
 use Rattle.invariant.proofs.After.{client-here}
 use Rattle.invariant.proofs.Sums.{one-is, one-not, one-least, sum-zero, sum-one, sum-has, sum-gap, sum-least}
@@ -49,7 +51,7 @@ orphan-claims p f o =
     sum-zero (λ c. claims p c f) (clientCount p) (λ c _. foreign-claims p c f (o .unfound c) (o .ungranted c) ∙ one-not _ _ (o .unowned c))
 
 -- what a grant claims
-pub grant-claims : (p : Pool) (c i : ℕ) → grantFrame p c i ≢ none → 1 ≤ grantsOn p c (grantFrame p c i)
+grant-claims : (p : Pool) (c i : ℕ) → grantFrame p c i ≢ none → 1 ≤ grantsOn p c (grantFrame p c i)
 unfolding grantsOn
 grant-claims p c i z =
     let f : ℕ = grantFrame p c i in
@@ -58,7 +60,7 @@ grant-claims p c i z =
 module _ (p : Pool) (r : Reached p) where
   -- an own frame is pinned once, by its owner
   module _ (c : ℕ) (z : client p c .own ≢ none) where
-    pub own-here : c < clientCount p
+    own-here : c < clientCount p
     own-here = client-here p (λ k. k .own ≢ none) c z (λ w. w refl)
 
     own-claimed : claimed p (client p c .own) ≡ 1
@@ -86,7 +88,7 @@ module _ (p : Pool) (r : Reached p) where
     own-live e = let y : ⊥ = omega (arith, own-pins) in y
 
   -- a claimed frame is pinned
-  pub claimed-live : (c f : ℕ) → f ≢ none → 1 ≤ claims p c f → pinned 1 ≤ pins p f
+  claimed-live : (c f : ℕ) → f ≢ none → 1 ≤ claims p c f → pinned 1 ≤ pins p f
   unfolding claimed
   claimed-live c f z h = go (r .counts .balance f z)
     where
@@ -162,13 +164,13 @@ module _ (p : Pool) (r : Reached p) where
 
   -- an entry that stage 17 does not find is gone
   pub entry-gone : (v : ℕ) → v ≢ none → lookup p (page p v) ≢ v → mapped p v ≡ 0
-  entry-gone v z n = go (ℕ-discrete (mapped p v) 0)
-    where
-      go : Dec (mapped p v ≡ 0) → mapped p v ≡ 0
-      go (yes e) = e
-      go (no w) =
-          let s = some-suc (mapped p v) w in
-          absurd (n (ap (lookup p) (r .outline .page-true v (s .0) z (s .1)) ∙ mapped-lookup p (r .shape) (r .outline .pages-apart) v (s .0) z (s .1) .1))
+  entry-gone v z n =
+      elim (ℕ-discrete (mapped p v) 0) [
+        | yes e ↦ e
+        | no w ↦
+            let s = some-suc (mapped p v) w in
+            absurd (n (ap (lookup p) (r .outline .page-true v (s .0) z (s .1)) ∙ mapped-lookup p (r .shape) (r .outline .pages-apart) v (s .0) z (s .1) .1))
+      ]
 
   -- an own frame that has no slot yet is nobody's victim while that hunts
   pub own-not-victim : (c d : ℕ) → T (unplaced (client p c .stage)) → client p c .own ≢ none → T (hunting (client p d .stage))

@@ -24,7 +24,7 @@ pub T-not : (a : Bool) → T (not a) → T a → ⊥
 T-not true h t = h
 T-not false h t = t
 
-and-parts : (a b : Bool) → T (a && b) → T a × T b
+pub and-parts : (a b : Bool) → T (a && b) → T a × T b
 and-parts true b h = (tt, h)
 and-parts false b h = absurd h
 
@@ -54,11 +54,11 @@ pub imp-mp : (a b : Bool) → T (imp a b) → T a → T b
 imp-mp true b h t = h
 imp-mp false b h t = absurd t
 
-abbrev alike : Bool → Bool → Bool
+abbrev pub alike : Bool → Bool → Bool
 alike true b = b
 alike false b = not b
 
-alike-same : (a b : Bool) → T (alike a b) → a ≡ b
+pub alike-same : (a b : Bool) → T (alike a b) → a ≡ b
 alike-same true true h = refl
 alike-same true false h = absurd h
 alike-same false true h = absurd h
@@ -66,19 +66,25 @@ alike-same false false h = refl
 
 -- ---- from stage i to stage j
 
--- A client may go from the one to the other with its own frame, its found frame and its claims as they are.
+abbrev pinsOrDrops : ℕ → ℕ → Bool
+pinsOrDrops i j = ((eqb i 2 && eqb j 3) || (eqb i 19 && eqb j 20)) || (eqb i 14 && eqb j 15)
+
+-- A client may go from the one to the other with its own frame, its found frame and its claims as they are. The step is none of those at which a
+-- found frame is pinned, 2 to 3 and 19 to 20, and not the one at which a victim is evicted, 14 to 15.
 pub record Onward (i j : ℕ) : Type 0 where
   pub from-unplaced : T (imp (unplaced j) (unplaced i))
   pub from-ownless : T (imp (ownless j) (ownless i))
   pub from-foundless : T (imp (foundless j) (foundless i))
   pub pins-alike : pinsFound j ≡ pinsFound i
+  pub plain-step : T (not (pinsOrDrops i j))
+  pub starts : 1 ≤ j
   pub stage-ok : j ≤ 23
   pub working : i ≢ 0
 
 abbrev pub onward : ℕ → ℕ → Bool
 onward i j =
     imp (unplaced j) (unplaced i) && (imp (ownless j) (ownless i) && (imp (foundless j) (foundless i)
-    && (alike (pinsFound j) (pinsFound i) && (leb j 23 && not (eqb i 0)))))
+    && (alike (pinsFound j) (pinsFound i) && (not (pinsOrDrops i j) && (leb 1 j && (leb j 23 && not (eqb i 0)))))))
 
 pub onward-means : (i j : ℕ) → T (onward i j) → Onward i j
 onward-means i j t =
@@ -86,12 +92,16 @@ onward-means i j t =
     let b = and-parts (imp (ownless j) (ownless i)) _ (a .1) in
     let d = and-parts (imp (foundless j) (foundless i)) _ (b .1) in
     let f = and-parts (alike (pinsFound j) (pinsFound i)) _ (d .1) in
-    let g = and-parts (leb j 23) (not (eqb i 0)) (f .1) in
+    let s = and-parts (not (pinsOrDrops i j)) _ (f .1) in
+    let l = and-parts (leb 1 j) _ (s .1) in
+    let g = and-parts (leb j 23) (not (eqb i 0)) (l .1) in
     record {
       from-unplaced = a .0;
       from-ownless = b .0;
       from-foundless = d .0;
       pins-alike = alike-same (pinsFound j) (pinsFound i) (f .0);
+      plain-step = s .0;
+      starts = at-most 1 j (l .0);
       stage-ok = at-most j 23 (g .0);
       working = differ i 0 (g .1);
     }
@@ -123,7 +133,6 @@ leaves-none i t = let a = or-parts (leaving i) (eqb i 15) t in (T-not (leaving i
 -- a stage of the sweep at which a busy visit may end it
 pub record Visits (i : ℕ) : Type 0 where
   pub is-unplaced : T (unplaced i)
-  pub is-foundless : T (foundless i)
   pub no-pin : pinsFound i ≡ false
   pub no-fill : filling i ≡ false
   pub no-leave : T (leavesNone i)

@@ -1,4 +1,6 @@
--- How the clients' grants read after a move, and how many there are on a frame. Assumes nothing.
+-- The clients' grants after a move, and how many there are on a frame or of a page. Pages and frames stand in two lists of one shape, and a move
+-- stores the same place in both, so what is opened or ended is worked out once, for a list. A grant that ends is replaced by the client's last one:
+-- the order changes, and the number on each frame and of each page falls by one where the ended one stood. Assumes nothing.
 use mathlib.Core.Path.{_≡_, refl, sym, ap, _∙_}
 use mathlib.Core.Logic.{_≢_}
 use mathlib.Core.List.{List}
@@ -10,7 +12,7 @@ use lib.Dec.{eqb, ltb}
 use lib.ListN.{length, getD}
 use borrow.Author.Tests.{lt-ltb, le-ltb, ne-eqb}
 use Rattle.pool.specs.Choose.{choose}
-use Rattle.pool.specs.State.{none, clientCount, client, grantPlace, ofClient, grantPage, grantFrame}
+use Rattle.pool.specs.State.{none, clientCount, within, client, grantPlace, ofClient, grantPage, grantFrame}
 use Rattle.pool.specs.Apply.{stored, grantPagesAfter, grantFramesAfter, apply}
 use Rattle.pool.specs.declared.Pool.{Pool}
 use Rattle.pool.specs.declared.Client.{Client}
@@ -20,7 +22,10 @@ use Rattle.laws.specs.Choices.{chosen, passed}
 use Rattle.invariant.proofs.Reached.{Shape, one, sumTo, grantsOn}
 use Rattle.invariant.proofs.After.{within-in, raw-here, raw-else, client-same, client-other}
 use Rattle.invariant.proofs.Sums.{sum-same, sum-put, sum-zero}
-use Rattle.invariant.proofs.Searches.{grantFrame-past}
+
+-- client c's open grants of page g, as `grantsOn` counts those on a frame
+unfoldable pub grantsOf : Pool → ℕ → ℕ → ℕ
+grantsOf p c g = sumTo (λ i. one (eqb (grantPage p c i) g)) (client p c .held)
 
 -- what a move does to the acting client's grants
 pub data Granting (p : Pool) (c : ℕ) (m : Move) : Type 0 where
@@ -28,7 +33,8 @@ pub data Granting (p : Pool) (c : ℕ) (m : Move) : Type 0 where
   opens : (g f : ℕ) → m .grants ≡ Open (client p c .held) g f → m .next .held ≡ client p c .held + 1 → client p c .held < 8 → Granting p c m
   ends : (i : ℕ) → m .grants ≡ End i (client p c .held - 1) → m .next .held ≡ client p c .held - 1 → i < client p c .held → Granting p c m
 
--- one of a client's places in a list
+-- ---- one list, l before a move and m after it: N places in all, client c's first n of them hold its grants' numbers, and d stands past them
+
 of-in : (l : List ℕ) (c n d i : ℕ) → i < n → ofClient l c n d i ≡ getD l (grantPlace c i) 0
 unfolding ofClient
 of-in l c n d i h = chosen _ _ _ (lt-ltb i n h)
@@ -41,206 +47,229 @@ of-else l m c n d i e = go (decLt i n)
     go (yes h) = ap (λ (x : ℕ). choose (ltb i n) x d) (e h)
     go (no h) = let o = le-ltb i n (omega arith) in passed _ _ _ o ∙ sym (passed _ _ _ o)
 
--- `change` at place a of client c's: what is stored is v
-module _ (c N : ℕ) (l m : List ℕ) (a v : ℕ) (e : m ≡ stored l N (grantPlace c a) v) (few : a < 8) where
-  elsewhere : (d i : ℕ) → i < 8 → (d ≡ c → i ≢ a) → getD m (grantPlace d i) 0 ≡ getD l (grantPlace d i) 0
-  elsewhere d i h q = raw-else l m N (grantPlace c a) v e (grantPlace d i) (λ w. let s : d ≡ c = omega arith in q s (omega arith))
+-- how many of the client's numbers are x
+abbrev many : List ℕ → ℕ → ℕ → ℕ → ℕ → ℕ
+many l c n d x = sumTo (λ i. one (eqb (ofClient l c n d i) x)) n
 
-  there : c * 8 + 8 ≤ N → N ≤ length l → getD m (grantPlace c a) 0 ≡ v
-  there r s = raw-here l m N (grantPlace c a) v e (omega arith) s
+module _ (N c : ℕ) (l m : List ℕ) where
+  -- at most one place is written, and it is one of client c's
+  data Put : Type 0 where
+    unput : m ≡ l → Put
+    put : (a v : ℕ) → a < 8 → m ≡ stored l N (grantPlace c a) v → Put
 
-module _ (p : Pool) (c : ℕ) (m : Move) (shape : Shape p) (here : c < clientCount p) (few : (d : ℕ) → client p d .held ≤ 8) (how : Granting p c m) where
+  -- so another place, of client c or another, reads as it did
+  elsewhere : (a v : ℕ) → a < 8 → m ≡ stored l N (grantPlace c a) v → (d i : ℕ) → i < 8 → (d ≡ c → i ≢ a)
+      → getD m (grantPlace d i) 0 ≡ getD l (grantPlace d i) 0
+  elsewhere a v few e d i h q = raw-else l m N (grantPlace c a) v e (grantPlace d i) (λ w. let s : d ≡ c = omega arith in q s (omega arith))
+
+  others : Put → (d : ℕ) → d ≢ c → (n z i : ℕ) → n ≤ 8 → ofClient m d n z i ≡ ofClient l d n z i
+  others (unput e) d o n z i r = rw e refl
+  others (put a v few e) d o n z i r = of-else l m d n z i (λ h. elsewhere a v few e d i (omega arith) (λ w. absurd (o w)))
+
+  module _ (d n : ℕ) (mine : c * 8 + 8 ≤ N) (long : N ≤ length l) where
+    -- one more: v
+    module _ (v : ℕ) (e : m ≡ stored l N (grantPlace c n) v) (room : n < 8) where
+      open-old : (j : ℕ) → j < n → ofClient m c (n + 1) d j ≡ ofClient l c n d j
+      open-old j h =
+          of-in m c (n + 1) d j (omega arith) ∙ elsewhere n v room e c j (omega arith) (λ _ w. let z : ⊥ = omega arith in z) ∙ sym (of-in l c n d j h)
+
+      open-new : ofClient m c (n + 1) d n ≡ v
+      open-new = of-in m c (n + 1) d n (omega arith) ∙ raw-here l m N (grantPlace c n) v e (omega arith) long
+
+      many-open : (x : ℕ) → many m c (n + 1) d x ≡ many l c n d x + one (eqb v x)
+      unfolding sumTo
+      many-open x =
+          let g : (ℕ → ℕ) = λ i. one (eqb (ofClient m c (n + 1) d i) x) in
+          let old = sum-same (λ i. one (eqb (ofClient l c n d i) x)) g n (λ i h. ap (λ (y : ℕ). one (eqb y x)) (open-old i h)) in
+          ap (sumTo g) (add-one n) ∙ omega (arith, old, ap (λ (y : ℕ). one (eqb y x)) open-new)
+
+    -- the one at a ends, and the last one moves there
+    module _ (a : ℕ) (e : m ≡ stored l N (grantPlace c a) (within l N 0 (grantPlace c (n - 1)))) (low : a < n) (few : n ≤ 8) where
+      end-old : (j : ℕ) → j < n - 1 → j ≢ a → ofClient m c (n - 1) d j ≡ ofClient l c n d j
+      end-old j h o = of-in m c (n - 1) d j h ∙ elsewhere a _ (omega arith) e c j (omega arith) (λ _. o) ∙ sym (of-in l c n d j (omega arith))
+
+      end-moved : a < n - 1 → ofClient m c (n - 1) d a ≡ ofClient l c n d (n - 1)
+      end-moved h =
+          of-in m c (n - 1) d a h ∙ raw-here l m N (grantPlace c a) _ e (omega arith) long ∙ within-in l N 0 (grantPlace c (n - 1)) (omega arith)
+          ∙ sym (of-in l c n d (n - 1) (omega arith))
+
+      many-end : (x : ℕ) → many m c (n - 1) d x + one (eqb (ofClient l c n d a) x) ≡ many l c n d x
+      unfolding sumTo
+      many-end x = go (ℕ-discrete a (n - 1))
+        where
+          g : ℕ → ℕ
+          g j = one (eqb (ofClient l c n d j) x)
+
+          h : ℕ → ℕ
+          h j = one (eqb (ofClient m c (n - 1) d j) x)
+
+          other : (j : ℕ) → j < n - 1 → j ≢ a → h j ≡ g j
+          other j r w = ap (λ (y : ℕ). one (eqb y x)) (end-old j r w)
+
+          whole : sumTo g n ≡ sumTo g (n - 1) + g (n - 1)
+          whole = let s : n ≡ suc (n - 1) = omega arith in ap (sumTo g) s
+
+          go : Dec (a ≡ n - 1) → sumTo h (n - 1) + g a ≡ sumTo g n
+          go (yes w) = omega (arith, whole, ap g w, sum-same g h (n - 1) (λ j r. other j r (λ v. let z : ⊥ = omega arith in z)))
+          go (no w) =
+              let moved : h a ≡ g (n - 1) = ap (λ (y : ℕ). one (eqb y x)) (end-moved (omega arith)) in
+              omega (arith, whole, moved, sum-put g h (n - 1) a (omega arith) other)
+
+-- ---- the two lists of a pool
+
+module _ (p : Pool) (c : ℕ) (m : Move) (shape : Shape p) (here : c < clientCount p) (few : (d : ℕ) → client p d .held ≤ 8) where
   abbrev q : Pool
   q = apply p c m
+
+  -- how many grants the client has, how many places there are for grants, and that the client's are among them
+  abbrev n : ℕ
+  n = client p c .held
+
+  abbrev N : ℕ
+  N = 8 * clientCount p
+
+  mine : c * 8 + 8 ≤ N
+  mine = omega arith
+
+  pages-long : N ≤ length (p .«grant_pages»)
+  pages-long = let a = shape .grant-pages in let b = shape .clients-high in omega arith
+
+  frames-long : N ≤ length (p .«grant_frames»)
+  frames-long = let a = shape .grant-frames in let b = shape .clients-high in omega arith
 
   held-next : client q c .held ≡ m .next .held
   held-next = ap (λ (k : Client). k .held) (client-same p c m shape here)
 
-  -- the others' grants stay
-  module _ (d : ℕ) (other : d ≢ c) where
-    held-other : client q d .held ≡ client p d .held
-    held-other = ap (λ (k : Client). k .held) (client-other p c m shape d other)
+  -- ---- the acting client's: none changes
 
-    pages-raw : (i : ℕ) → i < 8 → getD (q .«grant_pages») (grantPlace d i) 0 ≡ getD (p .«grant_pages») (grantPlace d i) 0
+  module _ (e : m .grants ≡ Same) (s : m .next .held ≡ n) where
+    keep-page : (j : ℕ) → grantPage q c j ≡ grantPage p c j
+    unfolding apply grantPagesAfter grantPage
+    keep-page j = rw (held-next, s, e) refl
+
+    keep-frame : (j : ℕ) → grantFrame q c j ≡ grantFrame p c j
+    unfolding apply grantFramesAfter grantFrame
+    keep-frame j = rw (held-next, s, e) refl
+
+    pub grantsOn-keeps : (f : ℕ) → grantsOn q c f ≡ grantsOn p c f
+    unfolding grantsOn
+    grantsOn-keeps f = rw (held-next ∙ s) (sum-same _ _ n (λ i _. ap (λ (x : ℕ). one (eqb x f)) (keep-frame i)))
+
+    pub grantsOf-keeps : (g : ℕ) → grantsOf q c g ≡ grantsOf p c g
+    unfolding grantsOf
+    grantsOf-keeps g = rw (held-next ∙ s) (sum-same _ _ n (λ i _. ap (λ (x : ℕ). one (eqb x g)) (keep-page i)))
+
+  -- ---- one is opened
+
+  module _ (g f : ℕ) (e : m .grants ≡ Open n g f) (s : m .next .held ≡ n + 1) (room : n < 8) where
+    page-opened : q .«grant_pages» ≡ stored (p .«grant_pages») N (grantPlace c n) g
     unfolding apply grantPagesAfter
-    pages-raw i h = go how
-      where
-        go : Granting p c m → getD (q .«grant_pages») (grantPlace d i) 0 ≡ getD (p .«grant_pages») (grantPlace d i) 0
-        go (keeps e _) = rw e refl
-        go (opens g f e _ r) = rw e (elsewhere c (8 * clientCount p) _ _ (client p c .held) g refl r d i h (λ w. absurd (other w)))
-        go (ends a e _ r) = rw e (elsewhere c (8 * clientCount p) _ _ a _ refl (omega (arith, few c)) d i h (λ w. absurd (other w)))
+    page-opened = rw e refl
 
-    frames-raw : (i : ℕ) → i < 8 → getD (q .«grant_frames») (grantPlace d i) 0 ≡ getD (p .«grant_frames») (grantPlace d i) 0
+    frame-opened : q .«grant_frames» ≡ stored (p .«grant_frames») N (grantPlace c n) f
     unfolding apply grantFramesAfter
-    frames-raw i h = go how
-      where
-        go : Granting p c m → getD (q .«grant_frames») (grantPlace d i) 0 ≡ getD (p .«grant_frames») (grantPlace d i) 0
-        go (keeps e _) = rw e refl
-        go (opens g f e _ r) = rw e (elsewhere c (8 * clientCount p) _ _ (client p c .held) f refl r d i h (λ w. absurd (other w)))
-        go (ends a e _ r) = rw e (elsewhere c (8 * clientCount p) _ _ a _ refl (omega (arith, few c)) d i h (λ w. absurd (other w)))
+    frame-opened = rw e refl
+
+    pub grantsOn-opens : (x : ℕ) → grantsOn q c x ≡ grantsOn p c x + one (eqb f x)
+    unfolding grantsOn grantFrame
+    grantsOn-opens x = rw (held-next ∙ s) (many-open N c _ _ none n mine frames-long f frame-opened room x)
+
+    pub grantsOf-opens : (x : ℕ) → grantsOf q c x ≡ grantsOf p c x + one (eqb g x)
+    unfolding grantsOf grantPage
+    grantsOf-opens x = rw (held-next ∙ s) (many-open N c _ _ 0 n mine pages-long g page-opened room x)
+
+  -- ---- the one at a ends
+
+  module _ (a : ℕ) (e : m .grants ≡ End a (n - 1)) (s : m .next .held ≡ n - 1) (low : a < n) where
+    page-ended : q .«grant_pages» ≡ stored (p .«grant_pages») N (grantPlace c a) (within (p .«grant_pages») N 0 (grantPlace c (n - 1)))
+    unfolding apply grantPagesAfter
+    page-ended = rw e refl
+
+    frame-ended : q .«grant_frames» ≡ stored (p .«grant_frames») N (grantPlace c a) (within (p .«grant_frames») N 0 (grantPlace c (n - 1)))
+    unfolding apply grantFramesAfter
+    frame-ended = rw e refl
+
+    pub grantsOn-ends : (x : ℕ) → grantsOn q c x + one (eqb (grantFrame p c a) x) ≡ grantsOn p c x
+    unfolding grantsOn grantFrame
+    grantsOn-ends x = rw (held-next ∙ s) (many-end N c _ _ none n mine frames-long a frame-ended low (few c) x)
+
+    pub grantsOf-ends : (x : ℕ) → grantsOf q c x + one (eqb (grantPage p c a) x) ≡ grantsOf p c x
+    unfolding grantsOf grantPage
+    grantsOf-ends x = rw (held-next ∙ s) (many-end N c _ _ 0 n mine pages-long a page-ended low (few c) x)
+
+  -- ---- the others' grants stay
+
+  module _ (how : Granting p c m) (d : ℕ) (other : d ≢ c) where
+    held-other : client q d .held ≡ client p d .held
+    held-other = ap (λ (k : Client). k .held) (client-other p c m d other)
+
+    pages-put : Granting p c m → Put N c (p .«grant_pages») (q .«grant_pages»)
+    unfolding apply grantPagesAfter
+    pages-put (keeps e _) = unput (rw e refl)
+    pages-put (opens g f e s r) = put n g r (page-opened g f e s r)
+    pages-put (ends a e s r) = put a _ (omega (arith, few c)) (page-ended a e s r)
+
+    frames-put : Granting p c m → Put N c (p .«grant_frames») (q .«grant_frames»)
+    unfolding apply grantFramesAfter
+    frames-put (keeps e _) = unput (rw e refl)
+    frames-put (opens g f e s r) = put n f r (frame-opened g f e s r)
+    frames-put (ends a e s r) = put a _ (omega (arith, few c)) (frame-ended a e s r)
 
     pub grantPage-other : (i : ℕ) → grantPage q d i ≡ grantPage p d i
     unfolding grantPage
-    grantPage-other i = rw held-other (of-else _ _ d (client p d .held) 0 i (λ h. pages-raw i (omega (arith, few d))))
+    grantPage-other i = rw held-other (others N c _ _ (pages-put how) d other (client p d .held) 0 i (few d))
 
     pub grantFrame-other : (i : ℕ) → grantFrame q d i ≡ grantFrame p d i
     unfolding grantFrame
-    grantFrame-other i = rw held-other (of-else _ _ d (client p d .held) none i (λ h. frames-raw i (omega (arith, few d))))
+    grantFrame-other i = rw held-other (others N c _ _ (frames-put how) d other (client p d .held) none i (few d))
 
     pub grantsOn-other : (f : ℕ) → grantsOn q d f ≡ grantsOn p d f
     unfolding grantsOn
     grantsOn-other f = rw held-other (sum-same _ _ (client p d .held) (λ i _. ap (λ (x : ℕ). one (eqb x f)) (grantFrame-other i)))
 
-  -- where the acting client's grant at a place comes from
+    pub grantsOf-other : (g : ℕ) → grantsOf q d g ≡ grantsOf p d g
+    unfolding grantsOf
+    grantsOf-other g = rw held-other (sum-same _ _ (client p d .held) (λ i _. ap (λ (x : ℕ). one (eqb x g)) (grantPage-other i)))
+
+  -- ---- where the acting client's grant at a place comes from
+
   pub data Comes (j : ℕ) : Type 0 where
-    old : (i : ℕ) → i < client p c .held → grantPage q c j ≡ grantPage p c i → grantFrame q c j ≡ grantFrame p c i → Comes j
-    new : (g f : ℕ) → m .grants ≡ Open (client p c .held) g f → grantPage q c j ≡ g → grantFrame q c j ≡ f → Comes j
-    past : m .next .held ≤ j → grantFrame q c j ≡ none → Comes j
+    old : (i : ℕ) → i < n → grantPage q c j ≡ grantPage p c i → grantFrame q c j ≡ grantFrame p c i → Comes j
+    new : (g f : ℕ) → m .grants ≡ Open n g f → grantPage q c j ≡ g → grantFrame q c j ≡ f → Comes j
+    past : m .next .held ≤ j → Comes j
 
-  -- the acting client's grant at j reads as the one at i did
-  abbrev Reads : ℕ → ℕ → Type 0
-  Reads j i = (grantPage q c j ≡ grantPage p c i) × (grantFrame q c j ≡ grantFrame p c i)
-
-  frame-in : (j : ℕ) → j < m .next .held → grantFrame q c j ≡ getD (q .«grant_frames») (grantPlace c j) 0
-  unfolding grantFrame
-  frame-in j h = of-in _ c _ none j (omega (arith, held-next))
-
-  page-in : (j : ℕ) → j < m .next .held → grantPage q c j ≡ getD (q .«grant_pages») (grantPlace c j) 0
-  unfolding grantPage
-  page-in j h = of-in _ c _ 0 j (omega (arith, held-next))
-
-  reads : (j i : ℕ) → j < m .next .held → i < client p c .held → getD (q .«grant_pages») (grantPlace c j) 0 ≡ getD (p .«grant_pages») (grantPlace c i) 0
-      → getD (q .«grant_frames») (grantPlace c j) 0 ≡ getD (p .«grant_frames») (grantPlace c i) 0 → Reads j i
+  pub comes : Granting p c m → (j : ℕ) → Comes j
   unfolding grantPage grantFrame
-  reads j i h r a b = (page-in j h ∙ a ∙ sym (of-in _ c _ 0 i r), frame-in j h ∙ b ∙ sym (of-in _ c _ none i r))
-
-  -- how many places there are for grants, and that the client's are among them
-  abbrev places : ℕ
-  places = 8 * clientCount p
-
-  mine : c * 8 + 8 ≤ places
-  mine = omega arith
-
-  pages-long : places ≤ length (p .«grant_pages»)
-  pages-long = let a = shape .grant-pages in let b = shape .clients-high in omega arith
-
-  frames-long : places ≤ length (p .«grant_frames»)
-  frames-long = let a = shape .grant-frames in let b = shape .clients-high in omega arith
-
-  keep-old : m .grants ≡ Same → m .next .held ≡ client p c .held → (j : ℕ) → j < client p c .held → Reads j j
-  unfolding apply grantPagesAfter grantFramesAfter
-  keep-old e s j h = reads j j (omega arith) h (rw e refl) (rw e refl)
-
-  -- one more grant
-  module _ (g f : ℕ) (e : m .grants ≡ Open (client p c .held) g f) (s : m .next .held ≡ client p c .held + 1) (r : client p c .held < 8) where
-    abbrev end : ℕ
-    end = client p c .held
-
-    open-old : (j : ℕ) → j < end → Reads j j
-    unfolding apply grantPagesAfter grantFramesAfter
-    open-old j h =
-        let o : (c ≡ c → j ≢ end) = λ _ w. let z : ⊥ = omega arith in z in
-        reads j j (omega arith) h
-        (rw e (elsewhere c places _ _ end g refl r c j (omega arith) o)) (rw e (elsewhere c places _ _ end f refl r c j (omega arith) o))
-
-    open-page : grantPage q c end ≡ g
-    unfolding apply grantPagesAfter
-    open-page = page-in end (omega arith) ∙ rw e (there c places _ _ end g refl r mine pages-long)
-
-    open-frame : grantFrame q c end ≡ f
-    unfolding apply grantFramesAfter
-    open-frame = frame-in end (omega arith) ∙ rw e (there c places _ _ end f refl r mine frames-long)
-
-  -- the grant at a ends, and the last one moves there
-  module _ (a : ℕ) (e : m .grants ≡ End a (client p c .held - 1)) (s : m .next .held ≡ client p c .held - 1) (r : a < client p c .held) where
-    abbrev last : ℕ
-    last = client p c .held - 1
-
-    small : a < 8
-    small = omega (arith, few c)
-
-    end-old : (j : ℕ) → j < last → j ≢ a → Reads j j
-    unfolding apply grantPagesAfter grantFramesAfter
-    end-old j h o =
-        let l : j < 8 = omega (arith, few c) in
-        reads j j (omega arith) (omega arith)
-        (rw e (elsewhere c places _ _ a _ refl small c j l (λ _. o))) (rw e (elsewhere c places _ _ a _ refl small c j l (λ _. o)))
-
-    end-moved : a < last → Reads a last
-    unfolding apply grantPagesAfter grantFramesAfter
-    end-moved h =
-        let l : grantPlace c last < places = omega (arith, few c, mine) in
-        reads a last (omega arith) (omega arith)
-        (rw e (there c places _ _ a _ refl small mine pages-long ∙ within-in _ places 0 (grantPlace c last) l))
-        (rw e (there c places _ _ a _ refl small mine frames-long ∙ within-in _ places 0 (grantPlace c last) l))
-
-  pub comes : (j : ℕ) → Comes j
-  comes j = by (decLt j (m .next .held))
+  comes how j = by (decLt j (m .next .held))
     where
-      from : (i : ℕ) → i < client p c .held → Reads j i → Comes j
-      from i h w = old i h (w .0) (w .1)
+      opened : (g f : ℕ) (e : m .grants ≡ Open n g f) (s : m .next .held ≡ n + 1) (r : n < 8) → j < m .next .held → Dec (j ≡ n) → Comes j
+      opened g f e s r h (yes w) =
+          rw w (new g f e
+          (rw (held-next ∙ s) (open-new N c _ _ 0 n mine pages-long g (page-opened g f e s r) r))
+          (rw (held-next ∙ s) (open-new N c _ _ none n mine frames-long f (frame-opened g f e s r) r)))
+      opened g f e s r h (no w) =
+          old j (omega arith)
+          (rw (held-next ∙ s) (open-old N c _ _ 0 n mine pages-long g (page-opened g f e s r) r j (omega arith)))
+          (rw (held-next ∙ s) (open-old N c _ _ none n mine frames-long f (frame-opened g f e s r) r j (omega arith)))
 
-      opening : (g f : ℕ) (e : m .grants ≡ Open (client p c .held) g f) (s : m .next .held ≡ client p c .held + 1) (r : client p c .held < 8)
-          → j < m .next .held → Dec (j ≡ client p c .held) → Comes j
-      opening g f e s r h (yes w) = rw w (new g f e (open-page g f e s r) (open-frame g f e s r))
-      opening g f e s r h (no w) = from j (omega arith) (open-old g f e s r j (omega arith))
-
-      ending : (a : ℕ) (e : m .grants ≡ End a (client p c .held - 1)) (s : m .next .held ≡ client p c .held - 1) (r : a < client p c .held)
-          → j < m .next .held → Dec (j ≡ a) → Comes j
-      ending a e s r h (no w) = from j (omega arith) (end-old a e s r j (omega arith) w)
-      ending a e s r h (yes w) = let t = end-moved a e s r (omega arith) in from (client p c .held - 1) (omega arith) (rw w t)
+      ended : (a : ℕ) (e : m .grants ≡ End a (n - 1)) (s : m .next .held ≡ n - 1) (r : a < n) → j < m .next .held → Dec (j ≡ a) → Comes j
+      ended a e s r h (yes w) =
+          rw w (old (n - 1) (omega arith)
+          (rw (held-next ∙ s) (end-moved N c _ _ 0 n mine pages-long a (page-ended a e s r) r (few c) (omega arith)))
+          (rw (held-next ∙ s) (end-moved N c _ _ none n mine frames-long a (frame-ended a e s r) r (few c) (omega arith))))
+      ended a e s r h (no w) =
+          old j (omega arith)
+          (rw (held-next ∙ s) (end-old N c _ _ 0 n mine pages-long a (page-ended a e s r) r (few c) j (omega arith) w))
+          (rw (held-next ∙ s) (end-old N c _ _ none n mine frames-long a (frame-ended a e s r) r (few c) j (omega arith) w))
 
       how-to : j < m .next .held → Granting p c m → Comes j
-      how-to h (keeps e s) = from j (omega arith) (keep-old e s j (omega arith))
-      how-to h (opens g f e s r) = opening g f e s r h (ℕ-discrete j (client p c .held))
-      how-to h (ends a e s r) = ending a e s r h (ℕ-discrete j a)
+      how-to h (keeps e s) = old j (omega arith) (keep-page e s j) (keep-frame e s j)
+      how-to h (opens g f e s r) = opened g f e s r h (ℕ-discrete j n)
+      how-to h (ends a e s r) = ended a e s r h (ℕ-discrete j a)
 
       by : Dec (j < m .next .held) → Comes j
       by (yes h) = how-to h how
-      by (no h) = past (omega arith) (grantFrame-past (apply p c m) c j (omega (arith, held-next)))
-
-  -- ---- how many grants on a frame the acting client has now
-
-  same-one : (f j i : ℕ) → Reads j i → one (eqb (grantFrame q c j) f) ≡ one (eqb (grantFrame p c i) f)
-  same-one f j i w = ap (λ (y : ℕ). one (eqb y f)) (w .1)
-
-  pub grantsOn-keeps : m .grants ≡ Same → m .next .held ≡ client p c .held → (f : ℕ) → grantsOn q c f ≡ grantsOn p c f
-  unfolding grantsOn
-  grantsOn-keeps e s f = rw (held-next ∙ s) (sum-same _ _ (client p c .held) (λ i h. same-one f i i (keep-old e s i h)))
-
-  pub grantsOn-opens : (g x : ℕ) → m .grants ≡ Open (client p c .held) g x → m .next .held ≡ client p c .held + 1 → client p c .held < 8
-      → (f : ℕ) → grantsOn q c f ≡ grantsOn p c f + one (eqb x f)
-  unfolding grantsOn sumTo
-  grantsOn-opens g x e s r f =
-      let n : ℕ = client p c .held in
-      let rest = sum-same (λ i. one (eqb (grantFrame p c i) f)) (λ i. one (eqb (grantFrame q c i) f)) n (λ i h. same-one f i i (open-old g x e s r i h)) in
-      rw (held-next ∙ s ∙ add-one n) (omega (arith, rest, ap (λ (y : ℕ). one (eqb y f)) (open-frame g x e s r)))
-
-  pub grantsOn-ends : (a : ℕ) → m .grants ≡ End a (client p c .held - 1) → m .next .held ≡ client p c .held - 1 → a < client p c .held
-      → (f : ℕ) → grantsOn q c f + one (eqb (grantFrame p c a) f) ≡ grantsOn p c f
-  unfolding grantsOn sumTo
-  grantsOn-ends a e s r f = rw (held-next ∙ s) (go (ℕ-discrete a n))
-    where
-      n : ℕ
-      n = client p c .held - 1
-
-      g : ℕ → ℕ
-      g j = one (eqb (grantFrame p c j) f)
-
-      h : ℕ → ℕ
-      h j = one (eqb (grantFrame q c j) f)
-
-      other : (j : ℕ) → j < n → j ≢ a → h j ≡ g j
-      other j l w = same-one f j j (end-old a e s r j l w)
-
-      whole : sumTo g (client p c .held) ≡ sumTo g n + g n
-      whole = let e : client p c .held ≡ suc n = omega arith in ap (sumTo g) e
-
-      go : Dec (a ≡ n) → sumTo h n + g a ≡ sumTo g (client p c .held)
-      go (yes w) = omega (arith, whole, ap g w, sum-same g h n (λ j l. other j l (λ v. let z : ⊥ = omega arith in z)))
-      go (no w) =
-          let moved : h a ≡ g n = same-one f a n (end-moved a e s r (omega arith)) in
-          omega (arith, whole, moved, sum-put g h n a (omega arith) (λ j l w. other j l w))
+      by (no h) = past (omega arith)
 
 -- a client that has no grant on a frame
 pub grantsOn-none : (p : Pool) (c f : ℕ) → ((i : ℕ) → grantFrame p c i ≢ f) → grantsOn p c f ≡ 0

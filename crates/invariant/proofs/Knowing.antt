@@ -3,8 +3,8 @@
 use mathlib.Core.Path.{_≡_, refl, sym, ap, subst, _∙_}
 use mathlib.Core.Logic.{_≢_}
 use mathlib.Core.Bool.{false}
-use Prim.Native.Nat.{ℕ, suc, _<_}
-use Rattle.pool.specs.State.{none, evicted, clientCount, slot, pins, client}
+use Prim.Native.Nat.{ℕ, suc}
+use Rattle.pool.specs.State.{none, evicted, slot, pins, client}
 use Rattle.pool.specs.Table.{lookup}
 use Rattle.pool.specs.Frames.{referenced}
 use Rattle.pool.specs.Apply.{slotsAfter, pinsAfter, entryPagesAfter, entryFramesAfter, apply}
@@ -17,8 +17,9 @@ use Rattle.invariant.proofs.Each.{Each, fin, _also_, each-at}
 use Rattle.invariant.proofs.Table.{mapped-kept, lookup-mapped}
 use Rattle.invariant.proofs.Never.{know}
 use Rattle.invariant.proofs.Facts.{own-live}
-use Rattle.invariant.proofs.Edges.{Quiet, Edge, on, found1, found18, lost2, lost22, pins2, pins19, gets3, gets21, takes, fills, swaps, gives-up, drops, removes, admits, revives, evicts20, evicts23, begins, releases}
-use Rattle.invariant.proofs.Effects.{untouched, Effect}
+use Rattle.invariant.proofs.Edges.{Quiet, Edge, on, found1, found18, lost2, lost22, pins2, pins19, gets3, gets21, takes, fills, swaps, gives-up, drops}
+use Rattle.invariant.proofs.Edges.{removes, admits, revives, evicts20, evicts23, begins, releases}
+use Rattle.invariant.proofs.Effects.{unseen, Effect}
 use Rattle.invariant.proofs.Next.{dead-next, seats-next, maps-next, by-own, by-found, by-victim}
 
 -- ---- what a pool q keeps of a frame of p
@@ -74,25 +75,28 @@ module _ (p q : Pool) where
       both Placed Live stable-placed stable-live also
       stable-live also both Placed DeadFound stable-placed stable-dead-found also stable-placed also fin
 
-  pub stable : (s : ℕ) → Stable (Knows s)
+  stable : (s : ℕ) → Stable (Knows s)
   stable s = each-at (λ _ x. Stable x) Nothing (λ _. stable-nothing) knows stable-knows s
 
 -- ---- after a move
 
-module _ (p : Pool) (c : ℕ) (here : c < clientCount p) (r : Reached p) (m : Move) (x : Effect p c m) where
+module _ {p : Pool} {c : ℕ} {m : Move} (x : Effect p c m) where
+  abbrev r : Reached p
+  r = x .reached
+
   abbrev q : Pool
   q = apply p c m
 
-  pub steady : (f : ℕ) → f ≢ none → (referenced p f ≡ false → ⊥) → Steady p q f
-  steady f z n = record { dead = dead-next p c here r m x f z n; maps = maps-next p c here r m x f z; seats = seats-next p c here r m x f z }
+  steady : (f : ℕ) → f ≢ none → (referenced p f ≡ false → ⊥) → Steady p q f
+  steady f z n = record { dead = dead-next x f z n; maps = maps-next x f z; seats = seats-next x f z }
 
   safe : (d : ℕ) → Safe p q (client p d)
   safe d =
       record {
-        own = λ z. steady (client p d .own) z (by-own p c here r m x (client p d .own) z d refl);
+        own = λ z. steady (client p d .own) z (by-own x (client p d .own) z d refl);
         own-live = own-live p r d;
-        found = λ z. steady (client p d .found) z (by-found p c here r m x (client p d .found) z d refl);
-        victim = λ z. steady (client p d .victim) z (by-victim p c here r m x (client p d .victim) z d refl);
+        found = λ z. steady (client p d .found) z (by-found x (client p d .found) z d refl);
+        victim = λ z. steady (client p d .victim) z (by-victim x (client p d .victim) z d refl);
       }
 
   -- each client still knows what it knew, the mover included
@@ -105,12 +109,12 @@ module _ (p : Pool) (c : ℕ) (here : c < clientCount p) (r : Reached p) (m : Mo
 module _ (p : Pool) (c : ℕ) (r : Reached p) (m : Move) (w : Quiet p (m .write)) where
   quiet-steady : (f : ℕ) → Steady p (apply p c m) f
   quiet-steady f =
-      let a : (f : ℕ) → pins (apply p c m) f ≡ pins p f = pins-kept p c m (r .shape) (untouched _ _ w .pins) in
-      let b : mapped (apply p c m) f ≡ mapped p f = mapped-kept p c m (r .shape) (untouched _ _ w .entry-pages) (untouched _ _ w .entry-frames) f in
-      let d : (i : ℕ) → slot (apply p c m) i ≡ slot p i = slot-kept p c m (r .shape) (untouched _ _ w .slots) in
+      let a : (f : ℕ) → pins (apply p c m) f ≡ pins p f = pins-kept p c m (unseen _ _ w .pins) in
+      let b : mapped (apply p c m) f ≡ mapped p f = mapped-kept p c m (unseen _ _ w .entry-pages) (unseen _ _ w .entry-frames) f in
+      let d : (i : ℕ) → slot (apply p c m) i ≡ slot p i = slot-kept p c m (unseen _ _ w .slots) in
       record { dead = λ e. a f ∙ e; maps = λ _ g e. b ∙ e; seats = λ _ s. (s .0, d (s .0) ∙ s .1) }
 
-module _ (p : Pool) (c : ℕ) (here : c < clientCount p) (r : Reached p) where
+module _ (p : Pool) (c : ℕ) (r : Reached p) where
   abbrev k : Client
   k = client p c
 
@@ -120,11 +124,11 @@ module _ (p : Pool) (c : ℕ) (here : c < clientCount p) (r : Reached p) where
   -- the frame that a look-up found is the page's
   looked : (m : Move) → EntryPagesStay p (m .write) → EntryFramesStay p (m .write) → (z : lookup p (k .page) ≢ none)
       → (lookup p (k .page) ≢ none) × (pins (apply p c m) (lookup p (k .page)) ≢ evicted → mapped (apply p c m) (lookup p (k .page)) ≡ suc (k .page))
-  looked m a b z = (z, λ _. mapped-kept p c m (r .shape) a b _ ∙ lookup-mapped p (r .shape) (r .outline .entries-apart) (k .page) z)
+  looked m a b z = (z, λ _. mapped-kept p c m a b _ ∙ lookup-mapped p (r .shape) (r .outline .entries-apart) (k .page) z)
 
   -- the found frame, not evicted, is still the page's
   pinned-now : (m : Move) → Effect p c m → Live p k → pins p (k .found) ≢ evicted → Live (apply p c m) k
-  pinned-now m x h l = (h .0, λ _. maps-next p c here r m x (k .found) (h .0) l (k .page) (h .1 l))
+  pinned-now m x h l = (h .0, λ _. maps-next x (k .found) (h .0) l (k .page) (h .1 l))
 
   pub learns : {m : Move} → Edge p c m → Effect p c m → Knows (m .next .stage) (apply p c m) (m .next)
   unfolding slotsAfter pinsAfter entryPagesAfter entryFramesAfter
@@ -138,23 +142,23 @@ module _ (p : Pool) (c : ℕ) (here : c < clientCount p) (r : Reached p) where
       })
       (h .knows)
   learns {m} (found1 e z) x = looked m refl refl z
-  learns {m} (found18 e z) x = (carry p c here r m x c 18 e, looked m refl refl z)
+  learns {m} (found18 e z) x = (carry x c 18 e, looked m refl refl z)
   learns (lost2 e _) x = tt
-  learns {m} (lost22 e _) x = carry p c here r m x c 22 e .0
+  learns {m} (lost22 e _) x = carry x c 22 e .0
   learns {m} (pins2 e l) x = pinned-now m x (kn 2 e) l
-  learns {m} (pins19 e l) x = (carry p c here r m x c 19 e .0, pinned-now m x (kn 19 e .1) l)
+  learns {m} (pins19 e l) x = (carry x c 19 e .0, pinned-now m x (kn 19 e .1) l)
   learns (gets3 e) x = tt
   learns (gets21 e) x = tt
   learns (takes e z) x = z
   learns {m} (fills e _) x = (kn 8 e, (k .place, slot-here p c m (r .shape) (k .place) (k .own) refl (r .ranges .place-ok c)))
   learns {m} (swaps e _) x =
-      ((kn 15 e .0, (k .place, slot-here p c m (r .shape) (k .place) (k .own) refl (r .ranges .place-ok c))), carry p c here r m x c 15 e .1)
+      ((kn 15 e .0, (k .place, slot-here p c m (r .shape) (k .place) (k .own) refl (r .ranges .place-ok c))), carry x c 15 e .1)
   learns (gives-up _ _) x = tt
   learns {m} (drops e _) x = let h = kn 14 e in (h .0, (h .1 .0, pins-here p c m (r .shape) (k .victim) evicted refl (r .ranges .victim-ok c (h .1 .0))))
-  learns {m} (removes e _) x = carry p c here r m x c 17 e .0
+  learns {m} (removes e _) x = carry x c 17 e .0
   learns (admits e _ _) x = tt
   learns (revives e _) x = tt
-  learns {m} (evicts20 e) x = carry p c here r m x c 20 e .1
+  learns {m} (evicts20 e) x = carry x c 20 e .1
   learns (evicts23 e) x = tt
   learns (begins g e _) x = tt
   learns {m} (releases g e z) x = subst (λ s. Knows s (apply p c m) (m .next)) (sym e) tt

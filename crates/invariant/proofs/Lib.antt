@@ -1,25 +1,43 @@
+-- The invariant of the pools that come from setup and calls, and its proof. To read it:
+--   Reached says what holds: one record of seven layers with named clauses. Who uses the invariant needs no other file.
+--   Edges lists the moves that a call can make in such a pool, Steps shows that every call makes one of them.
+--   Effects says of each of these moves what it does to each thing the layers speak of: one menu a thing, a few ways a menu.
+--   Next draws from the menus what every layer needs: which frames keep their slot, entry, page, pins and grants.
+--   Then a file a layer carries that layer over a move, from Effects and Next, and where it asks for more, edge by edge.
+--   Calls puts the layers together over a move, a call and a list of calls: `reached-after`.
+-- Every proof goes over one of three lists: the 23 stages (Steps), the 21 edges, or a menu.
+
 pub mod Reached
+-- tools: how the pool reads after a write; numbers that stay apart; sums and the pigeonhole; facts of every stage; tests on stage numbers
 pub mod After
+pub mod Writes
+pub mod Apart
 pub mod Sums
-pub mod Searches
-pub mod Each
-pub mod Grants
-pub mod Table
 pub mod Pigeon
-pub mod Never
+pub mod Each
 pub mod Flags
+-- what the pool's searches find, its table by frame, its grants after a move, what a call has passed
+pub mod Searches
+pub mod Table
+pub mod Grants
+pub mod Allowed
+-- what follows from the clauses: a search never fails, pins and claims of one frame
+pub mod Never
 pub mod Facts
+-- the moves, what they do, and what that leaves
 pub mod Edges
 pub mod Steps
 pub mod Effects
 pub mod Next
+-- the layers, in the order of the record; Knowing is the part of Outline that speaks of what a client knows at its stage
+pub mod Ranges
 pub mod Places
 pub mod Private
-pub mod Ranges
 pub mod Counts
 pub mod Knowing
 pub mod Outline
 pub mod Calm
+-- check 8, the setup, and all calls
 pub mod Valid
 pub mod Setup
 pub mod Calls

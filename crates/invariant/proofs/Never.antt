@@ -20,9 +20,9 @@ use Rattle.pool.specs.declared.Client.{Client}
 use Rattle.laws.specs.Choices.{chosen, passed}
 use Rattle.laws.specs.Scans.{either-true, some-true}
 use Rattle.invariant.proofs.Reached.{mapped, Seated, Knows, Reached, sumTo}
-use Rattle.invariant.proofs.After.{slot-in, client-here}
+use Rattle.invariant.proofs.After.{few-frames, slot-in, client-here}
 use Rattle.invariant.proofs.Sums.{sum-add, sum-most, sum-gap}
-use Rattle.invariant.proofs.Searches.{few-frames, free-found, free-none, unused-none}
+use Rattle.invariant.proofs.Searches.{free-found, free-none, unused-none}
 use Rattle.invariant.proofs.Table.{suc-not, mapped-none}
 use Rattle.invariant.proofs.Pigeon.{below, equal, below-all, equal-has, equal-none, equal-least, below-least, below-gap, below-full}
 
@@ -32,7 +32,7 @@ module _ (p : Pool) (r : Reached p) where
   know c i e = subst (λ s. Knows s p (client p c)) e (r .outline .knowing c)
 
   -- no client has a found frame and a victim
-  pub not-both : (c : ℕ) → client p c .victim ≢ none → client p c .found ≡ none
+  not-both : (c : ℕ) → client p c .victim ≢ none → client p c .found ≡ none
   not-both c z = go (leb 12 s) (leb s 17) refl refl
     where
       s : ℕ

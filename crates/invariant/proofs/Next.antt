@@ -19,9 +19,16 @@ use Rattle.invariant.proofs.After.{client-same, client-other, slot-kept
 use Rattle.invariant.proofs.Searches.{fresh-means}
 use Rattle.invariant.proofs.Table.{suc-not, mapped-entry, mapped-kept, put-other, put-cases}
 use Rattle.invariant.proofs.Grants.{grantPage-other, grantFrame-other, Comes, old, new, past, comes}
-use Rattle.invariant.proofs.Effects.{Vacant, SlotOk, slots-stay, puts, PinChange, adds, lowers, drops-victim, drops-own, takes-one, PinsOk, pins-stay, pins-put, EntryOk, entries-stay, maps, unmaps, PageOk, pages-stay, paged, Effect}
+use Rattle.invariant.proofs.Effects.{Vacant, SlotOk, slots-stay, puts, PinChange, adds, lowers, drops-victim, drops-own, takes-one, PinsOk, pins-stay}
+use Rattle.invariant.proofs.Effects.{pins-put, EntryOk, entries-stay, maps, unmaps, PageOk, pages-stay, paged, Effect}
 
-module _ (p : Pool) (c : ℕ) (here : c < clientCount p) (r : Reached p) (m : Move) (x : Effect p c m) where
+module _ {p : Pool} {c : ℕ} {m : Move} (x : Effect p c m) where
+  abbrev r : Reached p
+  r = x .reached
+
+  abbrev here : c < clientCount p
+  here = x .here
+
   abbrev k : Client
   k = client p c
 
@@ -43,24 +50,24 @@ module _ (p : Pool) (c : ℕ) (here : c < clientCount p) (r : Reached p) (m : Mo
   slot-now i = go (x .slot)
     where
       go : SlotOk p c m → SlotNow i
-      go (slots-stay e) = inl (slot-kept p c m (r .shape) e i)
-      go (puts j e h u v _ z _) = by (ℕ-discrete i j)
+      go (slots-stay e) = inl (slot-kept p c m e i)
+      go (puts j e h u v z _) = by (ℕ-discrete i j)
         where
           by : Dec (i ≡ j) → SlotNow i
           by (yes w) = inr (ap (slot q) w ∙ slot-here p c m (r .shape) j (k .own) (rw e refl) h, u, v, z)
-          by (no w) = inl (slot-else p c m (r .shape) j (k .own) (rw e refl) i w)
+          by (no w) = inl (slot-else p c m j (k .own) (rw e refl) i w)
 
   pub slot-or-out : (f i : ℕ) → f ≢ none → slot p i ≡ f → (slot q i ≡ f) ⊎ TakenOut f
   unfolding slotsAfter
   slot-or-out f i z s = go (x .slot)
     where
       go : SlotOk p c m → (slot q i ≡ f) ⊎ TakenOut f
-      go (slots-stay e) = inl (slot-kept p c m (r .shape) e i ∙ s)
-      go (puts j e h _ _ _ _ v) = by (ℕ-discrete i j) v
+      go (slots-stay e) = inl (slot-kept p c m e i ∙ s)
+      go (puts j e h _ _ _ v) = by (ℕ-discrete i j) v
         where
           by : Dec (i ≡ j) → Vacant p c m j
               → (slot q i ≡ f) ⊎ TakenOut f
-          by (no w) _ = inl (slot-else p c m (r .shape) j (k .own) (rw e refl) i w ∙ s)
+          by (no w) _ = inl (slot-else p c m j (k .own) (rw e refl) i w ∙ s)
           by (yes w) (inl o) = absurd (z (sym s ∙ ap (slot p) w ∙ o))
           by (yes w) (inr o) =
               let v : k .victim ≡ f = sym (o .0) ∙ ap (slot p) (sym w) ∙ s in
@@ -74,19 +81,19 @@ module _ (p : Pool) (c : ℕ) (here : c < clientCount p) (r : Reached p) (m : Mo
     dead-next ref d = go (x .pins)
       where
         go : PinsOk p c m → pins q f ≡ evicted
-        go (pins-stay e) = pins-kept p c m (r .shape) e f ∙ d
-        go (pins-put g y e h _ ch) = by (ℕ-discrete f g) ch
+        go (pins-stay e) = pins-kept p c m e f ∙ d
+        go (pins-put g y e h ch) = by (ℕ-discrete f g) ch
           where
             at : f ≡ g → y ≡ evicted → pins q f ≡ evicted
             at w v = ap (pins q) w ∙ pins-here p c m (r .shape) g y e h ∙ v
 
             by : Dec (f ≡ g) → PinChange p c m g y → pins q f ≡ evicted
-            by (no w) _ = pins-else p c m (r .shape) g y e f w ∙ d
-            by (yes w) (adds _ l _ _) = absurd (l (ap (pins p) (sym w) ∙ d))
-            by (yes w) (lowers _ _ l _) = absurd (let n : pins p g ≡ evicted = ap (pins p) (sym w) ∙ d in let y : ⊥ = omega arith in y)
+            by (no w) _ = pins-else p c m g y e f w ∙ d
+            by (yes w) (adds l _ _) = absurd (l (ap (pins p) (sym w) ∙ d))
+            by (yes w) (lowers l _) = absurd (let n : pins p g ≡ evicted = ap (pins p) (sym w) ∙ d in let y : ⊥ = omega arith in y)
             by (yes w) (drops-victim _ _ v _ _ _ _) = at w v
-            by (yes w) (drops-own _ _ v _) = at w v
-            by (yes w) (takes-one _ ref′ _) = absurd (ref (ap (referenced p) w ∙ ref′))
+            by (yes w) (drops-own _ v) = at w v
+            by (yes w) (takes-one ref′ _) = absurd (ref (ap (referenced p) w ∙ ref′))
 
     pub seats-next : pins p f ≢ evicted → Seated p f → Seated q f
     seats-next l s = go (slot-or-out f (s .0) z (s .1))
@@ -102,30 +109,30 @@ module _ (p : Pool) (c : ℕ) (here : c < clientCount p) (r : Reached p) (m : Mo
         not-own o w = suc-not e (ap (mapped p) w ∙ r .private .own-unmapped c o)
 
         go : EntryOk p c m → mapped q f ≡ suc g
-        go (entries-stay a b) = mapped-kept p c m (r .shape) a b f ∙ e
+        go (entries-stay a b) = mapped-kept p c m a b f ∙ e
         go (maps i w h o _ _ v _) = put-other p c m (r .shape) i (k .page) (k .own) w h f (not-own o) (other v) ∙ e
           where
             other : (entryFrame p i ≡ none) ⊎ (pins p (entryFrame p i) ≡ evicted) → f ≢ entryFrame p i
             other (inl n) y = z (y ∙ n)
             other (inr n) y = l (ap (pins p) y ∙ n)
-        go (unmaps i a w h _ v d) = put-other p c m (r .shape) i a none w h f z (λ y. l (ap (pins p) (y ∙ v) ∙ d)) ∙ e
+        go (unmaps i a w h v d) = put-other p c m (r .shape) i a none w h f z (λ y. l (ap (pins p) (y ∙ v) ∙ d)) ∙ e
 
     -- a frame that is not mapped to is not mapped to now, unless it is the own one
     pub unmapped-next : mapped p f ≡ 0 → (m .next .own ≡ none → k .own ≢ f) → mapped q f ≡ 0
     unmapped-next e o = go (x .entries)
       where
         go : EntryOk p c m → mapped q f ≡ 0
-        go (entries-stay a b) = mapped-kept p c m (r .shape) a b f ∙ e
+        go (entries-stay a b) = mapped-kept p c m a b f ∙ e
         go (maps i w h _ n _ _ _) = put-cases p c m (r .shape) i (k .page) (k .own) w h f z e (λ y. o n (sym y))
-        go (unmaps i a w h _ _ _) = put-cases p c m (r .shape) i a none w h f z e z
+        go (unmaps i a w h _ _) = put-cases p c m (r .shape) i a none w h f z e z
 
     -- a frame's page changes only where it is taken
     pub page-next : (referenced p f ≡ false → ⊥) → page q f ≡ page p f
     page-next ref = go (x .pages)
       where
         go : PageOk p c m → page q f ≡ page p f
-        go (pages-stay e) = page-kept p c m (r .shape) e f
-        go (paged g a _ e _) = page-else p c m (r .shape) g _ e f (λ w. ref (ap (referenced p) w ∙ a))
+        go (pages-stay e) = page-kept p c m e f
+        go (paged g a e) = page-else p c m g _ e f (λ w. ref (ap (referenced p) w ∙ a))
 
   -- ---- who is named
 
@@ -151,10 +158,10 @@ module _ (p : Pool) (c : ℕ) (here : c < clientCount p) (r : Reached p) (m : Mo
       few : (d : ℕ) → client p d .held ≤ 8
       few = r .ranges .held-ok
 
-      mine : Comes p c m (r .shape) here few (x .grants) i → i < m .next .held → P (grantPage q c i) (grantFrame q c i)
+      mine : Comes p c m (r .shape) here few i → i < m .next .held → P (grantPage q c i) (grantFrame q c i)
       mine (old j l a b) _ = rw (a, b) (olds c j l)
       mine (new g f e a b) _ = rw (a, b) (opened g f e)
-      mine (past l _) u = absurd (let y : ⊥ = omega arith in y)
+      mine (past l) u = absurd (let y : ⊥ = omega arith in y)
 
       go : Dec (d ≡ c) → P (grantPage q d i) (grantFrame q d i)
       go (yes e) =
@@ -163,4 +170,4 @@ module _ (p : Pool) (c : ℕ) (here : c < clientCount p) (r : Reached p) (m : Mo
           let v : client q d .held ≡ client q c .held = ap (λ (n : ℕ). client q n .held) e in omega arith))
       go (no e) =
           rw (grantPage-other p c m (r .shape) here few (x .grants) d e i, grantFrame-other p c m (r .shape) here few (x .grants) d e i)
-          (olds d i (subst (λ (n : Client). i < n .held) (client-other p c m (r .shape) d e) h))
+          (olds d i (subst (λ (n : Client). i < n .held) (client-other p c m d e) h))

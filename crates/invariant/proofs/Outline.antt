@@ -1,5 +1,7 @@
--- The table maps no page twice and no frame twice, a grant's frame is mapped to by its page, a resident frame stands in a slot, a frame that is
--- not evicted has an entry or an owner or is an orphan, and a frame's page is that of its entry and that which its owner wants. Assumes nothing.
+-- The table maps no page twice and no frame twice: an entry is written only for a page that has none, or in its place, and only with an own frame,
+-- which is in none. A grant's frame keeps its entry as it is pinned, and a resident frame its slot. A frame that is not evicted has an entry or an
+-- owner or is an orphan, because an own frame that its client gives up gets an entry, is evicted, or is left to nobody. A frame's page changes only
+-- where 4 takes it, and then nobody names it. Assumes nothing.
 use mathlib.Core.Path.{_≡_, refl, sym, ap, subst, _∙_}
 use mathlib.Core.Logic.{_≢_, _⊎_, inl, inr}
 use mathlib.Core.Bool.{Bool, true, false, true≢false}
@@ -16,12 +18,15 @@ use Rattle.pool.specs.declared.Move.{Move}
 use Rattle.pool.specs.declared.Write.the-variants.{PutEntry}
 use Rattle.invariant.proofs.Reached.{Reached, Apart, Outline, mapped, Seated, Knows, Orphan, foundless, victimless}
 use Rattle.invariant.proofs.After.{client-same, client-other, all-clients, pins-kept, pins-here, page-here, entryPage-kept, entryFrame-kept}
+use Rattle.invariant.proofs.Apart.{apart-used, apart-same}
 use Rattle.invariant.proofs.Searches.{Fresh, fresh-means, grant-in, lookup-found, unused-found}
-use Rattle.invariant.proofs.Table.{suc-not, some-suc, mapped-none, mapped-zero, mapped-kept, put-frame, put-page, else-frame, else-page, put-other, put-apart, put-new, put-gone, put-cases}
+use Rattle.invariant.proofs.Table.{suc-not, some-suc, mapped-none, mapped-zero, mapped-kept, put-frame, put-page, else-frame, else-page, put-other}
+use Rattle.invariant.proofs.Table.{put-apart, put-new, put-gone, put-cases}
 use Rattle.invariant.proofs.Never.{know}
 use Rattle.invariant.proofs.Facts.{grant-live}
 use Rattle.invariant.proofs.Flags.{never, imp-mp}
-use Rattle.invariant.proofs.Edges.{Edge, on, found1, found18, lost2, lost22, pins2, pins19, gets3, gets21, takes, fills, swaps, gives-up, drops, removes, admits, revives, evicts20, evicts23, begins, releases}
+use Rattle.invariant.proofs.Edges.{Edge, on, found1, found18, lost2, lost22, pins2, pins19, gets3, gets21, takes, fills, swaps, gives-up, drops}
+use Rattle.invariant.proofs.Edges.{removes, admits, revives, evicts20, evicts23, begins, releases}
 use Rattle.invariant.proofs.Effects.{OwnOk, forgot, kept, taken, Opened, of-found, of-own, EntryOk, entries-stay, maps, unmaps, Effect}
 use Rattle.invariant.proofs.Next.{dead-next, seats-next, maps-next, page-next, by-own, by-mapped, all-grants}
 use Rattle.invariant.proofs.Counts.{orphan-stays, stranded}
@@ -44,7 +49,13 @@ record Tells (p : Pool) (c : ℕ) (m : Move) : Type 0 where
 
 -- ---- the table after a move
 
-module _ (p : Pool) (c : ℕ) (here : c < clientCount p) (r : Reached p) (m : Move) (x : Effect p c m) where
+module _ {p : Pool} {c : ℕ} {m : Move} (x : Effect p c m) where
+  abbrev r : Reached p
+  r = x .reached
+
+  abbrev here : c < clientCount p
+  here = x .here
+
   abbrev k : Client
   k = client p c
 
@@ -55,7 +66,7 @@ module _ (p : Pool) (c : ℕ) (here : c < clientCount p) (r : Reached p) (m : Mo
   own-only : k .own ≢ none → (i : ℕ) → entryFrame p i ≢ k .own
   own-only z = mapped-none p (k .own) z (r .private .own-unmapped c z)
 
-  pub own-mapped : (i g f : ℕ) → f ≡ k .own → f ≢ none → m .write ≡ PutEntry i g f → i < total p → mapped q f ≡ suc g
+  own-mapped : (i g f : ℕ) → f ≡ k .own → f ≢ none → m .write ≡ PutEntry i g f → i < total p → mapped q f ≡ suc g
   own-mapped i g f e z w h =
       put-new p c m (r .shape) i g f w h (r .outline .entries-apart) (λ _ j _ y. own-only (λ n. z (e ∙ n)) j (y ∙ e)) z
 
@@ -63,51 +74,28 @@ module _ (p : Pool) (c : ℕ) (here : c < clientCount p) (r : Reached p) (m : Mo
   entries-next = go (x .entries)
     where
       go : EntryOk p c m → Apart (entryFrame q) none
-      go (entries-stay _ w) =
-          let s : (i : ℕ) → entryFrame q i ≡ entryFrame p i = entryFrame-kept p c m (r .shape) w in
-          λ i j z e. r .outline .entries-apart i j (λ n. z (s i ∙ n)) (sym (s i) ∙ e ∙ s j)
+      go (entries-stay _ w) = apart-same (entryFrame p) (entryFrame q) none (r .outline .entries-apart) (entryFrame-kept p c m w)
       go (maps i w h z _ _ _ _) = put-apart p c m (r .shape) i (k .page) (k .own) w h (r .outline .entries-apart) (λ _ j _. own-only z j)
-      go (unmaps i g w h _ _ _) = put-apart p c m (r .shape) i g none w h (r .outline .entries-apart) (λ z. absurd (z refl))
+      go (unmaps i g w h _ _) = put-apart p c m (r .shape) i g none w h (r .outline .entries-apart) (λ z. absurd (z refl))
 
   pages-next : (i j : ℕ) → entryFrame q i ≢ none → entryFrame q j ≢ none → entryPage q i ≡ entryPage q j → i ≡ j
-  pages-next i j a b e = go (x .entries)
+  pages-next = go (x .entries)
     where
-      go : EntryOk p c m → i ≡ j
+      -- the entry at n is put, with page g and frame f
+      put : (n g f : ℕ) → m .write ≡ PutEntry n g f → n < total p → (f ≢ none → (i : ℕ) → i ≢ n → entryFrame p i ≢ none → entryPage p i ≢ g)
+          → (i j : ℕ) → entryFrame q i ≢ none → entryFrame q j ≢ none → entryPage q i ≡ entryPage q j → i ≡ j
+      put n g f w h new =
+          apart-used (λ i. entryFrame p i ≢ none) (λ i. entryFrame q i ≢ none) (entryPage p) (entryPage q) n (r .outline .pages-apart)
+          (λ i o z y. z (else-frame p c m (r .shape) n g f w h i o ∙ y)) (else-page p c m (r .shape) n g f w h)
+          (λ z i o y e. new (λ v. z (put-frame p c m (r .shape) n g f w h ∙ v)) i o y (e ∙ put-page p c m (r .shape) n g f w h))
+
+      go : EntryOk p c m → (i j : ℕ) → entryFrame q i ≢ none → entryFrame q j ≢ none → entryPage q i ≡ entryPage q j → i ≡ j
       go (entries-stay v w) =
-          let s : (i : ℕ) → entryFrame q i ≡ entryFrame p i = entryFrame-kept p c m (r .shape) w in
-          let t : (i : ℕ) → entryPage q i ≡ entryPage p i = entryPage-kept p c m (r .shape) v in
-          r .outline .pages-apart i j (λ n. a (s i ∙ n)) (λ n. b (s j ∙ n)) (sym (t i) ∙ e ∙ t j)
-      go (maps n w h z _ _ _ o) = by (ℕ-discrete i n) (ℕ-discrete j n)
-        where
-          fr : (i : ℕ) → i ≢ n → entryFrame q i ≡ entryFrame p i
-          fr = else-frame p c m (r .shape) n (k .page) (k .own) w h
-
-          pg : (i : ℕ) → i ≢ n → entryPage q i ≡ entryPage p i
-          pg = else-page p c m (r .shape) n (k .page) (k .own) w h
-
-          new : entryPage q n ≡ k .page
-          new = put-page p c m (r .shape) n (k .page) (k .own) w h
-
-          by : Dec (i ≡ n) → Dec (j ≡ n) → i ≡ j
-          by (yes u) (yes v) = u ∙ sym v
-          by (no u) (no v) = r .outline .pages-apart i j (λ y. a (fr i u ∙ y)) (λ y. b (fr j v ∙ y)) (sym (pg i u) ∙ e ∙ pg j v)
-          by (yes u) (no v) = absurd (o j v (λ y. b (fr j v ∙ y)) (sym (pg j v) ∙ sym e ∙ ap (entryPage q) u ∙ new))
-          by (no u) (yes v) = absurd (o i u (λ y. a (fr i u ∙ y)) (sym (pg i u) ∙ e ∙ ap (entryPage q) v ∙ new))
-      go (unmaps n g w h _ _ _) = by (ℕ-discrete i n) (ℕ-discrete j n)
-        where
-          fr : (i : ℕ) → i ≢ n → entryFrame q i ≡ entryFrame p i
-          fr = else-frame p c m (r .shape) n g none w h
-
-          pg : (i : ℕ) → i ≢ n → entryPage q i ≡ entryPage p i
-          pg = else-page p c m (r .shape) n g none w h
-
-          gone : (i : ℕ) → i ≡ n → entryFrame q i ≡ none
-          gone i u = ap (entryFrame q) u ∙ put-frame p c m (r .shape) n g none w h
-
-          by : Dec (i ≡ n) → Dec (j ≡ n) → i ≡ j
-          by (no u) (no v) = r .outline .pages-apart i j (λ y. a (fr i u ∙ y)) (λ y. b (fr j v ∙ y)) (sym (pg i u) ∙ e ∙ pg j v)
-          by (yes u) _ = absurd (a (gone i u))
-          by (no u) (yes v) = absurd (b (gone j v))
+          let s : (i : ℕ) → entryFrame q i ≡ entryFrame p i = entryFrame-kept p c m w in
+          let t : (i : ℕ) → entryPage q i ≡ entryPage p i = entryPage-kept p c m v in
+          λ i j a b e. r .outline .pages-apart i j (λ n. a (s i ∙ n)) (λ n. b (s j ∙ n)) (sym (t i) ∙ e ∙ t j)
+      go (maps n w h _ _ _ _ o) = put n (k .page) (k .own) w h (λ _. o)
+      go (unmaps n g w h _ _) = put n g none w h (λ z. absurd (z refl))
 
   module _ (f : ℕ) (z : f ≢ none) where
     -- an entry that is new is that of the own frame, which stands in a slot
@@ -116,20 +104,20 @@ module _ (p : Pool) (c : ℕ) (here : c < clientCount p) (r : Reached p) (m : Mo
     new-entry e n = go (x .entries)
       where
         go : EntryOk p c m → (f ≡ k .own) × Seated p f × (mapped q f ≡ suc (k .page)) × (pins q f ≡ pins p f)
-        go (entries-stay a b) = absurd (n (mapped-kept p c m (r .shape) a b f ∙ e))
+        go (entries-stay a b) = absurd (n (mapped-kept p c m a b f ∙ e))
         go (maps i w h o _ s _ _) = by (ℕ-discrete f (k .own))
           where
             by : Dec (f ≡ k .own) → (f ≡ k .own) × Seated p f × (mapped q f ≡ suc (k .page)) × (pins q f ≡ pins p f)
-            by (yes v) = (v, (s .0, s .1 ∙ sym v), ap (mapped q) v ∙ own-mapped i (k .page) (k .own) refl o w h, pins-kept p c m (r .shape) (rw w refl) f)
+            by (yes v) = (v, (s .0, s .1 ∙ sym v), ap (mapped q) v ∙ own-mapped i (k .page) (k .own) refl o w h, pins-kept p c m (rw w refl) f)
             by (no v) = absurd (n (put-cases p c m (r .shape) i (k .page) (k .own) w h f z e v))
-        go (unmaps i g w h _ _ _) = absurd (n (put-cases p c m (r .shape) i g none w h f z e z))
+        go (unmaps i g w h _ _) = absurd (n (put-cases p c m (r .shape) i g none w h f z e z))
 
     -- an entry that was there and is there is as it was
-    pub entry-same : mapped p f ≢ 0 → mapped q f ≢ 0 → mapped q f ≡ mapped p f
+    entry-same : mapped p f ≢ 0 → mapped q f ≢ 0 → mapped q f ≡ mapped p f
     entry-same e n = go (x .entries)
       where
         go : EntryOk p c m → mapped q f ≡ mapped p f
-        go (entries-stay a b) = mapped-kept p c m (r .shape) a b f
+        go (entries-stay a b) = mapped-kept p c m a b f
         go (maps i w h o _ _ _ _) = by (ℕ-discrete f (entryFrame p i))
           where
             not-own : f ≢ k .own
@@ -140,7 +128,7 @@ module _ (p : Pool) (c : ℕ) (here : c < clientCount p) (r : Reached p) (m : Mo
             by (yes v) =
                 absurd (n (ap (mapped q) v ∙ put-gone p c m (r .shape) i (k .page) (k .own) w h (r .outline .entries-apart) (λ _ j _. own-only o j)
                 (λ y. z (v ∙ y)) (λ y. not-own (v ∙ y))))
-        go (unmaps i g w h _ _ _) = by (ℕ-discrete f (entryFrame p i))
+        go (unmaps i g w h _ _) = by (ℕ-discrete f (entryFrame p i))
           where
             by : Dec (f ≡ entryFrame p i) → mapped q f ≡ mapped p f
             by (no v) = put-other p c m (r .shape) i g none w h f z v
@@ -159,13 +147,13 @@ module _ (p : Pool) (c : ℕ) (here : c < clientCount p) (r : Reached p) (m : Mo
     resident-next l n = go (ℕ-discrete (mapped p f) 0)
       where
         seat : (referenced p f ≡ false → ⊥) → Seated p f → Seated q f
-        seat a s = seats-next p c here r m x f z (λ d. l (dead-next p c here r m x f z a d)) s
+        seat a s = seats-next x f z (λ d. l (dead-next x f z a d)) s
 
         go : Dec (mapped p f ≡ 0) → Seated q f
-        go (yes e) = let w = new-entry e n in seat (by-own p c here r m x f z c (sym (w .0))) (w .1)
+        go (yes e) = let w = new-entry e n in seat (by-own x f z c (sym (w .0))) (w .1)
         go (no e) =
-            let a = by-mapped p c here r m x f z e in
-            seat a (r .outline .resident f z (λ d. l (dead-next p c here r m x f z a d)) e)
+            let a = by-mapped x f z e in
+            seat a (r .outline .resident f z (λ d. l (dead-next x f z a d)) e)
 
     known-next : Tells p c m → pins q f ≢ evicted → (mapped q f ≢ 0) ⊎ (((d : ℕ) × (client q d .own ≡ f)) ⊎ Orphan q f)
     known-next t l = go (ℕ-discrete (m .next .own) f) fresh-or
@@ -179,12 +167,12 @@ module _ (p : Pool) (c : ℕ) (here : c < clientCount p) (r : Reached p) (m : Mo
         ended (inr (inr y)) = inr (inr y)
 
         old : m .next .own ≢ f → pins p f ≢ evicted → (mapped p f ≢ 0) ⊎ (((d : ℕ) × (client p d .own ≡ f)) ⊎ Orphan p f) → Goal
-        old n a (inl y) = let g = some-suc (mapped p f) y in inl (suc-not (maps-next p c here r m x f z a (g .0) (g .1)))
-        old n a (inr (inr o)) = inr (inr (orphan-stays p c here r m x f z o n))
+        old n a (inl y) = let g = some-suc (mapped p f) y in inl (suc-not (maps-next x f z a (g .0) (g .1)))
+        old n a (inr (inr o)) = inr (inr (orphan-stays x f z o n))
         old n a (inr (inl d)) = owner (ℕ-discrete (d .0) c)
           where
             owner : Dec (d .0 ≡ c) → Goal
-            owner (no u) = inr (inl (d .0, ap (λ (n : Client). n .own) (client-other p c m (r .shape) (d .0) u) ∙ d .1))
+            owner (no u) = inr (inl (d .0, ap (λ (n : Client). n .own) (client-other p c m (d .0) u) ∙ d .1))
             owner (yes u) =
                 let o : client p c .own ≡ f = ap (λ (n : ℕ). client p n .own) (sym u) ∙ d .1 in
                 ended (subst (λ (f : ℕ). (mapped q f ≢ 0) ⊎ ((pins q f ≡ evicted) ⊎ Orphan q f)) o (t .own-end (λ y. z (sym o ∙ y)) (λ y. n (y ∙ o))))
@@ -192,54 +180,54 @@ module _ (p : Pool) (c : ℕ) (here : c < clientCount p) (r : Reached p) (m : Mo
         go : Dec (m .next .own ≡ f) → Fresh p f ⊎ (referenced p f ≡ false → ⊥) → Goal
         go (yes e) _ = inr (inl (c, ap (λ (n : Client). n .own) (client-same p c m (r .shape) here) ∙ e))
         go (no e) (inl w) =
-            inr (inr (orphan-stays p c here r m x f z
+            inr (inr (orphan-stays x f z
             (record { no-slot = w .no-slot; unmapped = mapped-zero p f (w .no-entry); unowned = w .no-own; unfound = w .no-found; ungranted = w .no-grant }) e))
-        go (no e) (inr w) = let a : pins p f ≢ evicted = λ d. l (dead-next p c here r m x f z w d) in old e a (r .outline .known f z a)
+        go (no e) (inr w) = let a : pins p f ≢ evicted = λ d. l (dead-next x f z w d) in old e a (r .outline .known f z a)
 
     true-next : (g : ℕ) → mapped q f ≡ suc g → page q f ≡ g
     true-next g e = go (ℕ-discrete (mapped p f) 0)
       where
         go : Dec (mapped p f ≡ 0) → page q f ≡ g
         go (no n) =
-            page-next p c here r m x f z (by-mapped p c here r m x f z n) ∙ r .outline .page-true f g z (sym (entry-same n (suc-not e)) ∙ e)
+            page-next x f z (by-mapped x f z n) ∙ r .outline .page-true f g z (sym (entry-same n (suc-not e)) ∙ e)
         go (yes n) =
             let w = new-entry n (suc-not e) in
             let s : suc (k .page) ≡ suc g = sym (w .2) ∙ e in
-            page-next p c here r m x f z (by-own p c here r m x f z c (sym (w .0))) ∙ ap (page p) (w .0) ∙ r .outline .own-page c (λ y. z (w .0 ∙ y)) ∙
+            page-next x f z (by-own x f z c (sym (w .0))) ∙ ap (page p) (w .0) ∙ r .outline .own-page c (λ y. z (w .0 ∙ y)) ∙
             omega arith
 
   -- ---- grants and own frames
 
   granted-next : (d i : ℕ) → grantFrame q d i ≢ none → mapped q (grantFrame q d i) ≡ suc (grantPage q d i)
   granted-next d i z =
-      all-grants p c here r m x (λ g f. f ≢ none → mapped q f ≡ suc g)
+      all-grants x (λ g f. f ≢ none → mapped q f ≡ suc g)
       (λ d i _ n. let two = grant-live p r d i n in
-      maps-next p c here r m x (grantFrame p d i) n (λ e. let y : ⊥ = omega arith in y) (grantPage p d i) (r .outline .granted d i n))
+      maps-next x (grantFrame p d i) n (λ e. let y : ⊥ = omega arith in y) (grantPage p d i) (r .outline .granted d i n))
       (λ g f w. new (x .opened g f w)) d i (grant-in q d i z) z
     where
       new : {g f : ℕ} → Opened p c m g f → f ≢ none → mapped q f ≡ suc g
-      new {g} {f} (of-found _ _ e two) n = maps-next p c here r m x f n (λ w. let y : ⊥ = omega arith in y) g e
-      new {g} {f} (of-own i e n _ _ w h) _ = own-mapped i g f e n w h
+      new {g} {f} (of-found _ _ e two) n = maps-next x f n (λ w. let y : ⊥ = omega arith in y) g e
+      new {g} {f} (of-own i e n _ w h) _ = own-mapped i g f e n w h
 
   named-next : (d i : ℕ) → i < client q d .held → grantFrame q d i ≢ none
-  named-next = all-grants p c here r m x (λ _ f. f ≢ none) (r .outline .grant-named) (λ g f w. new (x .opened g f w))
+  named-next = all-grants x (λ _ f. f ≢ none) (r .outline .grant-named) (λ g f w. new (x .opened g f w))
     where
       new : {g f : ℕ} → Opened p c m g f → f ≢ none
       new (of-found _ z _ _) = z
-      new (of-own _ _ z _ _ _ _) = z
+      new (of-own _ _ z _ _ _) = z
 
   own-page-next : Tells p c m → (d : ℕ) → client q d .own ≢ none → page q (client q d .own) ≡ client q d .page
   unfolding pagesAfter
   own-page-next t =
       all-clients p c m (r .shape) (λ _ n. n .own ≢ none → page q (n .own) ≡ n .page) here
-      (λ d _ z. page-next p c here r m x (client p d .own) z (by-own p c here r m x (client p d .own) z d refl) ∙ r .outline .own-page d z) (mine (x .own))
+      (λ d _ z. page-next x (client p d .own) z (by-own x (client p d .own) z d refl) ∙ r .outline .own-page d z) (mine (x .own))
     where
       mine : OwnOk p c m → m .next .own ≢ none → page q (m .next .own) ≡ m .next .page
       mine (forgot e) z = absurd (z e)
-      mine (taken _ _ h _ w) z = page-here p c m (r .shape) (m .next .own) (m .next .page) (rw w refl) h
+      mine (taken _ h _ w) z = page-here p c m (r .shape) (m .next .own) (m .next .page) (rw w refl) h
       mine (kept e _) z =
           let o : k .own ≢ none = λ y. z (e ∙ y) in
-          ap (page q) e ∙ page-next p c here r m x (k .own) o (by-own p c here r m x (k .own) o c refl) ∙ r .outline .own-page c o ∙ sym (t .wants o e)
+          ap (page q) e ∙ page-next x (k .own) o (by-own x (k .own) o c refl) ∙ r .outline .own-page c o ∙ sym (t .wants o e)
 
   outline-of : Edge p c m → Tells p c m → Outline q
   outline-of e t =
@@ -248,8 +236,8 @@ module _ (p : Pool) (c : ℕ) (here : c < clientCount p) (r : Reached p) (m : Mo
         pages-apart = pages-next;
         granted = granted-next;
         grant-named = named-next;
-        knowing = all-clients p c m (r .shape) (λ _ n. Knows (n .stage) q n) here (λ d _. carry p c here r m x d (client p d .stage) refl)
-            (learns p c here r e x);
+        knowing = all-clients p c m (r .shape) (λ _ n. Knows (n .stage) q n) here (λ d _. carry x d (client p d .stage) refl)
+            (learns p c r e x);
         resident = resident-next;
         known = λ f z. known-next f z t;
         no-found = all-clients p c m (r .shape) (λ _ n. NoFound n) here (λ d _. r .outline .no-found d) (t .no-found);
@@ -260,7 +248,7 @@ module _ (p : Pool) (c : ℕ) (here : c < clientCount p) (r : Reached p) (m : Mo
 
 -- ---- each kind of move
 
-module _ (p : Pool) (c : ℕ) (here : c < clientCount p) (r : Reached p) where
+module _ (p : Pool) (c : ℕ) (r : Reached p) where
   abbrev me : Client
   me = client p c
 
@@ -302,14 +290,14 @@ module _ (p : Pool) (c : ℕ) (here : c < clientCount p) (r : Reached p) where
   tells (takes e _) x = ownless-now (r .counts .owns-none c (rw e tt)) (λ _. foundless-now 4 e tt) (λ _. victimless-now 4 e tt)
   tells (fills e _) x = stays refl refl (λ _. foundless-now 8 e tt) (λ _. victimless-now 8 e tt)
   tells (swaps e _) x = stays refl refl (λ _. foundless-now 15 e tt) never
-  tells (gives-up v _) x = ends refl (λ _. refl) (λ _. refl) (λ z. inr (inr (stranded p c here r x (v .is-unplaced) z)))
+  tells (gives-up v _) x = ends refl (λ _. refl) (λ _. refl) (λ z. inr (inr (stranded p c r x (v .is-unplaced) z)))
   tells (drops e _) x = stays refl refl (λ _. foundless-now 14 e tt) never
   tells (removes e _) x = stays refl refl (λ _. foundless-now 17 e tt) (λ _. refl)
   tells {m} (admits e _ u) x =
-      ends refl (λ _. refl) (λ _. refl) (λ z. inl (suc-not (own-mapped p c here r m x _ _ (me .own) refl z refl (unused-found p (r .shape) u .0))))
+      ends refl (λ _. refl) (λ _. refl) (λ z. inl (suc-not (own-mapped x _ _ (me .own) refl z refl (unused-found p (r .shape) u .0))))
   tells {m} (revives e l) x =
       ends refl (λ _. refl) (λ _. refl)
-      (λ z. inl (suc-not (own-mapped p c here r m x _ _ (me .own) refl z refl (lookup-found p (r .shape) (me .page) (λ w. kn 22 e .1 .0 (sym l ∙ w)) .place))))
+      (λ z. inl (suc-not (own-mapped x _ _ (me .own) refl z refl (lookup-found p (r .shape) (me .page) (λ w. kn 22 e .1 .0 (sym l ∙ w)) .place))))
   tells {m} (evicts20 e) x =
       ends refl never (λ _. victimless-now 20 e tt) (λ z. inr (inl (pins-here p c m (r .shape) (me .own) evicted refl (r .ranges .own-ok c z))))
   tells {m} (evicts23 e) x =
@@ -319,4 +307,4 @@ module _ (p : Pool) (c : ℕ) (here : c < clientCount p) (r : Reached p) where
   tells (releases g e _) x = stays refl refl (λ _. foundless-now 0 e tt) (λ _. victimless-now 0 e tt)
 
   pub outline-next : {m : Move} → Edge p c m → Effect p c m → Outline (apply p c m)
-  outline-next {m} e x = outline-of p c here r m x e (tells e x)
+  outline-next {m} e x = outline-of x e (tells e x)

@@ -22,14 +22,20 @@ pub record Secret (p : Pool) (c : ℕ) (n : Client) (f : ℕ) : Type 0 where
   pub ungranted : (d i : ℕ) → grantFrame p d i ≢ f
   pub not-left : n .own ≡ none → client p c .own ≢ f
 
-module _ (p : Pool) (c : ℕ) (here : c < clientCount p) (r : Reached p) (m : Move) (x : Effect p c m) where
+module _ {p : Pool} {c : ℕ} {m : Move} (x : Effect p c m) where
+  abbrev r : Reached p
+  r = x .reached
+
+  abbrev here : c < clientCount p
+  here = x .here
+
   abbrev q : Pool
   q = apply p c m
 
   -- such a frame stays so
   module _ (f : ℕ) (z : f ≢ none) (s : Secret p c (m .next) f) where
     pub secret-unmapped : mapped q f ≡ 0
-    secret-unmapped = unmapped-next p c here r m x f z (s .unmapped) (s .not-left)
+    secret-unmapped = unmapped-next x f z (s .unmapped) (s .not-left)
 
     pub secret-unfound : (d : ℕ) → client q d .found ≢ f
     secret-unfound = all-clients p c m (r .shape) (λ _ n. n .found ≢ f) here (λ d _. s .unfound d) (mine (x .found))
@@ -37,15 +43,15 @@ module _ (p : Pool) (c : ℕ) (here : c < clientCount p) (r : Reached p) (m : Mo
         mine : FoundOk p c m → m .next .found ≢ f
         mine (found-stays e) = λ w. s .unfound c (sym e ∙ w)
         mine (lost e) = λ w. z (sym w ∙ e)
-        mine (looked _ _ n) = λ w. n (ap (mapped p) w ∙ s .unmapped)
+        mine (looked _ n) = λ w. n (ap (mapped p) w ∙ s .unmapped)
 
     pub secret-ungranted : (d i : ℕ) → grantFrame q d i ≢ f
     secret-ungranted d i w =
-        all-grants p c here r m x (λ _ y. y ≢ f) (λ d i _. s .ungranted d i) (λ g y e. new (x .opened g y e)) d i (grant-in q d i (λ n. z (sym w ∙ n))) w
+        all-grants x (λ _ y. y ≢ f) (λ d i _. s .ungranted d i) (λ g y e. new (x .opened g y e)) d i (grant-in q d i (λ n. z (sym w ∙ n))) w
       where
         new : {g y : ℕ} → Opened p c m g y → y ≢ f
         new (of-found e _ _ _) = λ w. s .unfound c (sym e ∙ w)
-        new (of-own _ e _ _ o _ _) = λ w. s .not-left o (sym e ∙ w)
+        new (of-own _ e _ o _ _) = λ w. s .not-left o (sym e ∙ w)
 
   own-secret : (d : ℕ) → client q d .own ≢ none → Secret p c (m .next) (client q d .own)
   own-secret = all-clients p c m (r .shape) (λ _ n. n .own ≢ none → Secret p c (m .next) (n .own)) here others (mine (x .own))
@@ -69,7 +75,7 @@ module _ (p : Pool) (c : ℕ) (here : c < clientCount p) (r : Reached p) (m : Mo
             ungranted = λ d i w. r .private .own-ungranted c d i o (w ∙ e);
             not-left = λ w. absurd (z w);
           }
-      mine (taken _ _ _ e _) z =
+      mine (taken _ _ e _) z =
           let f = fresh-means p (m .next .own) z e in
           record { unmapped = mapped-zero p (m .next .own) (f .no-entry); unfound = f .no-found; ungranted = f .no-grant; not-left = λ _. f .no-own c }
 

@@ -1,28 +1,31 @@
--- Every number stays in its range. Pins are at most 128 because no client claims a frame more than 8 times (`one-more`). Assumes nothing.
+-- Every number stays in its range: what a move writes is in range (`Effects`), the next record has the numbers of the last one, or those of a client
+-- at rest, or new ones that its stage reduced. Pins are at most 128 because no client claims a frame more than 8 times (`one-more`). Assumes nothing.
 use mathlib.Core.Path.{_≡_, refl, sym, ap, _∙_}
-use mathlib.Core.Logic.{_≢_, _⊎_, inl, inr}
+use mathlib.Core.Logic.{_≢_, inl, inr}
 use Prim.Native.Nat.{ℕ, _+_, _≤_, _<_}
 use native.Mathlib.Omega.{arith}
 use native.Mathlib.Decide.{ℕ-discrete, decLt}
 use lib.Dec.{T, eqb, leb}
 use mathlib.Core.Bool.{not}
 use Rattle.pool.specs.State.{none, pinned, clientCount, total, slot, pins, count, entryFrame, client, grantFrame}
-use Rattle.pool.specs.Apply.{countsAfter, freeAfter, lastAfter, apply}
+use Rattle.pool.specs.Apply.{apply}
 use Rattle.pool.specs.declared.Pool.{Pool}
 use Rattle.pool.specs.declared.Client.{Client}
 use Rattle.pool.specs.declared.Move.{Move}
-use Rattle.pool.specs.declared.Write.{Write}
 use Rattle.invariant.proofs.Reached.{Reached, Ranges}
-use Rattle.invariant.proofs.After.{CountsStay, CountsPut, all-clients, pins-kept, pins-here, pins-else, pins-in, count-kept, count-here, count-else, count-past, entryFrame-kept}
-use Rattle.invariant.proofs.Searches.{grant-in, free-found}
+use Rattle.invariant.proofs.After.{all-clients, pins-kept, pins-here, pins-else, pins-in, count-kept, count-here, count-else, count-past}
+use Rattle.invariant.proofs.After.{entryFrame-kept}
+use Rattle.invariant.proofs.Searches.{grant-in}
 use Rattle.invariant.proofs.Table.{put-frame, else-frame}
 use Rattle.invariant.proofs.Flags.{differ, at-most}
-use Rattle.invariant.proofs.Facts.{raised-ok}
-use Rattle.invariant.proofs.Edges.{Quiet, keep, hand, counts, free, Edge, on, found1, found18, lost2, lost22, pins2, pins19, gets3, gets21, takes, fills, swaps, gives-up, drops, removes, admits, revives, evicts20, evicts23, begins, releases}
-use Rattle.invariant.proofs.Effects.{OwnOk, forgot, kept, taken, PinChange, adds, lowers, drops-victim, drops-own, takes-one, PinsOk, pins-stay, pins-put, FoundOk, found-stays, lost, looked, Opened, of-found, of-own, EntryOk, entries-stay, maps, unmaps, Effect}
+use Rattle.invariant.proofs.Edges.{Edge, on, found1, found18, lost2, lost22, pins2, pins19, gets3, gets21, takes, fills, swaps, gives-up, drops}
+use Rattle.invariant.proofs.Edges.{removes, admits, revives, evicts20, evicts23, begins, releases}
+use Rattle.invariant.proofs.Effects.{CountOk, counts-stay, counts-put, OwnOk, forgot, kept, taken, PinChange, adds, lowers, drops-victim, drops-own}
+use Rattle.invariant.proofs.Effects.{takes-one, PinsOk, pins-stay, pins-put, FoundOk, found-stays, lost, looked, Opened, of-found, of-own, EntryOk}
+use Rattle.invariant.proofs.Effects.{entries-stay, maps, unmaps, Effect}
 use Rattle.invariant.proofs.Next.{SlotNow, slot-now, all-grants}
 
--- ---- what a move has to show: the numbers of the next record, and those that it writes
+-- ---- what a move has to show of the next record
 
 record Numbers (p : Pool) (n : Client) : Type 0 where
   stage-ok : n .stage ≤ 23
@@ -33,56 +36,11 @@ record Numbers (p : Pool) (n : Client) : Type 0 where
   working-held : n .stage ≢ 0 → n .held ≤ 7
   victim-ok : n .victim ≢ none → n .victim < total p
 
-data CountOk (p : Pool) (w : Write) : Type 0 where
-  counts-stay : CountsStay p w → CountOk p w
-  counts-put : (f x : ℕ) → CountsPut p w f x → x ≤ p .cap → CountOk p w
-
-record Written (p : Pool) (w : Write) : Type 0 where
-  free-ok : freeAfter (p .free) w ≤ p .size
-  last-ok : (lastAfter (p .last) w ≡ none) ⊎ (lastAfter (p .last) w < total p)
-  count-ok : CountOk p w
-
 -- ---- each kind of move shows it
 
 module _ (p : Pool) (c : ℕ) (r : Reached p) where
   abbrev k : Client
   k = client p c
-
-  -- free, the last frame taken and the counts are not written
-  unwritten : {w : Write} → freeAfter (p .free) w ≡ p .free → lastAfter (p .last) w ≡ p .last → CountsStay p w → Written p w
-  unwritten a b e = record { free-ok = rw a (r .ranges .free-ok); last-ok = rw b (r .ranges .last-ok); count-ok = counts-stay e }
-
-  quiet-written : {w : Write} → Quiet p w → Written p w
-  unfolding freeAfter lastAfter countsAfter
-  quiet-written keep = unwritten refl refl refl
-  quiet-written hand = unwritten refl refl refl
-  quiet-written (counts {f} {x} h) = record { free-ok = r .ranges .free-ok; last-ok = r .ranges .last-ok; count-ok = counts-put f x refl h }
-  quiet-written (free h) = record { free-ok = h; last-ok = r .ranges .last-ok; count-ok = counts-stay refl }
-
-  written : {m : Move} → Edge p c m → Written p (m .write)
-  unfolding freeAfter lastAfter countsAfter
-  written (on n j w h) = quiet-written (h .quiet)
-  written (found1 _ _) = unwritten refl refl refl
-  written (found18 _ _) = unwritten refl refl refl
-  written (lost2 _ _) = unwritten refl refl refl
-  written (lost22 _ _) = unwritten refl refl refl
-  written (pins2 _ _) = unwritten refl refl refl
-  written (pins19 _ _) = unwritten refl refl refl
-  written (gets3 _) = quiet-written (counts (raised-ok _ _ (r .ranges .count-ok (k .found))))
-  written (gets21 _) = quiet-written (counts (raised-ok _ _ (r .ranges .count-ok (k .found))))
-  written (takes _ z) =
-      record { free-ok = r .ranges .free-ok; last-ok = inr (free-found p (r .shape) z .0); count-ok = counts-put _ 1 refl (r .shape .cap-low) }
-  written (fills _ _) = unwritten refl refl refl
-  written (swaps _ _) = unwritten refl refl refl
-  written (gives-up _ _) = unwritten refl refl refl
-  written (drops _ _) = unwritten refl refl refl
-  written (removes _ _) = unwritten refl refl refl
-  written (admits _ _ _) = unwritten refl refl refl
-  written (revives _ _) = unwritten refl refl refl
-  written (evicts20 _) = unwritten refl refl refl
-  written (evicts23 _) = unwritten refl refl refl
-  written (begins _ _ _) = unwritten refl refl refl
-  written (releases _ _ _) = unwritten refl refl refl
 
   -- a client at work goes on with its numbers
   as-was : (n : Client) (i : ℕ) → k .stage ≡ i → T (not (eqb i 0)) → T (leb (n .stage) 23) → n .place ≡ k .place → n .busy ≡ k .busy
@@ -168,7 +126,13 @@ module _ (p : Pool) (c : ℕ) (r : Reached p) where
 
 -- ---- the layer is kept
 
-module _ (p : Pool) (c : ℕ) (here : c < clientCount p) (r : Reached p) (m : Move) (e : Edge p c m) (x : Effect p c m) where
+module _ {p : Pool} {c : ℕ} {m : Move} (e : Edge p c m) (x : Effect p c m) where
+  abbrev r : Reached p
+  r = x .reached
+
+  abbrev here : c < clientCount p
+  here = x .here
+
   abbrev q : Pool
   q = apply p c m
 
@@ -179,37 +143,37 @@ module _ (p : Pool) (c : ℕ) (here : c < clientCount p) (r : Reached p) (m : Mo
   pins-range f = go (x .pins)
     where
       go : PinsOk p c m → pins q f ≤ pinned 128
-      go (pins-stay w) = rw (pins-kept p c m (r .shape) w f) (r .ranges .pins-ok f)
-      go (pins-put g y w h _ ch) = by (ℕ-discrete f g)
+      go (pins-stay w) = rw (pins-kept p c m w f) (r .ranges .pins-ok f)
+      go (pins-put g y w h ch) = by (ℕ-discrete f g)
         where
           least : PinChange p c m g y → y ≤ pinned 128
-          least (adds _ _ _ l) = l
-          least (lowers _ _ _ v) = omega (arith, r .ranges .pins-ok g)
+          least (adds _ _ l) = l
+          least (lowers _ v) = omega (arith, r .ranges .pins-ok g)
           least (drops-victim _ _ v _ _ _ _) = omega arith
-          least (drops-own _ _ v _) = omega arith
-          least (takes-one _ _ v) = omega arith
+          least (drops-own _ v) = omega arith
+          least (takes-one _ v) = omega arith
 
           by : Dec (f ≡ g) → pins q f ≤ pinned 128
           by (yes v) = rw (ap (pins q) v ∙ pins-here p c m (r .shape) g y w h) (least ch)
-          by (no v) = rw (pins-else p c m (r .shape) g y w f v) (r .ranges .pins-ok f)
+          by (no v) = rw (pins-else p c m g y w f v) (r .ranges .pins-ok f)
 
   count-range : (f : ℕ) → count q f ≤ p .cap
   unfolding apply
-  count-range f = go (written p c r e .count-ok)
+  count-range f = go (x .written .count-ok)
     where
       go : CountOk p (m .write) → count q f ≤ p .cap
-      go (counts-stay w) = rw (count-kept p c m (r .shape) w f) (r .ranges .count-ok f)
+      go (counts-stay w) = rw (count-kept p c m w f) (r .ranges .count-ok f)
       go (counts-put g y w l) = by (ℕ-discrete f g) (decLt g (total p))
         where
           by : Dec (f ≡ g) → Dec (g < total p) → count q f ≤ p .cap
           by (yes v) (yes h) = rw (ap (count q) v ∙ count-here p c m (r .shape) g y w h) l
           by (yes v) (no h) = rw (ap (count q) v ∙ count-past q g (omega arith)) (omega arith)
-          by (no v) _ = rw (count-else p c m (r .shape) g y w f v) (r .ranges .count-ok f)
+          by (no v) _ = rw (count-else p c m g y w f v) (r .ranges .count-ok f)
 
   slot-range : (i : ℕ) → slot q i ≢ none → slot q i < total p
-  slot-range i z = go (slot-now p c here r m x i)
+  slot-range i z = go (slot-now x i)
     where
-      go : SlotNow p c here r m x i → slot q i < total p
+      go : SlotNow x i → slot q i < total p
       go (inl w) = rw w (r .ranges .slot-ok i (λ n. z (w ∙ n)))
       go (inr w) = rw (w .0) (r .ranges .own-ok c (w .3))
 
@@ -217,13 +181,13 @@ module _ (p : Pool) (c : ℕ) (here : c < clientCount p) (r : Reached p) (m : Mo
   entry-range i z = go (x .entries)
     where
       go : EntryOk p c m → entryFrame q i < total p
-      go (entries-stay _ w) = let s = entryFrame-kept p c m (r .shape) w i in rw s (r .ranges .entry-ok i (λ n. z (s ∙ n)))
+      go (entries-stay _ w) = let s = entryFrame-kept p c m w i in rw s (r .ranges .entry-ok i (λ n. z (s ∙ n)))
       go (maps j w h o _ _ _ _) = by (ℕ-discrete i j)
         where
           by : Dec (i ≡ j) → entryFrame q i < total p
           by (yes v) = rw (ap (entryFrame q) v ∙ put-frame p c m (r .shape) j _ _ w h) (r .ranges .own-ok c o)
           by (no v) = let s = else-frame p c m (r .shape) j _ _ w h i v in rw s (r .ranges .entry-ok i (λ n. z (s ∙ n)))
-      go (unmaps j _ w h _ _ _) = by (ℕ-discrete i j)
+      go (unmaps j _ w h _ _) = by (ℕ-discrete i j)
         where
           by : Dec (i ≡ j) → entryFrame q i < total p
           by (yes v) = absurd (z (ap (entryFrame q) v ∙ put-frame p c m (r .shape) j _ _ w h))
@@ -232,26 +196,26 @@ module _ (p : Pool) (c : ℕ) (here : c < clientCount p) (r : Reached p) (m : Mo
   own-range : OwnOk p c m → m .next .own ≢ none → m .next .own < total p
   own-range (forgot w) z = absurd (z w)
   own-range (kept w _) z = rw w (r .ranges .own-ok c (λ n. z (w ∙ n)))
-  own-range (taken _ _ h _ _) z = h
+  own-range (taken _ h _ _) z = h
 
   found-range : FoundOk p c m → m .next .found ≢ none → m .next .found < total p
   found-range (found-stays w) z = rw w (r .ranges .found-ok c (λ n. z (w ∙ n)))
   found-range (lost w) z = absurd (z w)
-  found-range (looked _ h _) z = h
+  found-range (looked h _) z = h
 
   grant-range : (d i : ℕ) → grantFrame q d i ≢ none → grantFrame q d i < total p
   grant-range d i z =
-      all-grants p c here r m x (λ _ f. f ≢ none → f < total p) (λ d i _. r .ranges .grant-ok d i) (λ g f w. new (x .opened g f w)) d i (grant-in q d i z) z
+      all-grants x (λ _ f. f ≢ none → f < total p) (λ d i _. r .ranges .grant-ok d i) (λ g f w. new (x .opened g f w)) d i (grant-in q d i z) z
     where
       new : {g f : ℕ} → Opened p c m g f → f ≢ none → f < total p
       new {g} {f} (of-found _ _ _ l) _ = pins-in p f (λ n. let y : ⊥ = omega arith in y)
-      new (of-own _ w _ _ _ _ _) z = rw w (r .ranges .own-ok c (λ n. z (w ∙ n)))
+      new (of-own _ w _ _ _ _) z = rw w (r .ranges .own-ok c (λ n. z (w ∙ n)))
 
   pub ranges-next : Ranges q
   unfolding apply
   ranges-next =
       let n = numbers p c r e in
-      let w = written p c r e in
+      let w = x .written in
       record {
         free-ok = w .free-ok;
         last-ok = w .last-ok;

@@ -1,5 +1,5 @@
--- What the searches of the pool find: the look-up of a page, the unused place of the table, a client's grant on a page, the frame that stage 4
--- takes; and what it means that a frame is not referenced. Assumes nothing.
+-- What the searches of the pool find: the look-up of a page, the unused place of the table, a client's grant on a page, the frame that stage 4 takes;
+-- and what it means that a frame is not referenced: nothing at all names it. A search that finds nothing has tried every place. Assumes nothing.
 use mathlib.Core.Path.{_≡_, refl, sym, ap, _∙_}
 use mathlib.Core.Logic.{_≢_}
 use mathlib.Core.Bool.{Bool, true, false, not}
@@ -10,7 +10,7 @@ use native.Mathlib.Decide.{ℕ-discrete, decLt}
 use lib.Dec.{eqb}
 use borrow.Author.Tests.{eqb-true, eqb-false, eq-eqb, ne-eqb, not-true, not-false, le-ltb}
 use Rattle.pool.specs.Choose.{some}
-use Rattle.pool.specs.State.{none, clientCount, total, slot, entryPage, entryFrame, client, ofClient, grantPage, grantFrame}
+use Rattle.pool.specs.State.{none, evicted, clientCount, total, slot, pins, entryPage, entryFrame, client, ofClient, grantPage, grantFrame}
 use Rattle.pool.specs.Table.{maps, entryOf, lookup, unusedEntry}
 use Rattle.pool.specs.Grants.{grantOf, holds}
 use Rattle.pool.specs.Frames.{names, referenced, firstTried, tried, freeFrame}
@@ -19,16 +19,20 @@ use Rattle.pool.specs.declared.Client.{Client}
 use Rattle.laws.specs.Choices.{by-test, passed, scan-ind}
 use Rattle.laws.specs.Scans.{both-true, both-yes, either-false, scan-none, some-not, first-found, first-none}
 use Rattle.invariant.proofs.Reached.{Shape}
-use Rattle.invariant.proofs.After.{slot-past, entryFrame-past, entry-in, client-past}
+use Rattle.invariant.proofs.After.{few-frames, inside, slot-past, pins-past, entryFrame-past, entry-in, client-past}
 
 -- ---- the table
 
 module _ (p : Pool) (shape : Shape p) where
-  pub few-frames : total p ≤ 96
-  few-frames = let a = shape .size-high in let b = shape .clients-high in omega arith
-
-  pub some-frames : 0 < total p
+  some-frames : 0 < total p
   some-frames = let a = shape .size-low in omega arith
+
+  -- what is not a frame counts as evicted, so what is not evicted is a frame
+  pub none-evicted : pins p none ≡ evicted
+  none-evicted = pins-past p none (omega (arith, few-frames p shape))
+
+  pub live-named : (f : ℕ) → pins p f ≢ evicted → f ≢ none
+  live-named f live z = live (ap (pins p) z ∙ none-evicted)
 
   module _ (g : ℕ) where
     entry-found : entryOf p g ≢ none → (entryOf p g < total p) × (entryPage p (entryOf p g) ≡ g) × (entryFrame p (entryOf p g) ≢ none)
@@ -49,7 +53,7 @@ module _ (p : Pool) (shape : Shape p) where
     lookup-found z = go (ℕ-discrete (entryOf p g) none)
       where
         go : Dec (entryOf p g ≡ none) → Found (entryOf p g) (entryFrame p (entryOf p g))
-        go (yes e) = absurd (z (ap (entryFrame p) e ∙ entryFrame-past p none (omega (arith, few-frames))))
+        go (yes e) = absurd (z (ap (entryFrame p) e ∙ entryFrame-past p none (omega (arith, few-frames p shape))))
         go (no e) = let r = entry-found e in record { place = r .0; entry-page = r .1; entry-frame = refl }
 
     -- one that finds none leaves no entry of the page
@@ -61,7 +65,7 @@ module _ (p : Pool) (shape : Shape p) where
         go (no n) = entry-found n .2 e
         go (yes n) =
             let t : maps p g i ≡ true = both-yes _ _ (eq-eqb _ _ q) (rw (ne-eqb (entryFrame p i) none z)) in
-            let f : maps p g i ≡ false = first-none (maps p g) (total p) (omega (arith, few-frames)) n i (entry-in p i z) in
+            let f : maps p g i ≡ false = first-none (maps p g) (total p) (omega (arith, few-frames p shape)) n i (entry-in p i z) in
             let c : _≡_ {A = Bool} true false = sym t ∙ f in
             let z : _≡_ {A = ℕ} 0 1 = cc in
             omega arith
@@ -82,7 +86,7 @@ module _ (p : Pool) (shape : Shape p) where
 
   pub unused-none : unusedEntry p ≡ none → (i : ℕ) → i < total p → entryFrame p i ≢ none
   unfolding unusedEntry
-  unused-none e i h = eqb-false _ _ (first-none (λ i. eqb (entryFrame p i) none) (total p) (omega (arith, few-frames)) e i h)
+  unused-none e i h = eqb-false _ _ (first-none (λ i. eqb (entryFrame p i) none) (total p) (omega (arith, few-frames p shape)) e i h)
 
 -- ---- grants
 
@@ -91,11 +95,7 @@ unfolding grantFrame ofClient
 grantFrame-past p c i h = passed _ _ _ (le-ltb i (client p c .held) h)
 
 pub grant-in : (p : Pool) (c i : ℕ) → grantFrame p c i ≢ none → i < client p c .held
-grant-in p c i z = go (decLt i (client p c .held))
-  where
-    go : Dec (i < client p c .held) → i < client p c .held
-    go (yes h) = h
-    go (no h) = absurd (z (grantFrame-past p c i (omega arith)))
+grant-in p c i z = inside i (client p c .held) (λ h. z (grantFrame-past p c i h))
 
 pub grantOf-found : (p : Pool) (c g : ℕ) → grantOf p c g ≢ none → (grantOf p c g < client p c .held) × (grantPage p c (grantOf p c g) ≡ g)
 unfolding grantOf

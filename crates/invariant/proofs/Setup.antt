@@ -1,12 +1,13 @@
--- A pool that is set up is reached: nothing is in its slots and its table, every frame is evicted, every client rests. Assumes nothing.
+-- A pool that is set up is reached: nothing is in its slots and its table, every frame is evicted, every client rests. So most clauses speak of
+-- nothing, and the rest count to 0. Assumes nothing.
 use mathlib.Core.Path.{_≡_, refl, sym, ap, _∙_}
 use mathlib.Core.Logic.{_≢_, inl}
 use mathlib.Core.Bool.{true}
-use Prim.Native.Nat.{ℕ, zero, suc, _≤_, _<_}
+use Prim.Native.Nat.{ℕ, _≤_, _<_}
 use native.Mathlib.Omega.{arith}
 use native.Mathlib.Decide.{decLt}
 use lib.Dec.{eqb}
-use lib.ListN.{getD, replicate}
+use lib.ListN.{replicate, getD-replicate}
 use borrow.Author.Tests.{ltb-true, leb-true}
 use Rattle.pool.specs.State.{none, evicted, total, within, resting, no-client, slot, pins, count, entryFrame, client, grantFrame}
 use Rattle.pool.specs.Valid.{numbersOk}
@@ -16,16 +17,11 @@ use Rattle.pool.specs.declared.Client.{Client}
 use Rattle.laws.specs.Choices.{by-test}
 use Rattle.laws.specs.Scans.{both-true}
 use Rattle.invariant.proofs.Reached.{Shape, Reached, gone, one, mapped, claims, claimed, filling}
-use Rattle.invariant.proofs.After.{within-in, within-past}
+use Rattle.invariant.proofs.After.{few-frames, within-in, within-past}
 use Rattle.invariant.proofs.Sums.{sum-zero, sum-full}
 use Rattle.invariant.proofs.Searches.{grantFrame-past}
 use Rattle.invariant.proofs.Table.{suc-not, mapped-zero}
 use Rattle.invariant.proofs.Facts.{rest-claims}
-
-getD-replicate : {A : Type 0} (n i : ℕ) (x d : A) → i < n → getD (replicate n x) i d ≡ x
-getD-replicate zero i x d h = let z : ⊥ = omega arith in absurd z
-getD-replicate (suc n) zero x d h = refl
-getD-replicate (suc n) (suc i) x d h = getD-replicate n i x d (omega arith)
 
 -- a list that is d throughout
 within-same : (m n d i : ℕ) → n ≤ m → within (replicate m d) n d i ≡ d
@@ -39,17 +35,9 @@ module _ (s t c h : ℕ) (ok : numbersOk s t c ≡ true) where
   abbrev p : Pool
   p = fresh s t c h
 
-  record Small : Type 0 where
-    size-low : 1 ≤ s
-    size-high : s ≤ 64
-    clients-low : 1 ≤ t
-    clients-high : t ≤ 16
-    cap-low : 1 ≤ c
-    cap-high : c ≤ 100
-
-  small : Small
+  shape : Shape p
   unfolding numbersOk
-  small =
+  shape =
       let a = both-true _ _ ok in
       let b = both-true _ _ (a .1) in
       let d = both-true _ _ (b .1) in
@@ -62,18 +50,6 @@ module _ (s t c h : ℕ) (ok : numbersOk s t c ≡ true) where
         clients-high = leb-true _ _ (e .0);
         cap-low = ltb-true _ _ (f .0);
         cap-high = leb-true _ _ (f .1);
-      }
-
-  shape : Shape p
-  shape =
-      let n = small in
-      record {
-        size-low = n .size-low;
-        size-high = n .size-high;
-        clients-low = n .clients-low;
-        clients-high = n .clients-high;
-        cap-low = n .cap-low;
-        cap-high = n .cap-high;
         slots = refl;
         pages = refl;
         pins = refl;
@@ -87,24 +63,24 @@ module _ (s t c h : ℕ) (ok : numbersOk s t c ≡ true) where
 
   slot-none : (i : ℕ) → slot p i ≡ none
   unfolding slot
-  slot-none i = within-same 64 s none i (small .size-high)
+  slot-none i = within-same 64 s none i (shape .size-high)
 
-  pins-none : (f : ℕ) → pins p f ≡ evicted
+  pub pins-none : (f : ℕ) → pins p f ≡ evicted
   unfolding pins
-  pins-none f = let n = small in within-same 96 (total p) evicted f (omega arith)
+  pins-none f = let n = few-frames p shape in within-same 96 (total p) evicted f (omega arith)
 
   count-none : (f : ℕ) → count p f ≡ 0
   unfolding count
-  count-none f = let n = small in within-same 96 (total p) 0 f (omega arith)
+  count-none f = let n = few-frames p shape in within-same 96 (total p) 0 f (omega arith)
 
   entry-none : (i : ℕ) → entryFrame p i ≡ none
   unfolding entryFrame
-  entry-none i = let n = small in within-same 96 (total p) none i (omega arith)
+  entry-none i = let n = few-frames p shape in within-same 96 (total p) none i (omega arith)
 
-  rests : (d : ℕ) → client p d ≡ resting 0
+  pub rests : (d : ℕ) → client p d ≡ resting 0
   unfolding client
   rests d =
-      let n = small in
+      let n = shape in
       by-test (λ (k : Client). k ≡ resting 0) (λ w. getD-replicate 16 d (resting 0) no-client (omega (arith, ltb-true d t w))) (λ _. refl)
 
   grant-none : (d i : ℕ) → grantFrame p d i ≡ none
@@ -116,7 +92,7 @@ module _ (s t c h : ℕ) (ok : numbersOk s t c ≡ true) where
   pub reached-setup : Reached p
   unfolding claimed
   reached-setup =
-      let n = small in
+      let n = shape in
       record {
         shape = shape;
         ranges = record {

@@ -1,20 +1,23 @@
--- Every call that is not turned down in a reached pool makes one of the moves of `Edges`. Assumes nothing.
+-- Every call that is not turned down in a reached pool makes one of the moves of `Edges`: one lemma for each of the 23 stages, a case for each branch
+-- of its definition. A branch that would be stuck is shut by a clause: a frame and an unused entry are there (`Never`), free is not 0 at 6, an own
+-- frame has pins 1, a working client has room for a grant. Assumes nothing.
 use mathlib.Core.Path.{_≡_, refl, sym, ap, _∙_}
 use mathlib.Core.Logic.{_≢_, inl, inr}
-use mathlib.Core.Bool.{Bool, true, false, not}
+use mathlib.Core.Bool.{not}
 use Prim.Native.Nat.{ℕ, _+_, _-_, _≤_, _<_, _%_}
 use native.Mathlib.Nat.{mod-lt}
 use native.Mathlib.Omega.{arith}
 use lib.Dec.{T, eqb}
 use borrow.Author.Tests.{eqb-true, eqb-false, lt-ltb, ltb-true}
-use Rattle.pool.specs.Choose.{choose}
 use Rattle.pool.specs.State.{none, evicted, clientCount, slot, page, pins, count, client, grantFrame}
 use Rattle.pool.specs.Table.{entryOf, lookup, unusedEntry}
 use Rattle.pool.specs.Frames.{freeFrame}
 use Rattle.pool.specs.Grants.{grantOf}
 use Rattle.pool.specs.Moves.{standing, withOwn, withVictim, withSeen, withPlace, sweeping, works, granted}
 use Rattle.pool.specs.Apply.{freeAfter}
-use Rattle.pool.specs.Stages.{around, busyVisit, evictOwn, Stage, stages, noStage, stageMove, stage1, stage2, stage3, stage4, stage5, stage6, stage7, stage8, stage9, stage10, stage11, stage12, stage13, stage14, stage15, stage16, stage17, stage18, stage19, stage20, stage21, stage22, stage23}
+use Rattle.pool.specs.Stages.{around, busyVisit, evictOwn, Stage, stages, noStage, stageMove, stage1, stage2, stage3, stage4, stage5, stage6, stage7, stage8}
+use Rattle.pool.specs.Stages.{stage9, stage10, stage11, stage12, stage13, stage14, stage15, stage16, stage17, stage18, stage19, stage20, stage21, stage22}
+use Rattle.pool.specs.Stages.{stage23}
 use Rattle.pool.specs.Calls.{caller, refusalAt, refusal, releaseMove, moveOf}
 use Rattle.pool.specs.declared.Pool.{Pool}
 use Rattle.pool.specs.declared.Client.{Client}
@@ -30,10 +33,12 @@ use Rattle.invariant.proofs.Each.{Each, fin, _also_, each-in}
 use Rattle.invariant.proofs.Searches.{grantOf-found}
 use Rattle.invariant.proofs.Never.{know, finds-some, room}
 use Rattle.invariant.proofs.Flags.{T-false, never, differ, imp-mp, onward, onward-means, plainly, plainly-means, leavesNone, leaves-none, Visits}
+use Rattle.invariant.proofs.Allowed.{allowed, may-begin, may-step, may-release}
 use Rattle.invariant.proofs.Facts.{own-pins, grant-live, entry-gone}
-use Rattle.invariant.proofs.Edges.{Quiet, keep, hand, counts, free, Alike, grants, Edge, on, found1, found18, lost2, lost22, pins2, pins19, gets3, gets21, takes, fills, swaps, gives-up, drops, removes, admits, revives, evicts20, evicts23, begins, releases}
+use Rattle.invariant.proofs.Edges.{Quiet, keep, hand, counts, free, Alike, grants, Edge, on, found1, found18, lost2, lost22, pins2, pins19, gets3}
+use Rattle.invariant.proofs.Edges.{gets21, takes, fills, swaps, gives-up, drops, removes, admits, revives, evicts20, evicts23, begins, releases}
 
-around-ok : (s i : ℕ) → 0 < s → around s i < s
+pub around-ok : (s i : ℕ) → 0 < s → around s i < s
 unfolding around
 around-ok s i h = by-test (λ (x : ℕ). x < s) (λ t. ltb-true _ _ t) (λ _. h)
 
@@ -200,10 +205,10 @@ module _ (p : Pool) (c : ℕ) (here : c < clientCount p) (r : Reached p) where
   next i n w e h q fr t fl a o = sweeps i (k .start) _ n w e (around-ok _ _ small) h q fr t fl (no-leaves p k i e a) o
 
   visits11 : Visits 11
-  visits11 = record { is-unplaced = tt; is-foundless = tt; no-pin = refl; no-fill = refl; no-leave = tt }
+  visits11 = record { is-unplaced = tt; no-pin = refl; no-fill = refl; no-leave = tt }
 
   visits12 : Visits 12
-  visits12 = record { is-unplaced = tt; is-foundless = tt; no-pin = refl; no-fill = refl; no-leave = tt }
+  visits12 = record { is-unplaced = tt; no-pin = refl; no-fill = refl; no-leave = tt }
 
   visit : (i : ℕ) → client p c .stage ≡ i → T (onward i 11) → T (leavesNone i) → T (not (filling i)) → Visits i → k .own ≢ none → Goes (busyVisit k (p .size))
   unfolding busyVisit freeAfter
@@ -320,7 +325,7 @@ module _ (p : Pool) (c : ℕ) (here : c < clientCount p) (r : Reached p) where
 
   -- ---- each call
 
-  pub step-edge : client p c .stage ≢ 0 → Edge p c (stageMove p k)
+  step-edge : client p c .stage ≢ 0 → Edge p c (stageMove p k)
   unfolding stageMove
   step-edge z = each-in At noStage stages steps (k .stage) (omega (arith, r .ranges .stage-ok c)) refl
     where
@@ -330,7 +335,7 @@ module _ (p : Pool) (c : ℕ) (here : c < clientCount p) (r : Reached p) where
           step1 also step2 also step3 also step4 also step5 also step6 also step7 also step8 also step9 also step10 also step11 also step12 also
           step13 also step14 also step15 also step16 also step17 also step18 also step19 also step20 also step21 also step22 also step23 also fin
 
-  pub release-edge : (g : ℕ) → client p c .stage ≡ 0 → grantOf p c g ≢ none → Edge p c (moveOf p (Release c g))
+  release-edge : (g : ℕ) → client p c .stage ≡ 0 → grantOf p c g ≢ none → Edge p c (moveOf p (Release c g))
   unfolding moveOf releaseMove
   release-edge g e z =
       let i : ℕ = grantOf p c g in
@@ -338,28 +343,12 @@ module _ (p : Pool) (c : ℕ) (here : c < clientCount p) (r : Reached p) where
       let two = grant-live p r c i f in
       by-test Goes (λ t. let x : pins p (grantFrame p c i) ≡ evicted = eqb-true _ _ t in let y : ⊥ = omega arith in absurd y) (λ _. releases g e z)
 
--- a choice of numbers that is 0
-zero-chosen : (t : Bool) (a b : ℕ) → T (not (eqb b 0)) → choose t a b ≡ 0 → (t ≡ true) × (a ≡ 0)
-unfolding choose
-zero-chosen true a b z e = (refl, e)
-zero-chosen false a b z e = absurd (differ b 0 z e)
-
-made : (p : Pool) → Reached p → (x : Call) → caller x < clientCount p → refusalAt p (client p (caller x)) x ≡ 0 → Edge p (caller x) (moveOf p x)
-unfolding caller refusalAt moveOf
-made p r (Begin c g) h e =
-    let a = zero-chosen _ _ 10 tt e in
-    let b = zero-chosen _ _ 12 tt (a .1) in
-    begins g (eqb-true _ _ (a .0)) (ltb-true _ _ (b .0))
-made p r (Step c) h e = step-edge p c h r (λ w. differ 11 0 tt (sym (chosen _ 11 0 (rw w refl)) ∙ e))
-made p r (Release c g) h e =
-    let a = zero-chosen _ _ 10 tt e in
-    release-edge p c h r g (eqb-true _ _ (a .0)) (λ w. differ 13 0 tt (sym (chosen _ 13 0 (rw w refl)) ∙ a .1))
-
 -- a call that nothing turns down is one of a client of the pool, and makes such a move
 pub call-edge : (p : Pool) (x : Call) → Reached p → refusal p x ≡ 0 → (caller x < clientCount p) × Edge p (caller x) (moveOf p x)
-unfolding refusal
-call-edge p x r e =
-    let a = zero-chosen _ _ 8 tt e in
-    let b = zero-chosen _ _ 9 tt (a .1) in
-    let here : caller x < clientCount p = ltb-true _ _ (b .0) in
-    (here, made p r x here (b .1))
+unfolding caller moveOf
+call-edge p x r e = let a = allowed p x e in (a .here, made x (a .here) (a .may))
+  where
+    made : (x : Call) → caller x < clientCount p → refusalAt p (client p (caller x)) x ≡ 0 → Edge p (caller x) (moveOf p x)
+    made (Begin c g) h e = let a = may-begin p (client p c) c g e in begins g (a .0) (a .1)
+    made (Step c) h e = step-edge p c h r (may-step p (client p c) c e)
+    made (Release c g) h e = let a = may-release p (client p c) c g e in release-edge p c h r g (a .0) (a .1)

@@ -1,4 +1,5 @@
--- Sums over the numbers below n. Assumes nothing.
+-- Sums over the numbers below n: what is left of one when a term changes, when all terms but one are 0, when every term has a bound. Claims, empty
+-- slots and grants are counted by such sums. Assumes nothing.
 use mathlib.Core.Path.{_≡_, refl, sym, ap}
 use mathlib.Core.Logic.{_≢_}
 use mathlib.Core.Bool.{Bool, true, false}
@@ -86,6 +87,14 @@ sum-some g (suc n) z = go (ℕ-discrete (g n) 0) (sum-some g n)
     go : Dec (g n ≡ 0) → (sumTo g n ≢ 0 → (i : ℕ) × (i < n) × (g i ≢ 0)) → (i : ℕ) × (i < suc n) × (g i ≢ 0)
     go (no q) ih = (n, omega arith, q)
     go (yes q) ih = let r = ih (λ w. z (omega arith)) in (r .0, omega (arith, r .1), r .2)
+
+-- a sum of tests that is not 0 has one that passes
+pub some-one : (t : ℕ → Bool) (n : ℕ) → sumTo (λ i. one (t i)) n ≢ 0 → (i : ℕ) × (i < n) × (t i ≡ true)
+some-one t n z = let r = sum-some (λ i. one (t i)) n z in (r .0, r .1, passes (t (r .0)) (r .2))
+  where
+    passes : (b : Bool) → one b ≢ 0 → b ≡ true
+    passes true _ = refl
+    passes false n = absurd (n refl)
 
 pub sum-add : (g h : ℕ → ℕ) (n : ℕ) → sumTo (λ i. g i + h i) n ≡ sumTo g n + sumTo h n
 unfolding sumTo

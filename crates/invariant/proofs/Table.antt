@@ -1,4 +1,6 @@
--- The table by frame, `mapped`, and its tie to the entries and to the look-up; how it changes when one entry is put. Assumes nothing.
+-- The table by frame, `mapped`, and its tie to the entries and to the look-up: as no frame is in two entries and no page in two, each way to read the
+-- table tells the same. When one entry is put, the frame put is mapped to, the one it replaces is not, and every other frame keeps its entry. Assumes
+-- nothing.
 use mathlib.Core.Path.{_≡_, refl, sym, ap, _∙_}
 use mathlib.Core.Logic.{_≢_, _⊎_, inl, inr}
 use Prim.Native.Nat.{ℕ, zero, suc, _<_}
@@ -15,7 +17,9 @@ use Rattle.pool.specs.declared.Write.the-variants.{PutEntry}
 use Rattle.laws.specs.Choices.{scan-ind}
 use Rattle.laws.specs.Scans.{scan-none, scan-same, scan-only}
 use Rattle.invariant.proofs.Reached.{Apart, mapped, Shape}
-use Rattle.invariant.proofs.After.{EntryPagesStay, EntryFramesStay, entry-in, entryPage-kept, entryFrame-kept, entryPage-here, entryPage-else, entryFrame-here, entryFrame-else}
+use Rattle.invariant.proofs.After.{EntryPagesStay, EntryFramesStay, entry-in, entryPage-kept, entryFrame-kept, entryPage-here, entryPage-else}
+use Rattle.invariant.proofs.After.{entryFrame-here, entryFrame-else}
+use Rattle.invariant.proofs.Apart.{apart-put}
 use Rattle.invariant.proofs.Searches.{lookup-found, lookup-is}
 
 -- one more than a number is not 0
@@ -44,11 +48,7 @@ module _ (p : Pool) (f : ℕ) where
       (λ _ _ _ q. let c : ⊥ = omega arith in c) e i (omega arith) (omega arith)) w
 
   pub mapped-zero : ((i : ℕ) → entryFrame p i ≢ f) → mapped p f ≡ 0
-  mapped-zero h = go (ℕ-discrete (mapped p f) 0)
-    where
-      go : Dec (mapped p f ≡ 0) → mapped p f ≡ 0
-      go (yes e) = e
-      go (no n) = let r = mapped-entry n in absurd (h (r .0) (r .1))
+  mapped-zero h = elim (ℕ-discrete (mapped p f) 0) [ yes e ↦ e | no n ↦ (let r = mapped-entry n in absurd (h (r .0) (r .1))) ]
 
   pub mapped-is : Apart (entryFrame p) none → f ≢ none → (i : ℕ) → entryFrame p i ≡ f → mapped p f ≡ suc (entryPage p i)
   unfolding mapped
@@ -78,7 +78,7 @@ module _ (p : Pool) (shape : Shape p) where
 
 -- ---- after a move
 
-module _ (p : Pool) (c : ℕ) (m : Move) (shape : Shape p) where
+module _ (p : Pool) (c : ℕ) (m : Move) where
   abbrev q : Pool
   q = apply p c m
 
@@ -102,10 +102,10 @@ module _ (p : Pool) (c : ℕ) (m : Move) (shape : Shape p) where
 
   pub mapped-kept : EntryPagesStay p (m .write) → EntryFramesStay p (m .write)
       → (f : ℕ) → mapped q f ≡ mapped p f
-  mapped-kept a b f = mapped-alike f (λ i. inl (entryFrame-kept p c m shape b i, entryPage-kept p c m shape a i))
+  mapped-kept a b f = mapped-alike f (λ i. inl (entryFrame-kept p c m b i, entryPage-kept p c m a i))
 
   -- one entry is put: at place j, page g and frame f
-  module _ (j g f : ℕ) (e : m .write ≡ PutEntry j g f) (here : j < total p) where
+  module _ (shape : Shape p) (j g f : ℕ) (e : m .write ≡ PutEntry j g f) (here : j < total p) where
     pub put-frame : entryFrame q j ≡ f
     unfolding entryFramesAfter
     put-frame = entryFrame-here p c m shape j f (rw e refl) here
@@ -116,11 +116,11 @@ module _ (p : Pool) (c : ℕ) (m : Move) (shape : Shape p) where
 
     pub else-frame : (i : ℕ) → i ≢ j → entryFrame q i ≡ entryFrame p i
     unfolding entryFramesAfter
-    else-frame = entryFrame-else p c m shape j f (rw e refl)
+    else-frame = entryFrame-else p c m j f (rw e refl)
 
     pub else-page : (i : ℕ) → i ≢ j → entryPage q i ≡ entryPage p i
     unfolding entryPagesAfter
-    else-page = entryPage-else p c m shape j g (rw e refl)
+    else-page = entryPage-else p c m j g (rw e refl)
 
     -- the frames that are neither the one put nor the one replaced keep their entries
     pub put-other : (x : ℕ) → x ≢ f → x ≢ entryFrame p j → mapped q x ≡ mapped p x
@@ -133,17 +133,8 @@ module _ (p : Pool) (c : ℕ) (m : Move) (shape : Shape p) where
     -- the frame put is in no other entry
     module _ (apart : Apart (entryFrame p) none) (only : f ≢ none → (i : ℕ) → i ≢ j → entryFrame p i ≢ f) where
       pub put-apart : Apart (entryFrame q) none
-      put-apart a b z w = go (ℕ-discrete a j) (ℕ-discrete b j)
-        where
-          go : Dec (a ≡ j) → Dec (b ≡ j) → a ≡ b
-          go (yes x) (yes y) = x ∙ sym y
-          go (no x) (no y) = apart a b (λ n. z (else-frame a x ∙ n)) (sym (else-frame a x) ∙ w ∙ else-frame b y)
-          go (yes x) (no y) =
-              let h : entryFrame q a ≡ f = ap (entryFrame q) x ∙ put-frame in
-              absurd (only (λ n. z (h ∙ n)) b y (sym (else-frame b y) ∙ sym w ∙ h))
-          go (no x) (yes y) =
-              let h : entryFrame q b ≡ f = ap (entryFrame q) y ∙ put-frame in
-              absurd (only (λ n. z (w ∙ h ∙ n)) a x (sym (else-frame a x) ∙ w ∙ h))
+      put-apart =
+          apart-put (entryFrame p) (entryFrame q) none apart j else-frame (λ z i o w. only (λ n. z (put-frame ∙ n)) i o (w ∙ put-frame))
 
       pub put-new : f ≢ none → mapped q f ≡ suc g
       put-new z = mapped-is q f put-apart z j put-frame ∙ ap suc put-page

@@ -1,4 +1,5 @@
--- A reached pool is in range, and so passes check 8: a client has the frames that its stage uses, since it knows them. Assumes nothing.
+-- A reached pool is in range, and so passes check 8. Its ranges are clauses; a client has the frames that its stage uses by what it knows there;
+-- and two grants of one page name one frame, the one that the table maps the page to. Assumes nothing.
 use mathlib.Core.Path.{_≡_, refl, sym, ap, _∙_}
 use mathlib.Core.Logic.{_≢_, _⊎_, inl, inr}
 use mathlib.Core.Bool.{Bool, true, false, true≢false}

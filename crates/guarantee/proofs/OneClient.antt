@@ -1,4 +1,5 @@
--- A call as one client sees it: nothing of it changes, or the call is its own and one move. Assumes nothing.
+-- A call as one client sees it: nothing of it changes, or the call is its own and one move. So a client at rest rests until it begins, and is not
+-- answered before. Assumes nothing.
 use mathlib.Core.Path.{_≡_, sym, ap, _∙_}
 use mathlib.Core.Logic.{_⊎_, inl, inr}
 use mathlib.Core.List.{List, [], _∷_}
@@ -16,10 +17,11 @@ use Rattle.pool.specs.declared.Call.the-variants.{Begin, Step, Release}
 use Rattle.pool.specs.declared.Answer.the-variants.{Granted, Refused}
 use Rattle.invariant.proofs.Reached.{Shape, Reached}
 use Rattle.invariant.proofs.After.{client-same, client-other}
+use Rattle.invariant.proofs.Allowed.{Allowed, allowed, may-step}
 use Rattle.invariant.proofs.Calls.{reached-call}
 use Rattle.guarantee.specs.Runs.{happens, events, At, Begins}
 use Rattle.guarantee.specs.Claims.{AnswersTo, TurnedDown}
-use Rattle.guarantee.proofs.Turned.{same-answer, same-stage, other-answer, other-call, moved, Went, down, by-move, went, down-by, Allowed, allowed, may-step, ends, halts, released}
+use Rattle.guarantee.proofs.Turned.{same-answer, same-stage, other-answer, other-call, moved, Went, down, by-move, went, down-by, ends, halts, released}
 
 refused-same : {m n : ℕ} → Refused m ≡ Refused n → m ≡ n
 unfolding refusalOf
@@ -36,17 +38,17 @@ seen p x c s = go (went p x) (ℕ-discrete c (caller x))
   where
     go : Went p x (callOf p x) → Dec (c ≡ caller x) → Seen p x c
     go (down n z e) _ = same (ap (λ (o : Outcome). client (o .pool) c) e) (λ _. (n, same-answer e, down-by p x n z))
-    go (by-move r _ e) (no q) = same (ap (λ (o : Outcome). client (o .pool) c) e ∙ client-other p (caller x) (moveOf p x) s c q) (λ w. absurd (q (sym w)))
+    go (by-move r _ e) (no q) = same (ap (λ (o : Outcome). client (o .pool) c) e ∙ client-other p (caller x) (moveOf p x) c q) (λ w. absurd (q (sym w)))
     go (by-move r _ e) (yes q) =
         let a = allowed p x r in
         mine (sym q) a e (ap (λ (o : Outcome). client (o .pool) c) e ∙ (ap (client (moved p x .pool)) q ∙ client-same p (caller x) (moveOf p x) s (a .here)))
 
 -- ---- a resting client: it rests on, or its begin is done; its steps are turned down
 
-abbrev pub Rests : Pool → Call → ℕ → Type 0
+abbrev Rests : Pool → Call → ℕ → Type 0
 Rests p x c = ((client (callOf p x .pool) c .stage ≡ 0) × (x ≡ Step c → TurnedDown (happens p x))) ⊎ Begins c (happens p x)
 
-pub rests : (p : Pool) (x : Call) (c : ℕ) → Shape p → client p c .stage ≡ 0 → Rests p x c
+rests : (p : Pool) (x : Call) (c : ℕ) → Shape p → client p c .stage ≡ 0 → Rests p x c
 unfolding caller moveOf
 rests p x c s z = go x (seen p x c s)
   where
@@ -55,7 +57,7 @@ rests p x c s z = go x (seen p x c s)
     go (Begin d g) (mine e a o n) = inr (g, ap (λ (i : ℕ). Begin i g) e, same-answer o)
     go (Step d) (mine e a o n) = absurd (may-step p (client p d) d (a .may) (ap (λ (i : ℕ). client p i .stage) e ∙ z))
     go (Release d g) (mine e a o n) =
-        inl (same-stage n ∙ (elim (released p d g) [ ends _ q _ ↦ q ∙ zd | halts q ↦ ap (λ (m : Move). m .next .stage) q ∙ zd ]), λ q. other-call q tt)
+        inl (same-stage n ∙ (elim (released p d g) [ ends _ q ↦ q ∙ zd | halts q ↦ ap (λ (m : Move). m .next .stage) q ∙ zd ]), λ q. other-call q tt)
       where
         zd : client p d .stage ≡ 0
         zd = ap (λ (i : ℕ). client p i .stage) e ∙ z

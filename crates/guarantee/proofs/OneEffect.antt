@@ -18,14 +18,15 @@ use Rattle.pool.specs.declared.Move.{Move}
 use Rattle.pool.specs.declared.Call.{Call}
 use Rattle.pool.specs.declared.Call.the-variants.{Begin, Step, Release}
 use Rattle.invariant.proofs.Reached.{pinsFound, Reached}
-use Rattle.invariant.proofs.Flags.{T-false}
+use Rattle.invariant.proofs.Flags.{T-false, and-parts}
+use Rattle.invariant.proofs.Allowed.{may-begin, may-release}
 use Rattle.invariant.proofs.Calls.{reached-call}
 use Rattle.guarantee.specs.Runs.{Event, happens, events, At, Begins, GrantedTo}
 use Rattle.guarantee.specs.Sequential.{adding, admitting}
 use Rattle.guarantee.specs.Claims.{AnswersTo, TurnedDown, takesEffect, Effects, OneEffect}
-use Rattle.guarantee.proofs.Stages.{and-both, on-edges, on-grants, Fits, goes, grants, refuses, sticks, fits}
-use Rattle.guarantee.proofs.Turned.{same-answer, same-stage, other-answer, may-begin, may-release}
-use Rattle.guarantee.proofs.Seen.{Seen, same, mine, seen, rest-unanswered}
+use Rattle.guarantee.proofs.Stages.{on-edges, on-grants, Fits, goes, grants, refuses, sticks, fits}
+use Rattle.guarantee.proofs.Turned.{same-answer, same-stage, other-answer}
+use Rattle.guarantee.proofs.OneClient.{Seen, same, mine, seen, rest-unanswered}
 
 -- ---- one event of a working client
 
@@ -73,12 +74,12 @@ turn-step p c r z = go (seen p (Step c) c (r .shape))
 
     by-fit : callOf p (Step c) .answer ≡ moveOf p (Step c) .answer → client (callOf p (Step c) .pool) c ≡ moveOf p (Step c) .next
         → Fits (client p c) (moveOf p (Step c)) → Turn c (happens p (Step c))
-    by-fit a n (goes j l w s _) =
+    by-fit a n (goes j l w s) =
         let at : client (callOf p (Step c) .pool) c .stage ≡ j = same-stage n ∙ s in
-        let t = and-both (not (eqb j 0)) _ (on-edges (λ i j. not (eqb j 0) && passes (pinsFound i) (adding i j) (pinsFound j)) tt i j l) in
+        let t = and-parts (not (eqb j 0)) _ (on-edges (λ i j. not (eqb j 0) && passes (pinsFound i) (adding i j) (pinsFound j)) tt i j l) in
         works (λ q. eqb-false j 0 (T-false (eqb j 0) (t .0)) (sym at ∙ q)) (λ g. other-answer (sym (a ∙ w) ∙ g .2) tt)
         (marks c (happens p (Step c)) (adding i j) _ _ refl (ap (takesEffect i) (a ∙ w)) (rw at (t .1)))
-    by-fit a n (grants f l _ w s _) =
+    by-fit a n (grants f l _ w s) =
         granted (same-stage n ∙ s)
         (marks c (happens p (Step c)) (admitting i) _ _ refl (ap (takesEffect i) (a ∙ w))
         (on-grants (λ i. T (passes (pinsFound i) (admitting i) true)) tt tt tt tt i l))

@@ -14,7 +14,8 @@ use Rattle.pool.specs.Table.{lookup, entryOf, unusedEntry}
 use Rattle.pool.specs.Frames.{freeFrame}
 use Rattle.pool.specs.Moves.{withOwn, withFound, withVictim, withSeen, withPlace, sweeping, works, worksAs, stuck, granted, refused15}
 use Rattle.pool.specs.Apply.{apply}
-use Rattle.pool.specs.Stages.{around, advanced, raised, nextSlot, busyVisit, noStage, stages, stageMove, stage1, stage2, stage3, stage4, stage5, stage6, stage7, stage8, stage9, stage10, stage11, stage12, stage13, stage14, stage15, stage16, stage17, stage18}
+use Rattle.pool.specs.Stages.{around, advanced, raised, nextSlot, busyVisit, noStage, stages, stageMove, stage1, stage2, stage3, stage4, stage5, stage6}
+use Rattle.pool.specs.Stages.{stage7, stage8, stage9, stage10, stage11, stage12, stage13, stage14, stage15, stage16, stage17, stage18}
 use Rattle.pool.specs.Calls.{caller, refusalAt, refusal, beginMove, moveOf, callOf}
 use Rattle.pool.specs.declared.Pool.{Pool}
 use Rattle.pool.specs.declared.Client.{Client}
@@ -30,8 +31,9 @@ use Rattle.laws.specs.Choices.{chosen, passed}
 use Rattle.invariant.proofs.Reached.{Reached}
 use Rattle.invariant.proofs.After.{client-same, client-other}
 use Rattle.invariant.proofs.Valid.{valid-reached}
-use Rattle.invariant.proofs.Calls.{never-stuck, call-moves, reached-call}
-use Rattle.guarantee.proofs.Turned.{did, same-answer, same-pool, same-stage, other-answer, Went, down, by-move, went, Allowed, allowed, may-begin}
+use Rattle.invariant.proofs.Allowed.{Allowed, allowed, may-begin}
+use Rattle.invariant.proofs.Calls.{did, never-stuck, call-moves, reached-call}
+use Rattle.guarantee.proofs.Turned.{same-answer, same-pool, same-stage, other-answer, Went, down, by-move, went}
 
 -- a step of a working client is not turned down
 stepped : (p : Pool) (b : ℕ) → Reached p → b < clientCount p → client p b .stage ≢ 0 → refusal p (Step b) ≡ 0
@@ -53,7 +55,7 @@ pub record Goes (p : Pool) (b : ℕ) (m : Move) : Type 0 where
   pub is : callOf p (Step b) ≡ did p b m
 
 module _ {p : Pool} {b g i : ℕ} (on : On p b g (suc i)) where
-  pub stage-is : stageMove p (client p b) ≡ getD stages (suc i) noStage p (client p b)
+  stage-is : stageMove p (client p b) ≡ getD stages (suc i) noStage p (client p b)
   unfolding stageMove
   stage-is = ap (λ (x : ℕ). getD stages x noStage p (client p b)) (on .stage)
 
@@ -61,13 +63,13 @@ module _ {p : Pool} {b g i : ℕ} (on : On p b g (suc i)) where
   allows = stepped p b (on .reached) (on .here) (λ z. let q : suc i ≡ 0 = sym (on .stage) ∙ z in omega arith)
 
   -- where the stage comes to m, the step is m
-  pub goes : {m : Move} → getD stages (suc i) noStage p (client p b) ≡ m → Goes p b m
+  goes : {m : Move} → getD stages (suc i) noStage p (client p b) ≡ m → Goes p b m
   unfolding moveOf caller
   goes {m} e =
       record { is = call-moves p (Step b) (on .reached) allows ∙ ap (did p b) (stage-is ∙ e) }
 
   -- a stuck branch is not taken
-  pub past : (n v : ℕ) {m : Move} → getD stages (suc i) noStage p (client p b) ≡ choose (eqb n v) (stuck (client p b)) m
+  past : (n v : ℕ) {m : Move} → getD stages (suc i) noStage p (client p b) ≡ choose (eqb n v) (stuck (client p b)) m
       → getD stages (suc i) noStage p (client p b) ≡ m
   unfolding moveOf refusalOf
   past n v e =
@@ -95,7 +97,7 @@ module _ {p : Pool} {b : ℕ} {m : Move} (w : Goes p b m) where
         reached = reached-call p (Step b) (on .reached);
         here = onto (on .reached) (on .here) (λ q _. b < clientCount q) (on .here);
         alone = onto (on .reached) (on .here) (λ q _. (c : ℕ) → c ≢ b → client q c .stage ≡ 0)
-            (λ c z. same-stage (client-other p b m (on .reached .shape) c z) ∙ on .alone c z);
+            (λ c z. same-stage (client-other p b m c z) ∙ on .alone c z);
         stage = onto (on .reached) (on .here) (λ _ k. k .stage ≡ j) s;
         page = onto (on .reached) (on .here) (λ _ k. k .page ≡ g) (e ∙ on .page);
       }
@@ -126,7 +128,7 @@ module _ (p : Pool) (b g : ℕ) (done : callOf p (Begin b g) .answer ≡ Done g)
         reached = reached-call p (Begin b g) r;
         here = begun-is (λ q. b < clientCount q) (begun .0 .here);
         alone = begun-is (λ q. (c : ℕ) → c ≢ b → client q c .stage ≡ 0)
-            (λ c z. same-stage (client-other p b m (r .shape) c z) ∙ rest c z);
+            (λ c z. same-stage (client-other p b m c z) ∙ rest c z);
         stage = begun-is (λ q. client q b .stage ≡ 1) (same-stage mine);
         page = begun-is (λ q. client q b .page ≡ g) (ap (λ (k : Client). k .page) mine);
       }
@@ -140,7 +142,7 @@ module _ (p : Pool) (b g : ℕ) (done : callOf p (Begin b g) .answer ≡ Done g)
 -- ---- the steps, one by one
 
 -- client k, which is to rest, is granted frame f
-abbrev pub gets : Client → ℕ → Write → Counted → Move
+abbrev gets : Client → ℕ → Write → Counted → Move
 gets k f w counted = record { next = resting (k .held + 1); grants = Open (k .held) (k .page) f; write = w; answer = Granted f; counted = counted }
 
 -- a working client has room for a grant
