@@ -58,7 +58,8 @@ use Rattle.pool.specs.declared.Row.{Row}
 use Rattle.pool.specs.declared.Pool.{Pool}
 use Rattle.holdings.specs.declared.Collected.{Collected}
 use Rattle.holdings.proofs.Laid.{laid, laid-next, length-laid}
-use Rattle.holdings.proofs.Machine.{pv, av, asked}
+use Rattle.walks.proofs.Machine.{pv, av, asked}
+use Rattle.walks.proofs.Lending.{spelled}
 use Rattle.pool.proofs.Row as T
 use Rattle.pool.proofs.Row.Laws as T′
 use Rattle.pool.proofs.Pool as P
@@ -112,13 +113,6 @@ module _ {M : Type 1} (𝓤 : URA M) (H : Heap 𝓤) (A : Atoms 𝓤) (at-mem : 
   row-of-of : (c : Collected) (i : ℕ) (r : Row) →
       ent 𝓤 (ensured 𝓤 H A row-of.ended (row-of.clauses 𝓤 H A at-mem run) tt (c, (i, tt)) tt r) (fact 𝓤 (r ≡ getD (c .rows) i noRow))
   row-of-of c i r = exE 𝓤 _ (λ ws. snd∗ 𝓤 (sem 𝓤 H A (lasts row-of.ended tt (c, (i, tt)) ws)) (fact 𝓤 (r ≡ getD (c .rows) i noRow)))
-
--- the machine value of a struct is the one that its laws spell
-row-is : (r : Row) (v : Val) → Is T.the-row r (v ∷ []) → Is T.the-row r (tv r ∷ [])
-row-is r v is = subst (Is T.the-row r) (LL.tells T.the-type T′.the-laws r _ is) is
-
-collected-is : (c : Collected) (v : Val) → Is S.the-row c (v ∷ []) → Is S.the-row c (sv c ∷ [])
-collected-is c v is = subst (Is S.the-row c) (LL.tells S.the-type S′.the-laws c _ is) is
 
 module _ {M : Type 1} (𝓤 : URA M) (H : Heap 𝓤) (A : Atoms 𝓤) (W : Given 𝓤 H A) (at-mem : Memory → SProp 𝓤) (run : Routine → Fun 𝓤) (κ : Lft)
     (q : Share) (b o : ℕ) (γ : GName) (p : Pool) (n : ℕ) (ys : List Row) (p-is : Is P.the-row p (pv p ∷ [])) (n-fits : n < 2 ^ 8)
@@ -260,8 +254,9 @@ module _ {M : Type 1} (𝓤 : URA M) (H : Heap 𝓤) (A : Atoms 𝓤) (W : Given
           elem-out ! T.the-row (Is T.the-row) (shows 𝓤 H A T.the-row) (LL.vals T.the-type T′.the-laws) (LL.tells T.the-type T′.the-laws) fullShare
           (after (i .0)) (i .0) noRow b o in-laid (λ _.
           assigns ! (of-opd ! (load ! (from ! (stop !)) (look ! 10 refl))) (from ! (hop ! (look ! 6 refl) (stop !)))
-          (store-raw ! 0 refl (LL.lawful T.the-type T′.the-laws 𝓤 H A W .typed r _ (row-is r v r-is) .0)) $
-          move ! (1 ∷ []) $ drop ! $ owned ! T.the-row (Is T.the-row) (LL.makes T.the-type T′.the-plain 𝓤 H A) r _ (row-is r v r-is) $
+          (store-raw ! 0 refl (LL.lawful T.the-type T′.the-laws 𝓤 H A W .typed r _ (spelled T.the-type T′.the-laws r v r-is) .0)) $
+          move ! (1 ∷ []) $ drop ! $
+          owned ! T.the-row (Is T.the-row) (LL.makes T.the-type T′.the-plain 𝓤 H A) r _ (spelled T.the-type T′.the-laws r v r-is) $
           move ! (1 ∷ 0 ∷ []) $ elem-put ! T.the-row fullShare (after (i .0)) (i .0) r (tv r ∷ []) b o in-laid $
           rewrite ! 0 (λ (l : List Row). ‵ (row T.the-row fullShare l b o))
           (ap (λ (y : Row). set (after (i .0)) (i .0) y) er ∙ laid-next noRow (c .rows) (i .0) ys in-rows in-ys) refl $
@@ -314,12 +309,13 @@ module _ {M : Type 1} (𝓤 : URA M) (H : Heap 𝓤) (A : Atoms 𝓤) (W : Given
         land ! (from ! (stop !)) (init ! 14 refl (LL.lawful S.the-type S′.the-laws 𝓤 H A W .typed c _ is₀ .0)) $
         rewrite ! 14 (λ (u : Val). ‵ (fat fullShare S′.mir l₄ 0 u)) (ap only (LL.tells S.the-type S′.the-laws c _ is₀)) refl $
         assigns ! (of-opd ! (load ! (from ! (fld ! refl (stop !))) (look-in ! 14 (sub ! 2 refl (whole !))))) (from ! (stop !))
-        (init ! 12 refl (tt, record { fits = m-fits c (collected-is c v is₀) told })) $
+        (init ! 12 refl (tt, record { fits = m-fits c (spelled S.the-type S′.the-laws c v is₀) told })) $
         assigns ! (of-opd ! (lit ! tt)) (from ! (stop !)) (init ! 10 refl (tt, record { fits = lit< tt })) $
         -- the borrow is opened, and the loop
         move ! (25 ∷ []) $ fsplit ! $ drop ! $ fsplit ! $ drop ! $ fsplit ! $ move ! (1 ∷ []) $ drop ! $ fsplit ! $ drop ! $ fsplit ! $
         move ! (26 ∷ []) $ split ! $ move ! (1 ∷ []) $ drop ! $ move ! (1 ∷ 2 ∷ 0 ∷ []) $
-        opens-slice ! tt T.the-row ys b o $ looped c (collected-is c v is₀) told 𝓣 known-row l₀ l₁ l₂ l₃ l₄ l₅ l₆ l₇ l₈ l₉ l₁₀ l₁₁))))))))))))))))
+        opens-slice ! tt T.the-row ys b o $
+        looped c (spelled S.the-type S′.the-laws c v is₀) told 𝓣 known-row l₀ l₁ l₂ l₃ l₄ l₅ l₆ l₇ l₈ l₉ l₁₀ l₁₁))))))))))))))))
 
 module _ {M : Type 1} (𝓤 : URA M) (H : Heap 𝓤) (A : Atoms 𝓤) (W : Given 𝓤 H A) (at-mem : Memory → SProp 𝓤) (run : Routine → Fun 𝓤) where
   holdings-walks : (𝓣 : Tables 𝓤 H) → Triple 𝓤 (𝓣 .C #holdings·collect) (Collect 𝓤 H A at-mem run) →

@@ -17,7 +17,7 @@ use prog.Wp.{Heap, Calls, Loops, WpFn, Tables}
 use ghost.Atoms.{Atoms, sem}
 use contract.Monad.{Fun, fact}
 use contract.Running.{givenOf, tables, tablesOf}
-use types.Kit.{Given, ‵, raw, _⊛_, some, later, _$_, _∵_, !, qed, by, move, keep, drop, check, use1, use2, use3, split, join, pick, learn, given}
+use types.Kit.{Given, ‵, raw, _⊛_, some, later, _$_, _∵_, !, qed, by, move, keep, drop, check, use1, use2, use3, split, pick, learn, given}
 use types.Kit.{rewrite, fsplit, fjoin, fpick, fpack, feqL, feqI, suffices, frame, await, done}
 use types.Run.{look, init, forget, stop, from, load, lit, addr, of-opd, and-then, no-more, assigns, land, returns, enter, alloc1, alloc0, params1}
 use types.Run.{pass1, pass0, free1, free0}
@@ -56,7 +56,7 @@ use Rattle.pool.specs.declared.Row.{Row}
 use Rattle.pool.specs.declared.Pool.{Pool}
 use Rattle.pool.specs.declared.Answer.{Answer}
 use Rattle.holdings.specs.declared.Listed.{Listed}
-use Rattle.holdings.proofs.Machine.{pv, av, asked}
+use Rattle.walks.proofs.Machine.{pv, av, asked, asked-lent}
 use Rattle.pool.proofs.Row as T
 use Rattle.pool.proofs.Row.Laws as T′
 use Rattle.pool.proofs.Pool as P
@@ -191,9 +191,7 @@ module _ {M : Type 1} (𝓤 : URA M) (H : Heap 𝓤) (A : Atoms 𝓤) (W : Given
 
   goes : (α b : ℕ) (γ : GName) →
       ent 𝓤 (sep 𝓤 (A .lft (α ∷ []) fullShare) (sem 𝓤 H A (lent-own α b γ))) (Callee 𝓤 H A at-mem run .pre (to-callee α b γ))
-  goes α b γ =
-      qed W (‵ (flft (α ∷ []) fullShare) ∷ ‵ (lent-own α b γ) ∷ []) ∵ nothing ! $ move ! (2 ∷ 0 ∷ []) $ fjoin ! $ asked ! p n p-is n-fits $
-      nothing ! $ move ! (2 ∷ 0 ∷ []) $ join ! $ move ! (0 ∷ 1 ∷ []) $ join ! $ nothing ! $ move ! (1 ∷ 0 ∷ []) $ join ! $ done !
+  goes α b γ = asked-lent 𝓤 H A W p n p-is n-fits (α ∷ []) fullShare (lent-own α b γ)
 
   module _ (C : Calls 𝓤 H) (Λ : Loops 𝓤 H) (fm : FmC 𝓤 H (W .laws) C) (known : Triple 𝓤 (C #holdings·holdings) (Callee 𝓤 H A at-mem run)) where
     walk : ent 𝓤 (onEntry 𝓤 H A f.signature tt tt x at) (WpFn 𝓤 H C Λ code.function (pv p ∷ vint w8 n ∷ only (arv ys) ∷ []) Post)

@@ -191,7 +191,7 @@ decide-requires c κs =
     let s = at-decide c in
     let p = pool-of (told s) in
     let v = valid-reached p (loop-of (told s) .loop .inv .reached) in (
-      rw (← its-client s) (ready p v (s .seat .result) (seat-below s) _ refl (s .before .before .total .ensures)),
+      rw (← its-client s) (ready p v (s .seat .result) (seat-below s) (s .before .before .total .ensures)),
       (clients-few (told s), rw (← its-client s) (grants-fit p v (s .seat .result) (seat-below s))),
     )
 
