@@ -3,8 +3,8 @@
 use mathlib.Core.Path.{_≡_, refl, sym, ap, _∙_}
 use mathlib.Core.Logic.{_≢_}
 use mathlib.Core.Bool.{Bool, true, false, true≢false}
-use mathlib.Core.List.{List, [], _∷_}
-use Prim.Native.Nat.{ℕ, zero, suc}
+use mathlib.Core.List.{List}
+use Prim.Native.Nat.{ℕ, suc}
 use native.Mathlib.Omega.{arith}
 use lib.Dec.{eqb}
 use lib.ListN.{getD}
@@ -20,21 +20,16 @@ use Rattle.invariant.proofs.Sums.{one-is, sum-has}
 use Rattle.invariant.proofs.Facts.{grant-live}
 use Rattle.invariant.proofs.Grants.{grantsOf}
 use Rattle.invariant.proofs.Calls.{reached-call}
-use Rattle.guarantee.specs.Runs.{At, Throughout, events}
+use Rattle.guarantee.specs.Runs.{happens, events, Throughout}
 use Rattle.guarantee.specs.Sequential as Plain
 use Rattle.guarantee.specs.Sequential.{Place, Taker, Sequential, taker, member, Keeps, StepRule, adds, admits, drops, answers, moves, refuses, Rule}
 use Rattle.guarantee.specs.Sequential.{turns, begins, releases, steps}
-use Rattle.guarantee.specs.Claims.{OneCopy, HeldPinned, NoHeldEvicted}
+use Rattle.guarantee.specs.Claims.{OneCopy, PutsOut, HeldPinned, NoHeldEvicted}
+use Rattle.guarantee.proofs.Along.{throughout, at-each}
 use Rattle.guarantee.proofs.Mirror.{Shows, is-member, Mirrors, view, mirrors-view}
 use Rattle.guarantee.proofs.Follow.{Followed, followed}
 use Rattle.guarantee.proofs.Frames.{same-frame, Grant, held-grant, held-pinned}
 use Rattle.guarantee.proofs.Pages.{there, shows}
-
--- what holds of every reached pool holds throughout a run
-pub throughout : (P : Pool → Type 0) → ((p : Pool) → Reached p → P p) → (p : Pool) (calls : List Call) → Reached p → Throughout P p calls
-unfolding Throughout
-throughout P h p [] r = h p r
-throughout P h p (x ∷ calls) r = (h p r, throughout P h (callOf p x .pool) calls (reached-call p x r))
 
 one-copy : (p : Pool) → Reached p → OneCopy p
 one-copy p r c d i j a b e =
@@ -106,14 +101,11 @@ not-evicted p x f r h out = v .live (ap (pins (callOf p x .pool)) (v .frame) ∙
     v = shows (reached-call p x r) (after .mirrors) still
 
 pub no-held-evicted : (p : Pool) (calls : List Call) → Reached p → NoHeldEvicted (events p calls)
-unfolding events At
-no-held-evicted p [] r f n h = h
-no-held-evicted p (x ∷ calls) r f zero h = go (held p f) refl
+no-held-evicted p calls r f = at-each (PutsOut f) (λ e. held (e .before) f ≡ false) (λ p x r h. go p x r h (held p f) refl) p calls r
   where
-    go : (b : Bool) → held p f ≡ b → b ≡ false
-    go true e = absurd (not-evicted p x f r e (h .1))
-    go false e = refl
-no-held-evicted p (x ∷ calls) r f (suc n) h = no-held-evicted (callOf p x .pool) calls (reached-call p x r) f n h
+    go : (p : Pool) (x : Call) → Reached p → PutsOut f (happens p x) → (b : Bool) → held p f ≡ b → b ≡ false
+    go p x r h true e = absurd (not-evicted p x f r e (h .1))
+    go p x r h false e = refl
 
 -- ---- throughout a run
 

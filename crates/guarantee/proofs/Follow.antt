@@ -187,6 +187,8 @@ module _ {p : Pool} {q : Sequential} (r : Reached p) (mirror : Mirrors p q) wher
                   (inl (ne-eqb (n - 1) evicted (λ w. omega (arith, two)) ∙ sym (ne-eqb n evicted (λ w. omega (arith, two))))));
             }
 
+  -- ---- so each call is followed
+
   made : (x : Call) → refusal p x ≡ 0 → Followed q x (moved p x)
   unfolding caller
   made x e = go x (allowed p x e) (sym (turned-alike x) ∙ e) (call-edge p x r e .1)

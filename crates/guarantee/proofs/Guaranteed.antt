@@ -14,7 +14,8 @@ use Rattle.invariant.proofs.After.{client-here}
 use Rattle.invariant.proofs.Valid.{valid-reached}
 use Rattle.invariant.proofs.Never.{finds}
 use Rattle.guarantee.specs.Claims.{Claim-point3, Claim-answers, Guarantee}
-use Rattle.guarantee.proofs.Copies.{throughout, one-copies, helds-pinned, no-held-evicted}
+use Rattle.guarantee.proofs.Along.{throughout}
+use Rattle.guarantee.proofs.Copies.{one-copies, helds-pinned, no-held-evicted}
 use Rattle.guarantee.proofs.Sequence.{sequential}
 use Rattle.guarantee.proofs.Sum.{sum}
 use Rattle.guarantee.proofs.Once.{taken-out-once}

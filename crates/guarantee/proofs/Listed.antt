@@ -3,8 +3,8 @@
 use mathlib.Core.Path.{_≡_, refl, sym, ap, subst}
 use mathlib.Core.Logic.{_≢_, inl, inr}
 use mathlib.Core.Bool.{Bool, _&&_}
-use mathlib.Core.List.{List, [], _∷_}
-use Prim.Native.Nat.{ℕ, zero, suc, _<_}
+use mathlib.Core.List.{List}
+use Prim.Native.Nat.{ℕ, _<_}
 use native.Mathlib.Decide.{ℕ-discrete}
 use lib.Dec.{T, leb, leb→le}
 use Rattle.pool.specs.Choose.{choose}
@@ -21,9 +21,10 @@ use Rattle.pool.specs.declared.Answer.the-variants.{Refused}
 use Rattle.laws.specs.Choices.{by-test}
 use Rattle.invariant.proofs.Reached.{Knows, Reached}
 use Rattle.invariant.proofs.Flags.{and-parts}
-use Rattle.invariant.proofs.Calls.{never-stuck, call-moves, call-turned, refusal-not-8, reached-call}
+use Rattle.invariant.proofs.Calls.{never-stuck, call-moves, call-turned, refusal-not-8}
 use Rattle.guarantee.specs.Runs.{Event, events, At}
 use Rattle.guarantee.specs.Claims.{Listed}
+use Rattle.guarantee.proofs.Along.{at-some}
 use Rattle.guarantee.proofs.Stages.{granting, among, given, on-edges, on-grants, goes, grants, refuses, sticks, fits}
 use Rattle.guarantee.proofs.Turned.{ends, halts, released}
 
@@ -86,7 +87,6 @@ listed-call p x r =
     is e h = subst (λ (o : Outcome). Listed p x (o .answer)) (sym e) h
 
 pub listed : (p : Pool) (calls : List Call) → Reached p → ((n : ℕ) (e : Event) → At (λ x. x ≡ e) (events p calls) n → Listed (e .before) (e .asked) (e .answer))
-unfolding events At
-listed p [] r n e h = absurd h
-listed p (x ∷ calls) r zero e h = subst (λ (e : Event). Listed (e .before) (e .asked) (e .answer)) h (listed-call p x r)
-listed p (x ∷ calls) r (suc n) e h = listed (callOf p x .pool) calls (reached-call p x r) n e h
+listed p calls r n e =
+    at-some (λ x. x ≡ e) (Listed (e .before) (e .asked) (e .answer))
+    (λ p x r h. subst (λ (e : Event). Listed (e .before) (e .asked) (e .answer)) h (listed-call p x r)) p calls r n

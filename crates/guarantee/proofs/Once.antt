@@ -17,7 +17,8 @@ use Rattle.pool.specs.declared.Outcome.{Outcome}
 use Rattle.pool.specs.declared.Call.{Call}
 use Rattle.pool.specs.declared.Call.the-variants.{Step}
 use Rattle.invariant.proofs.Reached.{Reached}
-use Rattle.invariant.proofs.After.{few-frames, client-same, all-clients, pins-in}
+use Rattle.invariant.proofs.After.{client-same, all-clients}
+use Rattle.invariant.proofs.Searches.{live-named}
 use Rattle.invariant.proofs.Facts.{own-pins}
 use Rattle.invariant.proofs.Edges.{Edge}
 use Rattle.invariant.proofs.Steps.{call-edge}
@@ -27,6 +28,7 @@ use Rattle.invariant.proofs.Allowed.{allowed, only-step}
 use Rattle.invariant.proofs.Calls.{reached-call}
 use Rattle.guarantee.specs.Runs.{happens, events, At}
 use Rattle.guarantee.specs.Claims.{Evicts, Replaces, Takes, TakenOutOnce}
+use Rattle.guarantee.proofs.Along.{at-some}
 use Rattle.guarantee.proofs.Turned.{Went, down, by-move, went}
 
 -- ---- a frame that is out stays so until a stage 4 takes it
@@ -142,10 +144,8 @@ taken-between p (x ∷ calls) f r z (suc k) (suc n) l a b =
 
 -- what is evicted is a frame
 evicts-frame : (p : Pool) (calls : List Call) (f : ℕ) → Reached p → (k : ℕ) → At (Evicts f) (events p calls) k → f ≢ none
-unfolding events At
-evicts-frame p [] f r k e = absurd e
-evicts-frame p (x ∷ calls) f r zero e = λ z. omega (arith, pins-in p f (e .puts-out .0), few-frames p (r .shape))
-evicts-frame p (x ∷ calls) f r (suc k) e = evicts-frame (callOf p x .pool) calls f (reached-call p x r) k e
+evicts-frame p calls f =
+    at-some (Evicts f) (f ≢ none) (λ p x r e. live-named p (r .shape) f (e .puts-out .0)) p calls
 
 pub taken-out-once : (p : Pool) (calls : List Call) → Reached p → TakenOutOnce (events p calls)
 taken-out-once p calls r f k m n e a b = go (decLt m n) (decLt n m)

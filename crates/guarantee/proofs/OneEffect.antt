@@ -24,6 +24,7 @@ use Rattle.invariant.proofs.Calls.{reached-call}
 use Rattle.guarantee.specs.Runs.{Event, happens, events, At, Begins, GrantedTo}
 use Rattle.guarantee.specs.Sequential.{adding, admitting}
 use Rattle.guarantee.specs.Claims.{AnswersTo, TurnedDown, takesEffect, Effects, OneEffect}
+use Rattle.guarantee.proofs.Along.{at-each}
 use Rattle.guarantee.proofs.Stages.{on-edges, on-grants, Fits, goes, grants, refuses, sticks, fits}
 use Rattle.guarantee.proofs.Turned.{same-answer, same-stage, other-answer}
 use Rattle.guarantee.proofs.OneClient.{Seen, same, mine, seen, rest-unanswered}
@@ -138,13 +139,6 @@ tail-last c false e es (inr m) = absurd (true≢false (sym (m .1)))
 abbrev NoBegin : ℕ → List Event → ℕ → Type 0
 NoBegin c es n = (m : ℕ) → m < n → At (Begins c) es m → ⊥
 
--- a grant is an answer
-answers : (es : List Event) (c n : ℕ) → At (GrantedTo c) es n → At (AnswersTo c) es n
-unfolding At
-answers [] c n g = g
-answers (e ∷ es) c zero g = (g .1, inl (g .0, g .2))
-answers (e ∷ es) c (suc n) g = answers es c n g
-
 works-one : (p : Pool) (calls : List Call) → Reached p → (c n : ℕ) → client p c .stage ≢ 0 → NoBegin c (events p calls) n → At (GrantedTo c) (events p calls) n
     → Tail c (marked p c) (events p calls) n
 unfolding events At
@@ -159,7 +153,8 @@ works-one p (x ∷ calls) r c (suc n) z nb g =
     let q : Pool = callOf p x .pool in
     let later : NoBegin c (events q calls) n = λ m l. nb (suc m) (omega arith) in
     let ih = works-one q calls (reached-call p x r) c n in
-    let end : client q c .stage ≢ 0 = λ w. rest-unanswered q calls (reached-call p x r) c n w later (answers (events q calls) c n g) in
+    let answers = at-each (GrantedTo c) (AnswersTo c) (λ _ _ _ g. (g .1, inl (g .0, g .2))) q calls (reached-call p x r) n g in
+    let end : client q c .stage ≢ 0 = λ w. rest-unanswered q calls (reached-call p x r) c n w later answers in
     elim (turn p x c r z) [
       | works w _ m ↦ tail-more c (marked p c) (marked q c) (happens p x) (events q calls) n m (ih w later g)
       | granted w _ ↦ absurd (end w)

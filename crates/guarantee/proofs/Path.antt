@@ -34,7 +34,8 @@ use Rattle.invariant.proofs.Never.{finds-some}
 use Rattle.invariant.proofs.Flags.{T-false}
 use Rattle.invariant.proofs.Steps.{around-ok}
 use Rattle.guarantee.specs.Claims.{AllHeld}
-use Rattle.guarantee.proofs.SoloSteps.{On, Goes, answer-is, on-next, go1, go1-found, go2, go3, go4, go5, go5-none, go6, go7, go8, go8-on, go9, go10, go11}
+use Rattle.guarantee.proofs.SoloSteps.{On, Goes, answer-is, on-next, go1, go1-found, go2, go3, go4, go5, go5-none, go6, go7, go8, go8-on, go9, go10}
+use Rattle.guarantee.proofs.SoloSteps.{go11}
 use Rattle.guarantee.proofs.SoloSteps.{go12-dead, go12-idle, go12-busy, go12-full, go13-zero, go13-more, go14, go15, go16, go17-out, go17-not, go18}
 use Rattle.guarantee.proofs.Base.{Base, slot-still, pins-still, base-still, emptied}
 use Rattle.guarantee.proofs.Solo.{next-is, absent-next, some-empty, no-ghost}

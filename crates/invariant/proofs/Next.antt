@@ -65,8 +65,7 @@ module _ {p : Pool} {c : ℕ} {m : Move} (x : Effect p c m) where
       go (slots-stay e) = inl (slot-kept p c m e i ∙ s)
       go (puts j e h _ _ _ v) = by (ℕ-discrete i j) v
         where
-          by : Dec (i ≡ j) → Vacant p c m j
-              → (slot q i ≡ f) ⊎ TakenOut f
+          by : Dec (i ≡ j) → Vacant p c m j → (slot q i ≡ f) ⊎ TakenOut f
           by (no w) _ = inl (slot-else p c m j (k .own) (rw e refl) i w ∙ s)
           by (yes w) (inl o) = absurd (z (sym s ∙ ap (slot p) w ∙ o))
           by (yes w) (inr o) =

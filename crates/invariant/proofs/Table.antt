@@ -1,6 +1,6 @@
 -- The table by frame, `mapped`, and its tie to the entries and to the look-up: as no frame is in two entries and no page in two, each way to read the
--- table tells the same. When one entry is put, the frame put is mapped to, the one it replaces is not, and every other frame keeps its entry. Assumes
--- nothing.
+-- table tells the same. When one entry is put, the frame put is mapped to, the one it replaces is not, and every other frame keeps its entry.
+-- Assumes nothing.
 use mathlib.Core.Path.{_≡_, refl, sym, ap, _∙_}
 use mathlib.Core.Logic.{_≢_, _⊎_, inl, inr}
 use Prim.Native.Nat.{ℕ, zero, suc, _<_}
