@@ -93,7 +93,8 @@ at-each (more f fs) zero = f
 at-each (more f fs) (suc n) = at-each fs n
 
 each : Each stages
-unfolding stage1 stage2 stage3 stage4 stage5 stage6 stage7 stage8 stage9 stage10 stage11 stage12 stage13 stage14 stage15 stage16 stage17 stage18 stage19 stage20 stage21 stage22 stage23 granted busyVisit evictOwn refusalOf
+unfolding granted busyVisit evictOwn refusalOf stage1 stage2 stage3 stage4 stage5 stage6 stage7 stage8 stage9 stage10 stage11 stage12 stage13
+    stage14 stage15 stage16 stage17 stage18 stage19 stage20 stage21 stage22 stage23
 each =
     more no-stage
     (more (λ p k. pick Fine _ refl refl)  -- 1

@@ -37,7 +37,8 @@ unfolding caller
 grant-named {p} {c} {g} a = simp (← a .«grant_pages», ← a .client) (grant-in p c g)
 
 -- the client as it is read, at the place that the code has for it
-pub read-client : (p : Pool) (call : Call) (i : ℕ) → i ≡ caller call → caller call < clientCount p → client p (caller call) ≡ getD (p .clients) i no-client
+pub read-client : (p : Pool) (call : Call) (i : ℕ) → i ≡ caller call → caller call < clientCount p →
+    client p (caller call) ≡ getD (p .clients) i no-client
 read-client p call i e h = client-in p (caller call) h ∙ ap (λ (n : ℕ). getD (p .clients) n no-client) (sym e)
 
 module _ (p : Pool) (call : Call) where
@@ -81,7 +82,8 @@ module _ (p : Pool) (c : ℕ) (m : Move) where
   unfolding finished both
   stays e = passed _ _ _ (passed _ _ _ (ap not (eq-eqb _ _ e)))
 
-  go-on : (refusalOf (m .answer) ≡ 8 → ⊥) → {b : Bool} → valid (apply p c m) ≡ b → both (not (eqb (refusalOf (m .answer)) 8)) (valid (apply p c m)) ≡ b
+  go-on : (refusalOf (m .answer) ≡ 8 → ⊥) → {b : Bool} → valid (apply p c m) ≡ b →
+      both (not (eqb (refusalOf (m .answer)) 8)) (valid (apply p c m)) ≡ b
   unfolding both
   go-on d v = chosen _ _ _ (ap not (ne-eqb _ _ d)) ∙ v
 

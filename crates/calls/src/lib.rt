@@ -1,7 +1,8 @@
 // The calls: setup, begin, step, release. Each takes any pool and any numbers, and its promise says what it answers and what it leaves, whole.
 //
 // The order is document 01's checking order, and that of crate `pool`, `specs/Calls.antt`, line by line: check 8 of the pool as handed, 9, 10 to
-// 13, the action, check 8 after it. A call that is turned down hands the pool back as it came.
+// 13, the action, check 8 after it. A call that is turned down hands the pool back as it came. The second clause of a promise lists by which of
+// document 01's numbers the call can be refused; 0 is no refusal.
 ghost use mathlib.Core.Path.{_≡_};
 ghost use mathlib.Core.Bool.{true};
 ghost use mathlib.Core.List.{[], _∷_};
@@ -280,10 +281,10 @@ pub fn step_tallied(pool: Pool, client: u8, tally: Tally) -> Stepped
     let done = call_of(pool, Call::Step(client));
     let answer = done.answer;
     let counted = done.counted;
-    let next = done.pool;
+    let after = done.pool;
     Stepped {
         answer,
         tally: tallied(counted, tally),
-        pool: next,
+        pool: after,
     }
 }

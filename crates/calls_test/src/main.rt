@@ -1,7 +1,8 @@
 // Plays calls and prints document 01's line for each: "record number from 0, bench (0 for a setup), code, value".
 //
-// The first part is its bench case "Eighth grant given, ninth begin 12". The second is its case P6, where a page is revived. The third plays 600
-// mixed calls: a fixed sequence of numbers says the kind, the client and the page of each. After a part come facts of its last pool.
+// First come three setups, expected from what `setup` promises, without a line. Then three parts that print: the bench case "Eighth grant given,
+// ninth begin 12"; the case P6, where a page is revived; and 600 mixed calls, where a fixed sequence of numbers says the kind, the client and the
+// page of each. After a part come facts of its last pool.
 use pool::Answer;
 use pool::Call;
 use pool::Client;
@@ -264,7 +265,7 @@ fn requested(run: Run, client: u8, page: u32) -> Run {
     requested_to(run, client, page, 0)
 }
 
-// ---- the three parts
+// ---- the parts
 
 // "Eighth grant given, ninth begin 12". Then one grant ends, and the ninth page takes its slot.
 fn nine_grants() {
@@ -328,7 +329,21 @@ fn mixed_calls() {
     facts(run);
 }
 
+// "S 64 and T 16 accepted; S 0, S 65, T 17, C 0, C 101 are 8.": three of them, expected from the promise of `setup` alone.
+fn setup_ranges() {
+    let largest = calls::setup(64, 16, 100, 0);
+    let accepted = largest.answer;
+    check::expect(answers::refusal_of(accepted) == 0);
+    let larger = calls::setup(65, 16, 100, 0);
+    let refused = larger.answer;
+    check::expect(answers::refusal_of(refused) == 8);
+    let capped = calls::setup(64, 16, 101, 0);
+    let above = capped.answer;
+    check::expect(answers::refusal_of(above) == 8);
+}
+
 fn main() {
+    setup_ranges();
     nine_grants();
     revived_page();
     mixed_calls();

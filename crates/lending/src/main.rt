@@ -155,9 +155,9 @@ fn main() {
     desk = release(desk, 1, 9);
     desk = release(desk, 1, 7);
 
-    // As case P6: client 0 swaps 7 out for 5 by stages 1, 4, 5, 10 to 13, 11 to 16, and stands at 17. Drops 2. Client 1 wants 7: stages 1, 2, 4, 5, 10 to
-    // 13 (page 9's count is 1 now), 11, 12 (busy), 11 to 17 (9 goes), 18, 19, 22. Drops 3, revived 1. Client 0's removal then removes nothing, and it is
-    // granted at 18. Admitted 4.
+    // As case P6: client 0 swaps 7 out for 5 by stages 1, 4, 5, 10 to 13, 11 to 16, and stands at 17. Drops 2. Client 1 wants 7: stages 1, 2, 4, 5,
+    // 10 to 13 (page 9's count is 1 now), 11, 12 (busy), 11 to 17 (9 goes), 18, 19, 22. Drops 3, revived 1. Client 0's removal then removes
+    // nothing, and it is granted at 18. Admitted 4.
     desk = request(desk, 0, 5, 13);
     desk = request(desk, 1, 7, 20);
     desk = steps(desk, 0, 2);

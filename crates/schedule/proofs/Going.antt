@@ -32,7 +32,10 @@ use Rattle.schedule.proofs.Runs.{stop-line, at-end, no-space, stops, go
 use Rattle.schedule.proofs.Turned.{done}
 
 -- the line of a record that does not end the run
-pub line-of : (n : ℕ) (call : Call) (a : Answer) → endsRun a ≡ false → lineFor n (Asked call) a ≡ line n (caller call) (codeOf a) (valueOf a)
+abbrev pub callLine : ℕ → Call → Answer → List ℕ
+callLine n call a = line n (caller call) (codeOf a) (valueOf a)
+
+line-of : (n : ℕ) (call : Call) (a : Answer) → endsRun a ≡ false → lineFor n (Asked call) a ≡ callLine n call a
 unfolding lineFor namedBy choose
 line-of n call a e = rw e
 
@@ -52,6 +55,10 @@ pub record Going (s space : List ℕ) (first : Pool) (start : ℕ) (p : Pool) (a
   pub end : endAfter to (rest s p n at (length now - to)) ≡ endAfter start (rest s first 1 10 (length space - start))
   pub report :
       reportAfter to (rest s p n at (length now - to)) now ≡ reportAfter start (rest s first 1 10 (length space - start)) space
+
+-- The rest of the run from record n on, once it is known that there is fuel for it.
+abbrev onward : List ℕ → Pool → ℕ → ℕ → ℕ → Ran
+onward s p n at space = runFrom (suc (length s - n)) p n (drop at s) space
 
 pub at-start : {s space : List ℕ} {first : Pool} {start : ℕ} → SetUp first → 10 ≤ length s → length s ≤ 16384 → start ≤ length space →
     Going s space first start first 10 start 1 space
@@ -77,7 +84,7 @@ module _ {s space : List ℕ} {first : Pool} {start : ℕ} {p : Pool} {at to n :
   not-first = ne-eqb n 0 (λ e. let a = g .some in omega arith)
 
   -- what the run comes to, where the rest of it is known
-  module _ (r : Ran) (e : runFrom (suc (length s - n)) p n (drop at s) (length now - to) ≡ r) where
+  module _ (r : Ran) (e : onward s p n at (length now - to) ≡ r) where
     the-rest : rest s p n at (length now - to) ≡ r
     the-rest = rw fuel e
 
@@ -85,7 +92,7 @@ module _ {s space : List ℕ} {first : Pool} {start : ℕ} {p : Pool} {at to n :
         × (reportAfter to r now ≡ reportAfter start (rest s first 1 10 (length space - start)) space)
     comes-to = (rw the-rest at (g .end), rw the-rest at (g .report))
 
-  pub all-read : length s ≤ at → runFrom (suc (length s - n)) p n (drop at s) (length now - to) ≡ ends n 0
+  pub all-read : length s ≤ at → onward s p n at (length now - to) ≡ ends n 0
   all-read h = at-end (length s - n) p n (drop at s) (length now - to) (g .some) (rw length-drop (omega arith))
 
   module _ (here : at < length s) where
@@ -93,15 +100,14 @@ module _ {s space : List ℕ} {first : Pool} {start : ℕ} {p : Pool} {at to n :
     unfolding both choose
     left = rw (lt-ltb 0 n (g .some), length-drop) (ne-eqb (length s - at) 0 (λ e. omega arith))
 
-    pub full : length now - to < 24 → runFrom (suc (length s - n)) p n (drop at s) (length now - to) ≡ ends n 2
+    pub full : length now - to < 24 → onward s p n at (length now - to) ≡ ends n 2
     full h = no-space (length s - n) p n (drop at s) (length now - to) left h
 
     module _ (space-left : 24 ≤ length now - to) where
       reads : {r : Reading} → read false (from at s) ≡ r → read (eqb n 0) (drop at s) ≡ r
       reads e = rw (not-first, ← from-all at s) e
 
-      pub unread : (q : ℕ) → read false (from at s) ≡ Unreadable q →
-          runFrom (suc (length s - n)) p n (drop at s) (length now - to) ≡ stopped n q
+      pub unread : (q : ℕ) → read false (from at s) ≡ Unreadable q → onward s p n at (length now - to) ≡ stopped n q
       unfolding performed
       unread q e =
           let last = unread-ends false (from at s) q e in
@@ -119,25 +125,25 @@ module _ {s space : List ℕ} {first : Pool} {start : ℕ} {p : Pool} {at to n :
         pub next : (m : Move) {p′ : Pool} {ys : List ℕ} {k : ℕ} →
             m ≡ turn p call →
             p′ ≡ apply p (seat (clientCount p) (caller call)) m →
-            length (line n (caller call) (codeOf (m .answer)) (valueOf (m .answer))) ≤ 24 →
-            k ≡ length (line n (caller call) (codeOf (m .answer)) (valueOf (m .answer))) →
-            ys ≡ written (line n (caller call) (codeOf (m .answer)) (valueOf (m .answer))) (from to now) →
+            length (callLine n call (m .answer)) ≤ 24 →
+            k ≡ length (callLine n call (m .answer)) →
+            ys ≡ written (callLine n call (m .answer)) (from to now) →
             Going s space first start p′ (at + 8) (to + k) (n + 1) (take to now ++ (ys ++ drop (length now - to) (drop to now)))
         unfolding performed lengthOf
         next m {p′} {ys} {k} is-turn is-next few counted wrote =
             let d = done p call (g .reached) in
-            let w = line n (caller call) (codeOf (m .answer)) (valueOf (m .answer)) in
+            let w = callLine n call (m .answer) in
             let same-answer : m .answer ≡ callOf p call .answer = ap (λ (m : Move). m .answer) is-turn ∙ d .answer in
             let same-pool : p′ ≡ callOf p call .pool =
             is-next ∙ ap (apply p (seat (clientCount p) (caller call))) is-turn ∙ d .pool in
             let its-line : lineFor n (Asked call) (callOf p call .answer) ≡ w =
-            line-of n call _ (d .goes-on) ∙ ap (λ (a : Answer). line n (caller call) (codeOf a) (valueOf a)) (sym same-answer) in
+            line-of n call _ (d .goes-on) ∙ ap (callLine n call) (sym same-answer) in
             let fits : to + length w ≤ length now = omega arith in
             let now′ = after-line to w now fits counted wrote in
             let wrote-it = line-written to w now fits counted wrote in
             let kept : length now′ ≡ length now = same-space to w now fits counted wrote in
             let r = runFrom (length s - n) (callOf p call .pool) (n + 1) (drop (at + 8) s) (length now - to - length w) in
-            let goes : runFrom (suc (length s - n)) p n (drop at s) (length now - to) ≡ before w r =
+            let goes : onward s p n at (length now - to) ≡ before w r =
             goes-on (length s - n) p n (drop at s) (length now - to) left (Asked call) (callOf p call) space-left (reads e) refl (d .goes-on)
             ∙ rw (its-line, drop-drop) in
             let fuel-left : length s + 1 - (n + 1) ≡ length s - n = omega arith in

@@ -32,4 +32,7 @@ returns-2 : tie.Need-returns-2
 returns-2 c = cc (done _ _ (goes-on (c .before .before .before)))
 
 pub call-of-spec : {M : Type 1} → statement M
-call-of-spec = tie.close (tie.spec (λ c κs. search needs) (λ c κs. search needs) returns (λ c κs. search needs) move-of-requires (λ c. search needs) finish-requires returns-2)
+call-of-spec =
+    tie.close
+    (tie.spec
+    (λ c κs. search needs) (λ c κs. search needs) returns (λ c κs. search needs) move-of-requires (λ c. search needs) finish-requires returns-2)

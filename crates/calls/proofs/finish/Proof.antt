@@ -41,4 +41,7 @@ returns-3 c =
     ap (λ (q : Pool). record { answer = m .answer; counted = m .counted; pool = q }) e ∙ sym (keeps _ _ m (not-stuck (next .before)) v)
 
 pub finish-spec : {M : Type 1} → statement M
-finish-spec = tie.close (tie.spec (λ c κs. search needs) (λ c κs. search needs) returns apply-requires (λ c κs. search needs) (λ c κs. search needs) returns-2 returns-3)
+finish-spec =
+    tie.close
+    (tie.spec
+    (λ c κs. search needs) (λ c κs. search needs) returns apply-requires (λ c κs. search needs) (λ c κs. search needs) returns-2 returns-3)

@@ -32,7 +32,8 @@ free-frame-requires c κs = searchable _ (c .before .before .before .before .bef
 searched :
     (c : tie.Joined1) →
     let start = c .before .before .before .before .before in
-    getD (start .args .t1 .clients) (c .before .before .before .before .caller .result) no-client .stage ≡ 4 → c .if1 .fresh ≡ freeFrame (start .args .t1)
+    getD (start .args .t1 .clients) (c .before .before .before .before .caller .result) no-client .stage ≡ 4 →
+    c .if1 .fresh ≡ freeFrame (start .args .t1)
 searched c s = ⊎-elim (λ w. w .2 ∙ w .1 .ensures) (λ w. absurd (w .0 .left s)) (c .if1 .came)
 
 call-move-requires : tie.Need-call-move-requires
@@ -69,4 +70,6 @@ returns c =
 pub move-of-spec : {M : Type 1} → statement M
 move-of-spec =
     tie.close
-    (tie.spec (λ c κs. search needs) (λ c. search needs) (λ c. search needs) element-copy-out-client total-requires free-frame-requires call-move-requires returns)
+    (tie.spec
+    (λ c κs. search needs) (λ c. search needs) (λ c. search needs) element-copy-out-client total-requires free-frame-requires call-move-requires
+    returns)

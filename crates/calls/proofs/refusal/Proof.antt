@@ -56,4 +56,8 @@ returns-3 c =
     ∙ sym (inside (start .args .t1) (start .args .call) (sound (at .before .before)) (there at))
 
 pub refusal-spec : {M : Type 1} → statement M
-refusal-spec = tie.close (tie.spec (λ c κs. search needs) returns (λ c κs. search needs) returns-2 (λ c. search needs) (λ c. search needs) element-copy-out-client refusal-at-requires returns-3)
+refusal-spec =
+    tie.close
+    (tie.spec
+    (λ c κs. search needs) returns (λ c κs. search needs) returns-2 (λ c. search needs) (λ c. search needs) element-copy-out-client
+    refusal-at-requires returns-3)

@@ -53,4 +53,8 @@ returns-8 c =
     rw (e, ← grant-named (rw e at a), ← c .before .grant-of .ensures) (search tests)
 
 pub refusal-at-spec : {M : Type 1} → statement M
-refusal-at-spec = tie.close (tie.spec (λ c. search needs) returns (λ c. search needs) (λ c. search needs) returns-2 (λ c. search needs) grant-of-requires returns-3 returns-4 returns-5 returns-6 returns-7 returns-8)
+refusal-at-spec =
+    tie.close
+    (tie.spec
+    (λ c. search needs) returns (λ c. search needs) (λ c. search needs) returns-2 (λ c. search needs) grant-of-requires returns-3 returns-4 returns-5
+    returns-6 returns-7 returns-8)

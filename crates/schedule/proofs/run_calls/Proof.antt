@@ -14,7 +14,6 @@ use Rattle.pool.specs.State.{clientCount, total, client, no-client}
 use Rattle.pool.specs.Valid as Valid
 use Rattle.pool.specs.Frames.{freeFrame}
 use Rattle.pool.specs.Apply.{apply}
-use Rattle.pool.specs.Answers.{codeOf, valueOf}
 use Rattle.pool.specs.Calls.{caller}
 use Rattle.pool.specs.Schedule.{read, line}
 use Rattle.pool.specs.declared.Call.{Call}
@@ -30,7 +29,7 @@ use Rattle.invariant.proofs.Valid.{valid-reached}
 use Rattle.schedule.proofs.Readings.{later-unread}
 use Rattle.schedule.proofs.Runs.{from, from-length, end-here, report-here}
 use Rattle.schedule.proofs.Turned.{seat-in}
-use Rattle.schedule.proofs.Going.{Going, same-line, at-start, comes-to, all-read, full, unread, next}
+use Rattle.schedule.proofs.Going.{callLine, same-line, Going, at-start, comes-to, all-read, full, unread, next}
 use Rattle.schedule.proofs.run_calls.Statement.{statement}
 use Rattle.schedule.proofs.run_calls.Tie as tie
 
@@ -251,10 +250,9 @@ is-turn c =
 
 -- the line that is written is the record's
 line-is : (c : Valued) →
-    let t = told (seated (at-value c)) in
-    let a = move-of (at-value c) .answer in
-    line (loop-of t .loop .n) (seated (at-value c) .before .caller .result) (c .before .code-of .result) (c .value-of .result)
-    ≡ line (loop-of t .loop .n) (caller (call-of t)) (codeOf a) (valueOf a)
+    let s = seated (at-value c) in
+    let n = loop-of (told s) .loop .n in
+    line n (s .before .caller .result) (c .before .code-of .result) (c .value-of .result) ≡ callLine n (call-of (told s)) (move-of (at-value c) .answer)
 line-is c = same-line _ (seated (at-value c) .before .caller .ensures) (c .before .code-of .ensures .0) (c .value-of .ensures)
 
 few : (c : Valued) →
