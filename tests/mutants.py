@@ -4,17 +4,18 @@ usage: python3 tests/mutants.py [NAME ..]
 
 Each file tests/mutants/NAME.edit changes one definition in a copy of the
 project. The toolchain's own must-fail edits are tried on one crate alone;
-these are tried on the crates above it, so that a claim about whole runs is
-seen to fail. The worked cases, which would refuse most of them first, are
-left out of the copy. A file has these lines, besides comments:
+these are tried on the crates above it, so that the proof of the claims about
+whole runs is seen to stop. The worked cases, which would refuse most of them
+first, are left out of the copy. A file has these lines, besides comments:
 
     file: crates/pool/specs/Stages.antt     the file to change
     old: the text to replace, which must stand there once
     new: what to put in its place
     refused by: CRATE                       the crate that must not be proved
 
-Every crate below that one must still be proved: the edit is well formed, and
-it is a fact that fails. Exit status 0 if all are refused, 1 if one is not.
+Every crate below that one must still be proved, so that the edit is well
+formed; the first error is printed. Exit status 0 if all are refused, 1 if
+one is not.
 """
 
 import concurrent.futures

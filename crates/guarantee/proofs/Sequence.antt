@@ -24,10 +24,10 @@ use Rattle.guarantee.proofs.Follow.{followed}
 
 -- from any pool that the sequential pool mirrors
 follows-on : {p : Pool} {q : Sequential} (calls : List Call) → Reached p → Mirrors p q → Follows p q calls
-follows-on [] r mirror = ends (same-pages r mirror)
+follows-on [] r mirror = ends (same-pages r mirror) (λ c. mirror .takers c .stage)
 follows-on {p} {q} (x ∷ calls) r mirror =
     let f = followed r mirror x in
-    goes (same-pages r mirror) (f .rule) (follows-on calls (reached-call p x r) (f .mirrors))
+    goes (same-pages r mirror) (λ c. mirror .takers c .stage) (f .rule) (follows-on calls (reached-call p x r) (f .mirrors))
 
 -- ---- from setup
 

@@ -1,5 +1,5 @@
 -- What is claimed of every run from an accepted setup. `Point3` is point 3 of the request, "a single claim about the whole list of calls"; the
--- others go with it. Statements only; each proof stands in the file of proofs/ that its comment names. Assumes nothing.
+-- others go with it. Statements only; `proofs/Guaranteed.antt` puts their proofs together. Assumes nothing.
 use mathlib.Core.Path.{_≡_}
 use mathlib.Core.Logic.{_≢_, _⊎_, _↔_}
 use mathlib.Core.Bool.{Bool, true, false, _||_}
@@ -24,7 +24,7 @@ use Rattle.pool.specs.declared.Answer.{Answer}
 use Rattle.pool.specs.declared.Answer.the-variants.{Done, Working, Granted, Refused}
 use Rattle.pool.specs.declared.Counted.the-variants.{Nothing}
 use Rattle.guarantee.specs.Runs.{Event, happens, events, At, Throughout, StepAt, Begins, GrantedTo}
-use Rattle.guarantee.specs.Sequential.{Sequential, Keeps, start, Rule, adding, admitting}
+use Rattle.guarantee.specs.Sequential.{Sequential, Keeps, taker, start, Rule, adding, admitting}
 
 -- ---- a. "any two grants of one page that were ever open together name the same frame"
 
@@ -82,14 +82,19 @@ TakenOutOnce es = (f k m n : ℕ) → At (Evicts f) es k → TakenOut es f k m �
 abbrev pub SamePages : Pool → Sequential → Type 0
 SamePages p q = (g f : ℕ) → Keeps q g f ↔ ((resident p g ≡ true) × (lookup p g ≡ f))
 
+-- and its clients stand where the real ones stand
+abbrev pub SameStages : Pool → Sequential → Type 0
+SameStages p q = (c : ℕ) → taker q c .stage ≡ client p c .stage
+
 -- the sequential pool, from state q, can answer each call as the pool p and its successors do
 pub data Follows : Pool → Sequential → List Call → Type 0 where
-  ends : {p : Pool} {q : Sequential} → SamePages p q → Follows p q []
+  ends : {p : Pool} {q : Sequential} → SamePages p q → SameStages p q → Follows p q []
   goes : {p : Pool} {q q′ : Sequential} {x : Call} {calls : List Call}
-      → SamePages p q → Rule q x (callOf p x .answer) q′ → Follows (callOf p x .pool) q′ calls → Follows p q (x ∷ calls)
+      → SamePages p q → SameStages p q → Rule q x (callOf p x .answer) q′ → Follows (callOf p x .pool) q′ calls → Follows p q (x ∷ calls)
 
 -- "each grant takes effect at exactly one action after its begin and no later than its answer"; "A grant takes effect where it is added or
 -- admitted.": the steps of which the sequential pool's rules `adds` and `admits` speak, by the stage and the answer, which both pools share
+-- (`SameStages`, and the answer in `goes`)
 unfoldable pub takesEffect : ℕ → Answer → Bool
 takesEffect i (Done n) = false
 takesEffect i (Working j) = adding i j
