@@ -1,7 +1,6 @@
 -- The ways that a call goes, each by what the code has tested on it. Assumes nothing.
 use mathlib.Core.Path.{_≡_, refl, _∙_, sym, ap}
 use mathlib.Core.Bool.{Bool, true, false, not, true≢false}
-use mathlib.Core.List.{List}
 use native.Mathlib.Omega.{arith}
 use Prim.Native.Nat.{ℕ, _<_, _≤_}
 use lib.Dec.{eqb, ltb}
@@ -9,32 +8,19 @@ use lib.ListN.{getD}
 use borrow.Author.Tests.{lt-ltb, le-ltb, ltb-true, eq-eqb, ne-eqb}
 use Rattle.pool.specs.Choose.{choose, both}
 use Rattle.pool.specs.State.{clientCount, client, no-client}
-use Rattle.pool.specs.Grants.{grantOf}
 use Rattle.pool.specs.Answers.{refusalOf}
 use Rattle.pool.specs.Apply.{apply}
 use Rattle.pool.specs.Valid.{valid}
 use Rattle.pool.specs.Calls.{turnedDown, caller, refusalAt, refusal, moveOf, finished, callOf}
 use Rattle.laws.specs.Choices.{chosen, passed}
-use Rattle.leaves.specs.Lists.{grantIn, grant-in, client-in}
+use Rattle.leaves.specs.Lists.{client-in}
 use Rattle.pool.specs.declared.Pool.{Pool}
 use Rattle.pool.specs.declared.Call.{Call}
-use Rattle.pool.specs.declared.Call.the-variants.{Release}
 use Rattle.pool.specs.declared.Client.{Client}
 use Rattle.pool.specs.declared.Move.{Move}
 use Rattle.pool.specs.declared.Outcome.{Outcome}
 
 -- ---- before the action
-
--- client k is the one that a call on pool p names, and the pages of all grants are the pool's
-pub record Named (p : Pool) (call : Call) (k : Client) (grantPages : List ℕ) : Type 0 where
-  pub client : client p (caller call) ≡ k
-  pub «grant_pages» : p .«grant_pages» ≡ grantPages
-
--- the place of the client's first grant on a page
-pub grant-named : {p : Pool} {c g : ℕ} {k : Client} {grantPages : List ℕ} → Named p (Release c g) k grantPages →
-    grantIn grantPages c (k .held) g ≡ grantOf p c g
-unfolding caller
-grant-named {p} {c} {g} a = simp (← a .«grant_pages», ← a .client) (grant-in p c g)
 
 -- the client as it is read, at the place that the code has for it
 pub read-client : (p : Pool) (call : Call) (i : ℕ) → i ≡ caller call → caller call < clientCount p →

@@ -10,13 +10,12 @@ ghost use Prim.Native.Nat.{_<_, _≤_};
 ghost use Rattle.pool.specs.State.{clientCount};
 ghost use Rattle.pool.specs.Answers.{refusalOf};
 ghost use Rattle.pool.specs.Valid.{valid};
-ghost use Rattle.pool.specs.Calls.{turnedDown, fresh, setupOf, caller, refusalAt, refusal, moveOf, finished, callOf};
+ghost use Rattle.pool.specs.Calls.{turnedDown, fresh, setupOf, caller, refusal, moveOf, finished, callOf};
 ghost use Rattle.pool.specs.Tallies.{up, tallied};
 ghost use Rattle.pool.specs.declared.Pool.{Pool};
 ghost use Rattle.pool.specs.declared.Call.the-variants.{Begin, Step, Release};
 ghost use Rattle.calls.specs.Refusals.{Among};
 ghost use Rattle.calls.specs.Tallied.{steppedOf};
-ghost use Rattle.calls.specs.Ways.{Named};
 use moves::Numbers;
 use pool::Answer;
 use pool::Call;
@@ -95,30 +94,6 @@ pub fn setup(size: u8, client_count: u8, cap: u8, hand: u32) -> Outcome
 
 // ---- what a call is turned down by
 
-// 10. "Begin or release at a working bench." 11. "Step at a resting bench." 12. "Begin at a bench with 8 grants."
-// 13. "Release of a page the bench does not hold." 0: none of them. The client is the one that the call names.
-fn refusal_at(client: Client, call: Call, grant_pages: &[u32; 128]) -> u8
-    requires { ⌜ (caller call < 16) × (client .held ≤ 8) ⌝ }
-    ensures { λ r. ⌜ ((p : Pool) → Named p call client (now («grant_pages» .entry)) → r ≡ refusalAt p client call) ⌝ }
-{
-    match call {
-        Call::Begin(c, page) => {
-            if client.stage != 0 {
-                return 10;
-            }
-            if client.held < 8 { 0 } else { 12 }
-        }
-        Call::Step(c) => { if client.stage == 0 { 11 } else { 0 } }
-        Call::Release(c, page) => {
-            if client.stage != 0 {
-                return 10;
-            }
-            let i = leaves::grant_of(grant_pages, c as usize, client.held, page);
-            if i == NONE { 13 } else { 0 }
-        }
-    }
-}
-
 // The number by which a call is turned down before its action, or 0: 8, of the pool as handed; 9, "The bench number is T or more."; the others.
 fn refusal(pool: Pool, call: Call) -> u8
     ensures { λ r. ⌜ r ≡ refusal pool call ⌝ }
@@ -133,7 +108,7 @@ fn refusal(pool: Pool, call: Call) -> u8
     }
     let at = c as usize;
     let client = pool.clients[at];
-    refusal_at(client, call, &pool.grant_pages)
+    turns::refusal_at(call, client, &pool.grant_pages)
 }
 
 // ---- the action

@@ -38,7 +38,7 @@ fn still(client: Client, n: u8) -> Move
 }
 
 // By which of 10 to 13 a call of a client is turned down; 0: by none.
-fn refusal_at(call: Call, who: Client, grant_pages: &[u32; 128]) -> u8
+pub fn refusal_at(call: Call, who: Client, grant_pages: &[u32; 128]) -> u8
     requires { ⌜ (caller call < 16) × (who .held ≤ 8) ⌝ }
     ensures { λ r. ⌜ ((p : Pool) → client p (caller call) ≡ who → p .«grant_pages» ≡ now («grant_pages» .entry) →
         r ≡ refusalAt p who call) ⌝ }

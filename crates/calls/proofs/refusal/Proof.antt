@@ -51,7 +51,7 @@ returns-3 : tie.Need-returns-3
 returns-3 c =
     let at = c .before .before .before .before in
     let start = at .before .before .before .before in
-    c .refusal-at .ensures (start .args .t1) (record { client = here at; «grant_pages» = refl })
+    c .refusal-at .ensures (start .args .t1) (here at) refl
     ∙ ap (λ (k : Client). refusalAt (start .args .t1) k (start .args .call)) (sym (here at))
     ∙ sym (inside (start .args .t1) (start .args .call) (sound (at .before .before)) (there at))
 
