@@ -1,6 +1,5 @@
--- The invariant: what holds of every pool that comes from setup and calls. One record, its clauses grouped by layer, each named; the number
--- of the clause in the list that was confirmed by search stands beside it. Definitions only: the proofs stand in the layers' own files.
--- Assumes nothing.
+-- The invariant: what holds of every pool that comes from setup and calls. One record, its clauses grouped by layer, each named. Definitions
+-- only: the proofs stand in the layers' own files. Assumes nothing.
 use mathlib.Core.Path.{_≡_}
 use mathlib.Core.Logic.{_≢_, _⊎_}
 use mathlib.Core.Bool.{Bool, true, false, not, _&&_, _||_}
@@ -150,7 +149,7 @@ pub record Shape (p : Pool) : Type 0 where
   pub grant-pages : length (p .«grant_pages») ≡ 128
   pub grant-frames : length (p .«grant_frames») ≡ 128
 
--- ranges (13, 14), for every client of the pool
+-- ranges, for every client of the pool
 pub record Ranges (p : Pool) : Type 0 where
   pub free-ok : p .free ≤ p .size
   pub last-ok : (p .last ≡ none) ⊎ (p .last < total p)
@@ -169,24 +168,24 @@ pub record Ranges (p : Pool) : Type 0 where
   pub victim-ok : (c : ℕ) → client p c .victim ≢ none → client p c .victim < total p
   pub grant-ok : (c i : ℕ) → grantFrame p c i ≢ none → grantFrame p c i < total p
 
--- where frames stand (1, 3, 4)
+-- where frames stand
 pub record Places (p : Pool) : Type 0 where
   pub slots-apart : Apart (slot p) none
   pub owns-apart : Apart (λ c. client p c .own) none
   pub unplaced-out : (c i : ℕ) → T (unplaced (client p c .stage)) → client p c .own ≢ none → slot p i ≢ client p c .own
 
--- the own frame is in no entry and nobody else's (3, 4)
+-- the own frame is in no entry and nobody else's
 pub record Private (p : Pool) : Type 0 where
   pub own-unmapped : (c : ℕ) → client p c .own ≢ none → mapped p (client p c .own) ≡ 0
   pub own-unfound : (c d : ℕ) → client p c .own ≢ none → client p d .found ≢ client p c .own
   pub own-ungranted : (c d i : ℕ) → client p c .own ≢ none → grantFrame p d i ≢ client p c .own
 
--- pins and claims (8)
+-- pins and claims
 pub record Counts (p : Pool) : Type 0 where
   pub owns-none : (c : ℕ) → T (ownless (client p c .stage)) → client p c .own ≡ none
   pub balance : (f : ℕ) → f ≢ none → Balance p f (pins p f) (claimed p f)
 
--- the table, and what each client knows (2, 5, 6, 9, 10)
+-- the table, and what each client knows
 pub record Outline (p : Pool) : Type 0 where
   pub entries-apart : Apart (entryFrame p) none
   pub pages-apart : (i j : ℕ) → entryFrame p i ≢ none → entryFrame p j ≢ none → entryPage p i ≡ entryPage p j → i ≡ j
@@ -204,7 +203,7 @@ pub record Outline (p : Pool) : Type 0 where
 abbrev pub Leaves : Pool → Client → ℕ → Type 0
 Leaves p k f = (k .victim ≡ f) × (T (leaving (k .stage)) ⊎ ((k .stage ≡ 15) × (slot p (k .place) ≡ f)))
 
--- empty slots, victims, evicted frames in the table (7, 11, 12)
+-- empty slots, victims, evicted frames in the table
 pub record Calm (p : Pool) : Type 0 where
   pub empties : sumTo (λ i. one (eqb (slot p i) none)) (p .size) ≡ p .free + sumTo (λ c. one (filling (client p c .stage))) (clientCount p)
   pub six : (c : ℕ) → client p c .stage ≡ 6 → client p c .seen ≢ 0
