@@ -14,20 +14,13 @@ use Rattle.pool.specs.Stages.{busyVisit, evictOwn, stage1, stage2, stage3, stag
 use Rattle.pool.specs.Stages.{stage13, stage14, stage15, stage16, stage17, stage18, stage19, stage20, stage21, stage22, stage23}
 use Rattle.pool.specs.Calls.{setupOf, refusalAt, refusal, beginMove, releaseMove, moveOf, finished, callOf}
 use Rattle.laws.specs.Choices.{by-test}
+use Rattle.answers.specs.Among.{Among}
 use Rattle.pool.specs.declared.Pool.{Pool}
 use Rattle.pool.specs.declared.Client.{Client}
 use Rattle.pool.specs.declared.Call.{Call}
 use Rattle.pool.specs.declared.Call.the-variants.{Begin, Step, Release}
 use Rattle.pool.specs.declared.Move.{Move}
 use Rattle.pool.specs.declared.Outcome.{Outcome}
-
-abbrev pub listed : List ℕ → ℕ → Bool
-listed [] n = false
-listed (x ∷ ns) n = eqb n x || listed ns n
-
--- n is one of the numbers
-abbrev pub Among : List ℕ → ℕ → Type 0
-Among ns n = listed ns n ≡ true
 
 -- what is known of a call's refusal number
 abbrev Answers : List ℕ → Outcome → Type 0

@@ -14,7 +14,7 @@ ghost use Rattle.pool.specs.Calls.{turnedDown, fresh, setupOf, caller, refusal,
 ghost use Rattle.pool.specs.Tallies.{up, tallied};
 ghost use Rattle.pool.specs.declared.Pool.{Pool};
 ghost use Rattle.pool.specs.declared.Call.the-variants.{Begin, Step, Release};
-ghost use Rattle.calls.specs.Refusals.{Among};
+ghost use Rattle.answers.specs.Among.{Among};
 ghost use Rattle.calls.specs.Tallied.{steppedOf};
 use moves::Numbers;
 use pool::Answer;

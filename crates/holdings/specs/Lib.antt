@@ -1,3 +1,4 @@
 pub mod Counting
 pub mod Rows
 pub mod Collects
+pub mod Refusals

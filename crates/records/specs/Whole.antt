@@ -1,19 +1,21 @@
 -- What a record that is read has: the bytes that its kind needs, and where it cannot be read, a refusal that ends the run. Assumes nothing.
-use mathlib.Core.Path.{_≡_, sym, _∙_}
+use mathlib.Core.Path.{_≡_, refl, sym, _∙_}
 use mathlib.Core.Bool.{Bool, true, false, true≢false}
-use mathlib.Core.List.{List}
+use mathlib.Core.List.{List, [], _∷_}
 use Prim.Native.Nat.{ℕ, _≤_}
 use native.Mathlib.Omega.{arith}
+use native.Mathlib.Decide.{ℕ-discrete}
 use borrow.Author.Tests.{ltb-false, eqb-true, eq-eqb, lt-ltb, le-leb}
 use lib.ListN.{length}
 use Rattle.pool.specs.Choose.{choose, both, either}
-use Rattle.pool.specs.Answers.{refusalOf}
+use Rattle.pool.specs.Answers.{refusalOf, unreadOf}
 use Rattle.pool.specs.Schedule.{byte, cut, content, read, lengthOf, endsRun}
 use Rattle.pool.specs.declared.Answer.the-variants.{Refused}
 use Rattle.pool.specs.declared.Call.{Call}
 use Rattle.pool.specs.declared.Reading.{Reading}
 use Rattle.pool.specs.declared.Reading.the-variants.{Setup, Asked, Unreadable}
 use Rattle.laws.specs.Choices.{by-test}
+use Rattle.answers.specs.Among.{Among}
 
 pub whole : (s : List ℕ) → cut s ≡ false → 8 ≤ length s
 unfolding cut either
@@ -67,3 +69,22 @@ unread-ends first s n =
     (λ _ call no. let never : _≡_ {A = ℕ} 0 1 = cc in absurd (omega arith))
     (λ m low high e. let same : m ≡ n = cc in refused-ends n (omega arith) (omega arith))
     first
+
+-- the numbers of a reading: 0 where it is whole, else the refusal
+abbrev pub numbers : List ℕ
+numbers = 0 ∷ 3 ∷ 4 ∷ 5 ∷ 6 ∷ 7 ∷ []
+
+among : (n : ℕ) → 3 ≤ n → n ≤ 7 → Among numbers n
+among n low high = go n (ℕ-discrete n 3) (ℕ-discrete n 4) (ℕ-discrete n 5) (ℕ-discrete n 6) low high
+  where
+    go : (n : ℕ) → Dec (n ≡ 3) → Dec (n ≡ 4) → Dec (n ≡ 5) → Dec (n ≡ 6) → 3 ≤ n → n ≤ 7 → Among numbers n
+    go n (yes e) _ _ _ a b = rw e refl
+    go n (no _) (yes e) _ _ a b = rw e refl
+    go n (no _) (no _) (yes e) _ a b = rw e refl
+    go n (no _) (no _) (no _) (yes e) a b = rw e refl
+    go n (no x) (no y) (no z) (no w) a b = let e : n ≡ 7 = omega arith in rw e refl
+
+pub read-refusals : (first : Bool) (s : List ℕ) → Among numbers (unreadOf (read first s))
+unfolding unreadOf
+read-refusals first s =
+    read-any (λ (r : Reading). Among numbers (unreadOf r)) s (λ _ a b c h. refl) (λ _ call. refl) (λ n low high. among n low high) first

@@ -3,8 +3,11 @@
 // Every function here equals the definition of its name in crate `pool`, `specs/Schedule.antt`.
 ghost use mathlib.Core.Path.{_≡_};
 ghost use mathlib.Core.Bool.{false};
+ghost use mathlib.Core.List.{[], _∷_};
 ghost use Prim.Native.Nat.{_+_, _*_, _≤_};
 ghost use lib.ListN.{length};
+ghost use Rattle.pool.specs.Answers.{unreadOf};
+ghost use Rattle.answers.specs.Among.{Among};
 ghost use Rattle.pool.specs.Schedule.{number, cut, marked, content, read, lengthOf, endsRun, namedBy};
 use pool::Answer;
 use pool::Call;
@@ -78,7 +81,7 @@ fn content(s: &[u8]) -> Reading
 
 // The record at the start of `rest`, the schedule bytes that are left; `first` says whether it is the schedule's first. The record's checks
 // stand in order: 3; 4, "The mark is not 46 43."; 5, "The kind is above 3."; 6, "The first record is no setup, or a later one is."; 7.
-pub fn read(rest: &[u8], first: bool) -> Reading
+fn reading(rest: &[u8], first: bool) -> Reading
     ensures { λ r. ⌜ r ≡ read first (now (rest .entry)) ⌝ }
 {
     if cut(rest) {
@@ -101,6 +104,14 @@ pub fn read(rest: &[u8], first: bool) -> Reading
         return Reading::Unreadable(6);
     }
     content(rest)
+}
+
+// The record at the start of `rest`, the schedule bytes that are left, or the refusal by which it cannot be read whole.
+pub fn read(rest: &[u8], first: bool) -> Reading
+    ensures { λ r. ⌜ r ≡ read first (now (rest .entry)) ⌝ }
+    ensures { λ r. ⌜ Among (0 ∷ 3 ∷ 4 ∷ 5 ∷ 6 ∷ 7 ∷ []) (unreadOf r) ⌝ }
+{
+    reading(rest, first)
 }
 
 // How many bytes the record that was read has: "setup, 10 bytes", "begin, 2 step, 3 release, 8 bytes".

@@ -6,7 +6,7 @@ ghost use mathlib.Core.Path.{_≡_};
 ghost use mathlib.Core.List.{[], _∷_};
 ghost use Rattle.pool.specs.Answers.{refusalOf};
 ghost use Rattle.pool.specs.Tallies.{tallyAfter};
-ghost use Rattle.calls.specs.Refusals.{Among};
+ghost use Rattle.answers.specs.Among.{Among};
 ghost use Rattle.calls.specs.Tallied.{steppedOf};
 ghost use Rattle.step.specs.Answers.{answeredOf};
 use calls::Stepped;

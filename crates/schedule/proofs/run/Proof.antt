@@ -36,7 +36,7 @@ returns-3 : tie.Need-returns-3
 returns-3 c =
     let s = c .before .before in
     let r = s .before .before .before .before in
-    let e = first-unread _ (r .read .ensures) (s .before .before .before .match .keys2) (s .before .unread-of .ensures) in
+    let e = first-unread _ (r .read .ensures .0) (s .before .before .before .match .keys2) (s .before .unread-of .ensures) in
     let w = whole-run _ _ _ (unread-first _ _ (r .before .before .if1 .left) (r .before .if2 .left) _ e) in
     (s .stop .ensures .0 ∙ w .0, s .stop .ensures .1 ∙ w .1)
 
@@ -51,7 +51,7 @@ args c = c .before .before .before .before .before .before .before .before
 is-setup : (c : Told) →
     let v = c .before .reading .given .0 in
     read true (now (args c .args .schedule)) ≡ Setup (v .0) (v .1 .0) (v .1 .1 .0) (v .1 .1 .1 .0)
-is-setup c = sym (c .before .before .before .read .ensures) ∙ c .before .reading .given .1
+is-setup c = sym (c .before .before .before .read .ensures .0) ∙ c .before .reading .given .1
 
 -- what the setup comes to
 abbrev set : Told → Outcome

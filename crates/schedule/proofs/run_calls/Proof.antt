@@ -107,7 +107,7 @@ at-line c = c .before .before .before .before
 -- ---- what a turn knows
 
 is-call : (c : Told) → read false (from (loop-of c .loop .at) (now (loop-of c .before .before .before .args .schedule))) ≡ Asked (call-of c)
-is-call c = sym (c .before .before .before .read .ensures) ∙ c .before .reading .given .1
+is-call c = sym (c .before .before .before .read .ensures .0) ∙ c .before .reading .given .1
 
 seat-is : (c : Seated) → c .seat .result ≡ seat (clientCount (pool-of (told c))) (caller (call-of (told c)))
 seat-is c = c .seat .ensures ∙ ap (seat (clientCount (pool-of (told c)))) (c .before .caller .ensures)
@@ -175,7 +175,7 @@ returns-2 c =
     let r = s .before .before .before .before in
     let here = r .before .before in
     let g = here .before .before .loop .inv in
-    let e = later-unread _ (r .read .ensures) (s .before .before .before .match .keys2) (s .before .unread-of .ensures) in
+    let e = later-unread _ (r .read .ensures .0) (s .before .before .before .match .keys2) (s .before .unread-of .ensures) in
     let rest = comes-to g _ (unread g (here .before .loop-test .taken) (here .if1 .left) _ e) in
     (s .stop .ensures .0 ∙ rest .0, s .stop .ensures .1 ∙ rest .1)
 

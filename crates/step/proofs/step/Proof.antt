@@ -44,7 +44,7 @@ use denote.Exit.{yes}
 use Rattle.pool.specs.Answers.{refusalOf}
 use Rattle.pool.specs.declared.Tally.{Tally}
 use Rattle.pool.specs.declared.Pool.{Pool}
-use Rattle.calls.specs.Refusals.{Among}
+use Rattle.answers.specs.Among.{Among}
 use Rattle.calls.specs.Tallied.{steppedOf}
 use Rattle.calls.specs.declared.Stepped.{Stepped}
 use Rattle.step.specs.declared.Answered.{Answered}

@@ -1,0 +1,26 @@
+-- By which of document 01's numbers holdings can be refused. Assumes nothing.
+use mathlib.Core.Path.{_≡_, refl}
+use mathlib.Core.List.{List, [], _∷_}
+use Prim.Native.Nat.{ℕ}
+use lib.ListN.{length}
+use Rattle.pool.specs.Answers.{refusalOf}
+use Rattle.pool.specs.Holdings.{holdingsRefusal, Holdings, fills, refuses}
+use Rattle.pool.specs.declared.Pool.{Pool}
+use Rattle.pool.specs.declared.Row.{Row}
+use Rattle.pool.specs.declared.Answer.{Answer}
+use Rattle.laws.specs.Choices.{by-test}
+use Rattle.answers.specs.Among.{Among}
+
+abbrev numbers : List ℕ
+numbers = 0 ∷ 8 ∷ 9 ∷ 14 ∷ []
+
+refusal-listed : (p : Pool) (c room : ℕ) → Among numbers (holdingsRefusal p c room)
+unfolding holdingsRefusal
+refusal-listed p c room =
+    by-test (Among numbers) (λ _. by-test (Among numbers) (λ _. by-test (Among numbers) (λ _. refl) (λ _. refl)) (λ _. refl)) (λ _. refl)
+
+-- the answer's refusal number: 0 where the list is filled, else 8, 9 or 14
+pub holdings-refusals : (p : Pool) (c : ℕ) (lent rows : List Row) (a : Answer) → Holdings p c lent a rows → Among (0 ∷ 8 ∷ 9 ∷ 14 ∷ []) (refusalOf a)
+unfolding refusalOf
+holdings-refusals p c lent rows a (fills e l) = refl
+holdings-refusals p c lent rows a (refuses e z) = rw (← e) (refusal-listed p c (length lent))
