@@ -13,7 +13,7 @@ use Rattle.pool.specs.Apply.{apply}
 use Rattle.pool.specs.Valid.{valid}
 use Rattle.pool.specs.Calls.{turnedDown, caller, refusalAt, refusal, moveOf, finished, callOf}
 use Rattle.laws.specs.Choices.{chosen, passed}
-use Rattle.leaves.specs.Lists.{client-in}
+use Rattle.reads.specs.Lists.{client-in}
 use Rattle.pool.specs.declared.Pool.{Pool}
 use Rattle.pool.specs.declared.Call.{Call}
 use Rattle.pool.specs.declared.Client.{Client}

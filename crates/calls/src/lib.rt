@@ -21,12 +21,12 @@ use pool::Answer;
 use pool::Call;
 use pool::Client;
 use pool::Counted;
+use pool::EVICTED;
 use pool::Move;
 use pool::NONE;
 use pool::Outcome;
 use pool::Pool;
 use pool::Tally;
-use stages::EVICTED;
 
 // ---- setup
 
@@ -121,7 +121,7 @@ fn move_of(pool: Pool, call: Call) -> Move
     let c = answers::caller(call);
     let at = c as usize;
     let client = pool.clients[at];
-    let total = leaves::total(pool.size, pool.client_count);
+    let total = reads::total(pool.size, pool.client_count);
     let n = Numbers {
         size: pool.size,
         total,
@@ -131,7 +131,7 @@ fn move_of(pool: Pool, call: Call) -> Move
     };
     let mut fresh = NONE;
     if client.stage == 4 {
-        fresh = leaves::free_frame(pool);
+        fresh = reads::free_frame(pool);
     }
     moves::call_move(
         call,

@@ -12,7 +12,7 @@ use Rattle.pool.specs.Grants.{grantOf}
 use Rattle.pool.specs.Stages.{Stage, stages, noStage, stageMove}
 use Rattle.pool.specs.Moves.{stuck}
 use Rattle.pool.specs.Calls.{caller, beginMove, releaseMove, moveOf}
-use Rattle.leaves.specs.Lists.{entryIn, entry-in, unusedIn, unused-in, grantIn, grant-in}
+use Rattle.reads.specs.Lists.{entryIn, entry-in, unusedIn, unused-in, grantIn, grant-in}
 use Rattle.pool.specs.declared.Call.the-variants.{Begin, Step, Release}
 use Rattle.pool.specs.declared.Client.{Client}
 use Rattle.pool.specs.declared.Pool.{Pool}

@@ -7,7 +7,7 @@ use Rattle.pool.specs.State.{pinned, clientCount, total, pins, client}
 use Rattle.pool.specs.Valid.{valid}
 use Rattle.pool.specs.declared.Pool.{Pool}
 use Rattle.ranges.specs.Ranges.{Ranged, ranged, pins-low}
-use Rattle.leaves.specs.Lists.{Searchable}
+use Rattle.reads.specs.Lists.{Searchable}
 use Rattle.moves.specs.Lends.{numbersOf, Ready}
 
 module _ (p : Pool) (v : valid p ≡ true) where

@@ -9,10 +9,10 @@ ghost use Rattle.pool.specs.declared.Pool.{Pool};
 ghost use Rattle.moves.specs.Lends.{Lends, Asks, Ready};
 use pool::Call;
 use pool::Client;
+use pool::EVICTED;
 use pool::Move;
 use pool::NONE;
 use pool::Pool;
-use stages::EVICTED;
 
 // The numbers of a pool that a move reads.
 pub struct Numbers {
@@ -45,15 +45,15 @@ pub fn stage_move<'a>(
     let stage = client.stage;
     match stage {
         1 => {
-            let found = leaves::lookup(table_pages, table_frames, n.total, client.page);
+            let found = reads::lookup(table_pages, table_frames, n.total, client.page);
             stages::one(client, found)
         }
         2 => {
-            let its_pins = leaves::byte_at(pins, n.total, EVICTED, client.found);
+            let its_pins = reads::byte_at(pins, n.total, EVICTED, client.found);
             stages::two(client, its_pins)
         }
         3 => {
-            let its_count = leaves::byte_at(counts, n.total, 0, client.found);
+            let its_count = reads::byte_at(counts, n.total, 0, client.found);
             stages::three(client, n.cap, its_count)
         }
         4 => stages::four(client, fresh),
@@ -61,65 +61,65 @@ pub fn stage_move<'a>(
         6 => stages::six(client, n.free),
         7 => stages::seven(client, n.hand, n.size),
         8 => {
-            let there = leaves::slot_at(slots, n.size, client.place);
+            let there = reads::slot_at(slots, n.size, client.place);
             stages::eight(client, there, n.size)
         }
         9 => stages::nine(client, n.hand),
         10 => stages::ten(client, n.hand, n.size),
         11 => {
-            let there = leaves::slot_at(slots, n.size, client.place);
+            let there = reads::slot_at(slots, n.size, client.place);
             stages::eleven(client, there, n.size)
         }
         12 => {
-            let its_pins = leaves::byte_at(pins, n.total, EVICTED, client.victim);
+            let its_pins = reads::byte_at(pins, n.total, EVICTED, client.victim);
             stages::twelve(client, its_pins, n.size)
         }
         13 => {
-            let its_count = leaves::byte_at(counts, n.total, 0, client.victim);
+            let its_count = reads::byte_at(counts, n.total, 0, client.victim);
             stages::thirteen(client, its_count, n.size)
         }
         14 => {
-            let its_pins = leaves::byte_at(pins, n.total, EVICTED, client.victim);
+            let its_pins = reads::byte_at(pins, n.total, EVICTED, client.victim);
             stages::fourteen(client, its_pins, n.size)
         }
         15 => {
-            let there = leaves::slot_at(slots, n.size, client.place);
+            let there = reads::slot_at(slots, n.size, client.place);
             stages::fifteen(client, there, n.size)
         }
         16 => stages::sixteen(client, n.hand, n.size),
         17 => {
-            let page = leaves::page_at(pages, n.total, client.victim);
-            let i = leaves::entry_of(table_pages, table_frames, n.total, page);
-            let mapped = leaves::byte_at(table_frames, n.total, NONE, i);
+            let page = reads::page_at(pages, n.total, client.victim);
+            let i = reads::entry_of(table_pages, table_frames, n.total, page);
+            let mapped = reads::byte_at(table_frames, n.total, NONE, i);
             stages::seventeen(client, page, i, mapped)
         }
         18 => {
-            let found = leaves::lookup(table_pages, table_frames, n.total, client.page);
-            let i = leaves::unused_entry(table_frames, n.total);
+            let found = reads::lookup(table_pages, table_frames, n.total, client.page);
+            let i = reads::unused_entry(table_frames, n.total);
             stages::eighteen(client, found, i)
         }
         19 => {
-            let its_pins = leaves::byte_at(pins, n.total, EVICTED, client.found);
+            let its_pins = reads::byte_at(pins, n.total, EVICTED, client.found);
             stages::nineteen(client, its_pins)
         }
         20 => {
-            let its_pins = leaves::byte_at(pins, n.total, EVICTED, client.own);
+            let its_pins = reads::byte_at(pins, n.total, EVICTED, client.own);
             stages::twenty(client, its_pins)
         }
         21 => {
-            let its_count = leaves::byte_at(counts, n.total, 0, client.found);
+            let its_count = reads::byte_at(counts, n.total, 0, client.found);
             stages::twenty_one(client, n.cap, its_count)
         }
         22 => {
-            let i = leaves::entry_of(table_pages, table_frames, n.total, client.page);
-            let mapped = leaves::byte_at(table_frames, n.total, NONE, i);
+            let i = reads::entry_of(table_pages, table_frames, n.total, client.page);
+            let mapped = reads::byte_at(table_frames, n.total, NONE, i);
             stages::twenty_two(client, i, mapped)
         }
         23 => {
-            let its_pins = leaves::byte_at(pins, n.total, EVICTED, client.own);
+            let its_pins = reads::byte_at(pins, n.total, EVICTED, client.own);
             stages::twenty_three(client, its_pins)
         }
-        _ => stages::stuck(client),
+        _ => endings::stuck(client),
     }
 }
 
@@ -146,7 +146,7 @@ pub fn call_move<'a>(
         Asks p call client fresh (now («grant_pages» .entry)) (now («grant_frames» .entry)) → r ≡ moveOf p call) ⌝ }
 {
     match call {
-        Call::Begin(c, page) => stages::begin_move(client, page),
+        Call::Begin(c, page) => endings::begin_move(client, page),
         Call::Step(c) => stage_move(
             client,
             n,
@@ -160,10 +160,10 @@ pub fn call_move<'a>(
         ),
         Call::Release(c, page) => {
             let at = c as usize;
-            let i = leaves::grant_of(grant_pages, at, client.held, page);
-            let f = leaves::grant_frame_at(grant_frames, at, client.held, i);
-            let its_pins = leaves::byte_at(pins, n.total, EVICTED, f);
-            stages::release_move(client, page, i, f, its_pins)
+            let i = reads::grant_of(grant_pages, at, client.held, page);
+            let f = reads::grant_frame_at(grant_frames, at, client.held, i);
+            let its_pins = reads::byte_at(pins, n.total, EVICTED, f);
+            endings::release_move(client, page, i, f, its_pins)
         }
     }
 }
@@ -176,24 +176,24 @@ pub fn apply(pool: Pool, c: usize, m: Move) -> Pool
     let mut next = pool;
     let size = next.size;
     let count = next.client_count;
-    let total = leaves::total(size, count);
+    let total = reads::total(size, count);
     let client = m.next;
     let w = m.write;
     let change = m.grants;
     next.clients[c] = client;
-    leaves::put_slots(&mut next.slots, size, w);
-    leaves::put_pages(&mut next.pages, total, w);
-    leaves::put_pins(&mut next.pins, total, w);
-    leaves::put_counts(&mut next.counts, total, w);
-    leaves::put_table_pages(&mut next.table_pages, total, w);
-    leaves::put_table_frames(&mut next.table_frames, total, w);
-    leaves::put_grant_pages(&mut next.grant_pages, count, c, change);
-    leaves::put_grant_frames(&mut next.grant_frames, count, c, change);
-    let hand = leaves::hand_after(next.hand, w);
+    writes::put_slots(&mut next.slots, size, w);
+    writes::put_pages(&mut next.pages, total, w);
+    writes::put_pins(&mut next.pins, total, w);
+    writes::put_counts(&mut next.counts, total, w);
+    writes::put_table_pages(&mut next.table_pages, total, w);
+    writes::put_table_frames(&mut next.table_frames, total, w);
+    writes::put_grant_pages(&mut next.grant_pages, count, c, change);
+    writes::put_grant_frames(&mut next.grant_frames, count, c, change);
+    let hand = writes::hand_after(next.hand, w);
     next.hand = hand;
-    let free = leaves::free_after(next.free, w);
+    let free = writes::free_after(next.free, w);
     next.free = free;
-    let last = leaves::last_after(next.last, w);
+    let last = writes::last_after(next.last, w);
     next.last = last;
     next
 }

@@ -7,6 +7,13 @@
 // No frame; no place.
 pub const NONE: u8 = 255;
 
+// Pins as they are stored, one more than document 01's: -1, 0 and 1.
+pub const EVICTED: u8 = 0;
+
+pub const NO_PIN: u8 = 1;
+
+pub const ONE_PIN: u8 = 2;
+
 // One client (document 01: bench; the source paper's thread), without its grants, which stand in the pool's `grant_pages` and `grant_frames`.
 pub struct Client {
     // The stage it stands at, 1 to 23; 0 where it rests.

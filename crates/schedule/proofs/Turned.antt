@@ -22,7 +22,7 @@ use Rattle.pool.specs.declared.Client.{Client}
 use Rattle.pool.specs.declared.Move.{Move}
 use Rattle.pool.specs.declared.Pool.{Pool}
 use Rattle.laws.specs.Choices.{by-test, chosen, passed}
-use Rattle.leaves.specs.Lists.{client-in}
+use Rattle.reads.specs.Lists.{client-in}
 use Rattle.invariant.proofs.Reached.{Reached}
 use Rattle.invariant.proofs.Edges.{Edge, on, found1, found18, lost2, lost22, pins2, pins19, gets3, gets21, takes, fills, swaps, gives-up}
 use Rattle.invariant.proofs.Edges.{drops, removes, admits, revives, evicts20, evicts23, begins, releases}

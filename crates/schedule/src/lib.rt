@@ -54,13 +54,13 @@ fn run_calls(schedule: &[u8], report: &mut [u8], first: Pool, start: usize) -> E
         at += 8;
         let size = pool.size;
         let count = pool.client_count;
-        let total = leaves::total(size, count);
+        let total = reads::total(size, count);
         let c = answers::caller(call);
         let b = turns::seat(count, c);
         let who = pool.clients[b];
         let mut fresh = NONE;
         if who.stage == 4 {
-            fresh = leaves::free_frame(pool);
+            fresh = reads::free_frame(pool);
         }
         let numbers = Numbers {
             size,
@@ -89,19 +89,19 @@ fn run_calls(schedule: &[u8], report: &mut [u8], first: Pool, start: usize) -> E
         let change = m.grants;
         let answer = m.answer;
         pool.clients[b] = next;
-        leaves::put_slots(&mut pool.slots, size, w);
-        leaves::put_pages(&mut pool.pages, total, w);
-        leaves::put_pins(&mut pool.pins, total, w);
-        leaves::put_counts(&mut pool.counts, total, w);
-        leaves::put_table_pages(&mut pool.table_pages, total, w);
-        leaves::put_table_frames(&mut pool.table_frames, total, w);
-        leaves::put_grant_pages(&mut pool.grant_pages, count, b, change);
-        leaves::put_grant_frames(&mut pool.grant_frames, count, b, change);
-        let hand = leaves::hand_after(pool.hand, w);
+        writes::put_slots(&mut pool.slots, size, w);
+        writes::put_pages(&mut pool.pages, total, w);
+        writes::put_pins(&mut pool.pins, total, w);
+        writes::put_counts(&mut pool.counts, total, w);
+        writes::put_table_pages(&mut pool.table_pages, total, w);
+        writes::put_table_frames(&mut pool.table_frames, total, w);
+        writes::put_grant_pages(&mut pool.grant_pages, count, b, change);
+        writes::put_grant_frames(&mut pool.grant_frames, count, b, change);
+        let hand = writes::hand_after(pool.hand, w);
         pool.hand = hand;
-        let free = leaves::free_after(pool.free, w);
+        let free = writes::free_after(pool.free, w);
         pool.free = free;
-        let last = leaves::last_after(pool.last, w);
+        let last = writes::last_after(pool.last, w);
         pool.last = last;
         let code = answers::code_of(answer);
         let value = answers::value_of(answer);

@@ -56,7 +56,7 @@ pub fn refusal_at(call: Call, who: Client, grant_pages: &[u32; 128]) -> u8
             if stage != 0 {
                 return 10;
             }
-            let i = leaves::grant_of(grant_pages, c as usize, who.held, page);
+            let i = reads::grant_of(grant_pages, c as usize, who.held, page);
             if i == NONE { 13 } else { 0 }
         }
     }

@@ -20,7 +20,7 @@ use Rattle.pool.specs.declared.Call.{Call}
 use Rattle.pool.specs.declared.Move.{Move}
 use Rattle.pool.specs.declared.Pool.{Pool}
 use Rattle.pool.specs.declared.Reading.the-variants.{Asked}
-use Rattle.leaves.specs.Lists.{client-in}
+use Rattle.reads.specs.Lists.{client-in}
 use Rattle.moves.specs.Applied.{applied}
 use Rattle.moves.specs.Ready.{searchable, ready, grants-fit}
 use Rattle.report.specs.Lines.{written, line-fits}

@@ -13,7 +13,7 @@ use Rattle.pool.specs.declared.Call.{Call}
 use Rattle.pool.specs.declared.Call.the-variants.{Release}
 use Rattle.pool.specs.declared.Client.{Client}
 use Rattle.pool.specs.declared.Pool.{Pool}
-use Rattle.leaves.specs.Lists.{grantIn, grant-in}
+use Rattle.reads.specs.Lists.{grantIn, grant-in}
 use Rattle.turns.proofs.refusal_at.Statement.{statement}
 use Rattle.turns.proofs.refusal_at.Tie as tie
 

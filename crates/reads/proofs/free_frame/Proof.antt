@@ -1,0 +1,235 @@
+-- The outer invariant: the search from n on is the whole search. Each inner one: the search of the slots, of the table and of the clients from
+-- i on is the whole, and the turn's n has not changed. A hit in an inner loop makes the frame referenced, so both searches pass it over; a
+-- turn that reaches its end has found it unreferenced. Each measure is what is left of its loop's range. Assumes nothing.
+use borrow.Author.Needs.{needs}
+use native.Mathlib.Omega.{arith}
+use native.Mathlib.Nat.{mod-lt}
+use mathlib.Core.Path.{_≡_, _∙_, sym, ap}
+use mathlib.Core.Bool.{Bool, true, false, not}
+use Prim.Native.Nat.{ℕ, _≤_, _<_, _-_, _+_, _%_}
+use lib.Dec.{eqb}
+use lib.ListN.{getD}
+use Rattle.pool.specs.Choose.{choose, either, scan, some}
+use Rattle.pool.specs.Frames.{names, referenced, tried, freeFrame}
+use Rattle.pool.specs.State.{none, clientCount, total, slot, entryFrame, no-client}
+use Rattle.laws.specs.Choices.{scan-hit, scan-miss, scan-end, scan-start}
+use Rattle.reads.specs.Lists.{first-of, first-in, namesIn, names-in, there, client-in, reads-as, reads-other}
+use Rattle.pool.specs.declared.Pool.{Pool}
+use Rattle.pool.specs.declared.Client.{Client}
+use Rattle.reads.proofs.free_frame.Statement.{statement}
+use Rattle.reads.proofs.free_frame.Tie as tie
+
+-- whether a slot, an entry of the table, a client names frame f
+abbrev inSlots : Pool → ℕ → Bool
+inSlots p f = some (λ x. eqb (slot p x) f) (p .size)
+
+abbrev inTable : Pool → ℕ → Bool
+inTable p f = some (λ x. eqb (entryFrame p x) f) (total p)
+
+abbrev named : Pool → ℕ → Bool
+named p f = some (names p f) (clientCount p)
+
+-- the search from the n-th frame on
+abbrev searched : Pool → ℕ → ℕ
+searched p n = scan (λ x. not (referenced p (tried p x))) (tried p) none n (total p - n)
+
+abbrev Inv-loop : tie.InvT-loop
+Inv-loop pool size count total first n₀ f i₀ n i =
+    (n ≡ n₀) × (i ≤ size) × (scan (λ x. eqb (slot pool x) f) (λ _. true) false i (size - i) ≡ inSlots pool f)
+
+abbrev μ-loop : tie.MeasureT-loop
+μ-loop pool size count total first n₀ f i₀ n i = size - i
+
+abbrev Inv-loop2 : tie.InvT-loop2
+Inv-loop2 pool size count total first n₀ f i₀ n i =
+    (n ≡ n₀) × (i ≤ total) × (scan (λ x. eqb (entryFrame pool x) f) (λ _. true) false i (total - i) ≡ inTable pool f)
+
+abbrev μ-loop2 : tie.MeasureT-loop2
+μ-loop2 pool size count total first n₀ f i₀ n i = total - i
+
+abbrev Inv-loop3 : tie.InvT-loop3
+Inv-loop3 pool size count total first n₀ f c₀ n c =
+    (n ≡ n₀) × (c ≤ count) × (scan (names pool f) (λ _. true) false c (count - c) ≡ named pool f)
+
+abbrev μ-loop3 : tie.MeasureT-loop3
+μ-loop3 pool size count total first n₀ f c₀ n c = count - c
+
+abbrev Inv-frames : tie.InvT-frames
+Inv-frames pool size count total first n₀ n = (n ≤ total) × (searched pool n ≡ freeFrame pool)
+
+abbrev μ-frames : tie.MeasureT-frames
+μ-frames pool size count total first n₀ n = total - n
+
+-- a turn of the outer loop, and what is known after the slots and after the table
+abbrev Turn : Type 0
+Turn = tie.In-frames Inv-loop μ-loop Inv-loop2 μ-loop2 Inv-loop3 μ-loop3 Inv-frames μ-frames
+
+abbrev Past-slots : Type 0
+Past-slots = tie.After-loop Inv-loop μ-loop Inv-loop2 μ-loop2 Inv-loop3 μ-loop3 Inv-frames μ-frames
+
+abbrev Past-table : Type 0
+Past-table = tie.After-loop2 Inv-loop μ-loop Inv-loop2 μ-loop2 Inv-loop3 μ-loop3 Inv-frames μ-frames
+
+abbrev turn : Past-slots → Turn
+turn c = c .before .before
+
+abbrev poolAt : Turn → Pool
+poolAt c = c .before .before .before .args .t1
+
+-- the frame of the turn, as the code has it
+abbrev frameAt : Turn → ℕ
+frameAt c = (c .before .before .first-tried .result + c .before .frames .n) % total (poolAt c)
+
+-- it is the one that the definition tries
+same : (c : Turn) → tried (poolAt c) (c .before .frames .n) ≡ frameAt c
+same c = ap (λ (x : ℕ). (x + c .before .frames .n) % total (poolAt c)) (sym (c .before .before .first-tried .ensures ∙ first-of (poolAt c)))
+
+tested : (c : Turn) (b : Bool) → referenced (poolAt c) (frameAt c) ≡ b → not (referenced (poolAt c) (tried (poolAt c) (c .before .frames .n))) ≡ not b
+tested c b e = ap (λ (f : ℕ). not (referenced (poolAt c) f)) (same c) ∙ ap not e
+
+-- a frame that is referenced is passed over
+past : (c : Turn) (n : ℕ) → n ≡ c .before .frames .n → referenced (poolAt c) (frameAt c) ≡ true →
+    (n + 1 ≤ total (poolAt c)) × (searched (poolAt c) (n + 1) ≡ freeFrame (poolAt c))
+past c n e u = rw e (omega arith, sym (scan-miss _ _ _ _ _ (c .frames-test .taken) (tested c true u)) ∙ c .before .frames .inv .1)
+
+no-slot : (c : Past-slots) → inSlots (poolAt (turn c)) (frameAt (turn c)) ≡ false
+no-slot c = sym (c .before .loop .inv .2) ∙ scan-end _ _ _ _ _ (c .loop-test .left)
+
+no-entry : (c : Past-table) → inTable (poolAt (turn (c .before .before))) (frameAt (turn (c .before .before))) ≡ false
+no-entry c = sym (c .before .loop2 .inv .2) ∙ scan-end _ _ _ _ _ (c .loop2-test .left)
+
+-- what `names` answered is whether the definition's client names the frame
+answered : (p : Pool) (f c : ℕ) → c < clientCount p → {b r : Bool} → r ≡ namesIn (getD (p .clients) c no-client) (p .«grant_frames») c f → r ≡ b →
+    names p f c ≡ b
+answered p f c h e t = sym (names-in p f c) ∙ ap (λ (k : Client). namesIn k (p .«grant_frames») c f) (client-in p c h) ∙ sym e ∙ t
+
+first-tried-requires :
+    tie.Need-first-tried-requires
+    Inv-loop
+    μ-loop
+    Inv-loop2
+    μ-loop2
+    Inv-loop3
+    μ-loop3
+    Inv-frames
+    μ-frames
+first-tried-requires c κs = let h = c .pre .some-slot in omega arith
+
+frames-holds :
+    tie.Need-frames-holds Inv-loop μ-loop Inv-loop2 μ-loop2 Inv-loop3 μ-loop3 Inv-frames μ-frames
+unfolding freeFrame
+frames-holds c = (omega arith, scan-start _ _ _ _)
+
+add-f : tie.Need-add-f Inv-loop μ-loop Inv-loop2 μ-loop2 Inv-loop3 μ-loop3 Inv-frames μ-frames
+add-f c = let h = first-in (poolAt c .last) (total (poolAt c)) (omega arith) in omega (arith, c .before .before .first-tried .ensures)
+
+cast-f : tie.Need-cast-f Inv-loop μ-loop Inv-loop2 μ-loop2 Inv-loop3 μ-loop3 Inv-frames μ-frames
+cast-f c = let h : frameAt c < total (poolAt c) = mod-lt _ (omega arith) in omega arith
+
+loop-holds :
+    tie.Need-loop-holds Inv-loop μ-loop Inv-loop2 μ-loop2 Inv-loop3 μ-loop3 Inv-frames μ-frames
+loop-holds c = (search needs, omega arith, scan-start _ _ _ _)
+
+frames-again :
+    tie.Need-frames-again Inv-loop μ-loop Inv-loop2 μ-loop2 Inv-loop3 μ-loop3 Inv-frames μ-frames
+unfolding referenced slot either choose
+frames-again c =
+    let l = c .before .before .before in
+    let t = l .before in
+    let h = c .before .before .loop-test .taken in
+    let hit : inSlots (poolAt t) (frameAt t) ≡ true =
+    sym (l .loop .inv .2) ∙ scan-hit _ _ _ _ _ h (reads-as (there (poolAt t .slots) _ none _ h) (c .if1 .taken)) in
+    past t (l .loop .n) (l .loop .inv .0) (simp hit)
+
+loop-again :
+    tie.Need-loop-again Inv-loop μ-loop Inv-loop2 μ-loop2 Inv-loop3 μ-loop3 Inv-frames μ-frames
+unfolding slot
+loop-again c =
+    let l = c .before .before .before in
+    let h = c .before .before .loop-test .taken in
+    let other = reads-other (there (poolAt (l .before) .slots) _ none _ h) (c .if1 .left) in
+    (l .loop .inv .0, omega arith, sym (scan-miss _ _ _ _ _ h other) ∙ l .loop .inv .2)
+
+loop2-holds :
+    tie.Need-loop2-holds Inv-loop μ-loop Inv-loop2 μ-loop2 Inv-loop3 μ-loop3 Inv-frames μ-frames
+loop2-holds c = (search needs, omega arith, scan-start _ _ _ _)
+
+frames-again-2 :
+    tie.Need-frames-again-2 Inv-loop μ-loop Inv-loop2 μ-loop2 Inv-loop3 μ-loop3 Inv-frames μ-frames
+unfolding referenced entryFrame either choose
+frames-again-2 c =
+    let l = c .before .before .before in
+    let s = l .before in
+    let t = turn s in
+    let h = c .before .before .loop2-test .taken in
+    let hit : inTable (poolAt t) (frameAt t) ≡ true =
+    sym (l .loop2 .inv .2) ∙ scan-hit _ _ _ _ _ h (reads-as (there (poolAt t .«table_frames») _ none _ h) (c .if2 .taken)) in
+    past t (l .loop2 .n) (l .loop2 .inv .0 ∙ s .before .loop .inv .0) (simp (no-slot s, hit))
+
+loop2-again :
+    tie.Need-loop2-again Inv-loop μ-loop Inv-loop2 μ-loop2 Inv-loop3 μ-loop3 Inv-frames μ-frames
+unfolding entryFrame
+loop2-again c =
+    let l = c .before .before .before in
+    let h = c .before .before .loop2-test .taken in
+    let other = reads-other (there (poolAt (turn (l .before)) .«table_frames») _ none _ h) (c .if2 .left) in
+    (l .loop2 .inv .0, omega arith, sym (scan-miss _ _ _ _ _ h other) ∙ l .loop2 .inv .2)
+
+loop3-holds :
+    tie.Need-loop3-holds Inv-loop μ-loop Inv-loop2 μ-loop2 Inv-loop3 μ-loop3 Inv-frames μ-frames
+loop3-holds c = (search needs, omega arith, scan-start _ _ _ _)
+
+names-requires :
+    tie.Need-names-requires Inv-loop μ-loop Inv-loop2 μ-loop2 Inv-loop3 μ-loop3 Inv-frames μ-frames
+names-requires c κs =
+    let l = c .before .before .before .before in
+    let t = turn (l .before .before .before) in
+    let h = c .before .before .before .loop3-test .taken in
+    (omega arith, rw (client-in (poolAt t) (l .loop3 .c) h) at (t .before .before .before .pre .grants (l .loop3 .c) h))
+
+frames-again-3 :
+    tie.Need-frames-again-3 Inv-loop μ-loop Inv-loop2 μ-loop2 Inv-loop3 μ-loop3 Inv-frames μ-frames
+unfolding referenced either choose
+frames-again-3 c =
+    let l = c .before .before .before .before .before .before in
+    let e = l .before in
+    let s = e .before .before in
+    let t = turn s in
+    let h = c .before .before .before .before .before .loop3-test .taken in
+    let hit : named (poolAt t) (frameAt t) ≡ true =
+    sym (l .loop3 .inv .2) ∙ scan-hit _ _ _ _ _ h (answered (poolAt t) (frameAt t) (l .loop3 .c) h (c .before .names .ensures) (c .if3 .taken)) in
+    let same-turn = l .loop3 .inv .0 ∙ e .before .loop2 .inv .0 ∙ s .before .loop .inv .0 in
+    past t (l .loop3 .n) same-turn (simp (no-slot s, no-entry e, hit))
+
+loop3-again :
+    tie.Need-loop3-again Inv-loop μ-loop Inv-loop2 μ-loop2 Inv-loop3 μ-loop3 Inv-frames μ-frames
+loop3-again c =
+    let l = c .before .before .before .before .before .before in
+    let t = turn (l .before .before .before) in
+    let h = c .before .before .before .before .before .loop3-test .taken in
+    let other = answered (poolAt t) (frameAt t) (l .loop3 .c) h (c .before .names .ensures) (c .if3 .left) in
+    (l .loop3 .inv .0, omega arith, sym (scan-miss _ _ _ _ _ h other) ∙ l .loop3 .inv .2)
+
+returns : tie.Need-returns Inv-loop μ-loop Inv-loop2 μ-loop2 Inv-loop3 μ-loop3 Inv-frames μ-frames
+unfolding referenced either choose
+returns c =
+    let e = c .before .before in
+    let s = e .before .before in
+    let t = turn s in
+    let nobody : named (poolAt t) (frameAt t) ≡ false = sym (c .before .loop3 .inv .2) ∙ scan-end _ _ _ _ _ (c .loop3-test .left) in
+    let free : referenced (poolAt t) (frameAt t) ≡ false = simp (no-slot s, no-entry e, nobody) in
+    sym (same t) ∙ sym (scan-hit _ (tried (poolAt t)) none _ _ (t .frames-test .taken) (tested t false free)) ∙ t .before .frames .inv .1
+
+returns-2 :
+    tie.Need-returns-2 Inv-loop μ-loop Inv-loop2 μ-loop2 Inv-loop3 μ-loop3 Inv-frames μ-frames
+returns-2 c = sym (scan-end _ _ _ _ _ (c .frames-test .left)) ∙ c .before .frames .inv .1
+
+pub free-frame-spec : {M : Type 1} → statement M
+free-frame-spec =
+    tie.close
+    (tie.spec
+    Inv-loop μ-loop Inv-loop2 μ-loop2 Inv-loop3 μ-loop3 Inv-frames μ-frames (λ c. search needs) (λ c. search needs) (λ c. search needs)
+    (λ c. search needs) first-tried-requires frames-holds add-f (λ c. search needs) cast-f loop-holds (λ c. search needs) (λ c. search needs)
+    (λ c. search needs) frames-again (λ c. search needs) (λ c. search needs) loop-again loop2-holds (λ c. search needs) (λ c. search needs)
+    (λ c. search needs) frames-again-2 (λ c. search needs) (λ c. search needs) loop2-again loop3-holds (λ c. search needs) (λ c. search needs)
+    names-requires (λ c. search needs) (λ c. search needs) frames-again-3 (λ c. search needs) (λ c. search needs) loop3-again returns returns-2)

@@ -1,0 +1,175 @@
+// What an action reads of the pool, where it lies: elements of its arrays by index, within the part that the pool has, and searches over them.
+ghost use mathlib.Core.Path.{_≡_};
+ghost use Prim.Native.Nat.{_+_, _*_, _<_, _≤_};
+ghost use Rattle.pool.specs.State.{none, within, ofClient};
+ghost use Rattle.pool.specs.Frames.{freeFrame};
+ghost use Rattle.reads.specs.Lists.{Searchable, entryIn, lookupIn, unusedIn, grantIn, firstOf, namesIn};
+use pool::Client;
+use pool::NONE;
+use pool::Pool;
+
+// ---- reads
+
+// "There are S + 2T frames"; the table has as many places.
+pub fn total(size: u8, client_count: u8) -> u8
+    requires { ⌜ (size ≤ 64) × («client_count» ≤ 16) ⌝ }
+    ensures { λ r. ⌜ r ≡ size + 2 * «client_count» ⌝ }
+{
+    size + 2 * client_count
+}
+
+// The frame that slot i names, of the first `size` slots.
+pub fn slot_at(slots: &[u8; 64], size: u8, i: u8) -> u8
+    requires { ⌜ size ≤ 64 ⌝ }
+    ensures { λ r. ⌜ r ≡ within (now (slots .entry)) size none i ⌝ }
+{
+    let at = i as usize;
+    if i < size { slots[at] } else { NONE }
+}
+
+// Element i of the first n, of a frame's pins or counts or of the table's frames; d past them.
+pub fn byte_at(xs: &[u8; 96], n: u8, d: u8, i: u8) -> u8
+    requires { ⌜ n ≤ 96 ⌝ }
+    ensures { λ r. ⌜ r ≡ within (now (xs .entry)) n d i ⌝ }
+{
+    let at = i as usize;
+    if i < n { xs[at] } else { d }
+}
+
+// Page i of the first n, of the frames or of the table; 0 past them.
+pub fn page_at(pages: &[u32; 96], n: u8, i: u8) -> u32
+    requires { ⌜ n ≤ 96 ⌝ }
+    ensures { λ r. ⌜ r ≡ within (now (pages .entry)) n 0 i ⌝ }
+{
+    let at = i as usize;
+    if i < n { pages[at] } else { 0 }
+}
+
+// The frame of client c's grant i, of the first `held`.
+pub fn grant_frame_at(frames: &[u8; 128], c: usize, held: u8, i: u8) -> u8
+    requires { ⌜ (c < 16) × (held ≤ 8) ⌝ }
+    ensures { λ r. ⌜ r ≡ ofClient (now (frames .entry)) c held none i ⌝ }
+{
+    let at = 8 * c + i as usize;
+    if i < held { frames[at] } else { NONE }
+}
+
+// ---- searches
+
+// The place of the entry that maps a page, or NONE.
+pub fn entry_of<'a>(pages: &'a [u32; 96], frames: &'a [u8; 96], total: u8, page: u32) -> u8
+    requires { ⌜ total ≤ 96 ⌝ }
+    ensures { λ r. ⌜ r ≡ entryIn (now (pages .entry)) (now (frames .entry)) total page ⌝ }
+{
+    let n = total as usize;
+    for i in 0..n {
+        if pages[i] == page && frames[i] != NONE {
+            return i as u8;
+        }
+    }
+    NONE
+}
+
+// The frame that a page is mapped to, or NONE.
+pub fn lookup<'a>(pages: &'a [u32; 96], frames: &'a [u8; 96], total: u8, page: u32) -> u8
+    requires { ⌜ total ≤ 96 ⌝ }
+    ensures { λ r. ⌜ r ≡ lookupIn (now (pages .entry)) (now (frames .entry)) total page ⌝ }
+{
+    let i = entry_of(pages, frames, total, page);
+    byte_at(frames, total, NONE, i)
+}
+
+// The first place of the table that is unused, or NONE.
+pub fn unused_entry(frames: &[u8; 96], total: u8) -> u8
+    requires { ⌜ total ≤ 96 ⌝ }
+    ensures { λ r. ⌜ r ≡ unusedIn (now (frames .entry)) total ⌝ }
+{
+    let n = total as usize;
+    for i in 0..n {
+        if frames[i] == NONE {
+            return i as u8;
+        }
+    }
+    NONE
+}
+
+// The place among client c's grants of its first on a page, or NONE.
+pub fn grant_of(pages: &[u32; 128], c: usize, held: u8, page: u32) -> u8
+    requires { ⌜ (c < 16) × (held ≤ 8) ⌝ }
+    ensures { λ r. ⌜ r ≡ grantIn (now (pages .entry)) c held page ⌝ }
+{
+    let n = held as usize;
+    for i in 0..n {
+        if pages[8 * c + i] == page {
+            return i as u8;
+        }
+    }
+    NONE
+}
+
+// Where the search for a frame starts: after the one last taken, at 0 when none was.
+fn first_tried(last: u8, total: usize) -> usize
+    requires { ⌜ 0 < total ⌝ }
+    ensures { λ r. ⌜ r ≡ firstOf last total ⌝ }
+{
+    if last == NONE {
+        return 0;
+    }
+    (last as usize + 1) % total
+}
+
+// Whether client c names a frame: its own, its found one, its victim, or one of its grants.
+fn names(client: Client, grant_frames: &[u8; 128], c: usize, f: u8) -> bool
+    requires { ⌜ (c < 16) × (client .held ≤ 8) ⌝ }
+    ensures { λ r. ⌜ r ≡ namesIn client (now («grant_frames» .entry)) c f ⌝ }
+{
+    if client.own == f {
+        return true;
+    }
+    if client.found == f {
+        return true;
+    }
+    if client.victim == f {
+        return true;
+    }
+    let held = client.held as usize;
+    for i in 0..held {
+        if grant_frames[8 * c + i] == f {
+            return true;
+        }
+    }
+    false
+}
+
+// The first frame that no slot, no entry of the table and no client names, from the one after the last taken on and going round; or NONE.
+pub fn free_frame(pool: Pool) -> u8
+    requires { ⌜ Searchable pool ⌝ }
+    ensures { λ r. ⌜ r ≡ freeFrame pool ⌝ }
+{
+    let size = pool.size as usize;
+    let count = pool.client_count as usize;
+    let total = size + 2 * count;
+    let first = first_tried(pool.last, total);
+    'frames: for n in 0..total {
+        let f = ((first + n) % total) as u8;
+        for i in 0..size {
+            if pool.slots[i] == f {
+                continue 'frames;
+            }
+        }
+        for i in 0..total {
+            if pool.table_frames[i] == f {
+                continue 'frames;
+            }
+        }
+        for c in 0..count {
+            let client = pool.clients[c];
+            let named = names(client, &pool.grant_frames, c, f);
+            if named {
+                continue 'frames;
+            }
+        }
+        return f;
+    }
+    NONE
+}
