@@ -13,7 +13,7 @@ use Rattle.pool.specs.Apply.{apply}
 use Rattle.pool.specs.Valid.{valid}
 use Rattle.pool.specs.Calls.{turnedDown, caller, refusalAt, refusal, moveOf, finished, callOf}
 use Rattle.laws.specs.Choices.{chosen, passed}
-use Rattle.reads.specs.Lists.{client-in}
+use Rattle.laws.specs.Elements.{client-of-pool}
 use Rattle.pool.specs.declared.Pool.{Pool}
 use Rattle.pool.specs.declared.Call.{Call}
 use Rattle.pool.specs.declared.Client.{Client}
@@ -25,7 +25,7 @@ use Rattle.pool.specs.declared.Outcome.{Outcome}
 -- the client as it is read, at the place that the code has for it
 pub read-client : (p : Pool) (call : Call) (i : ℕ) → i ≡ caller call → caller call < clientCount p →
     client p (caller call) ≡ getD (p .clients) i no-client
-read-client p call i e h = client-in p (caller call) h ∙ ap (λ (n : ℕ). getD (p .clients) n no-client) (sym e)
+read-client p call i e h = client-of-pool p (caller call) h ∙ ap (λ (n : ℕ). getD (p .clients) n no-client) (sym e)
 
 module _ (p : Pool) (call : Call) where
   pub unsound : valid p ≡ false → refusal p call ≡ 8

@@ -11,7 +11,6 @@ ghost use Rattle.pool.specs.State.{clientCount};
 ghost use Rattle.pool.specs.Answers.{refusalOf};
 ghost use Rattle.pool.specs.Valid.{valid};
 ghost use Rattle.pool.specs.Calls.{turnedDown, fresh, setupOf, caller, refusal, moveOf, finished, callOf};
-ghost use Rattle.pool.specs.Tallies.{up, tallied};
 ghost use Rattle.pool.specs.declared.Pool.{Pool};
 ghost use Rattle.pool.specs.declared.Call.the-variants.{Begin, Step, Release};
 ghost use Rattle.answers.specs.Among.{Among};
@@ -203,43 +202,7 @@ pub fn release(pool: Pool, client: u8, page: u32) -> Outcome
     call_of(pool, Call::Release(client, page))
 }
 
-// ---- the tally
-
-// "Each is 32 bits and stays at its largest value."
-fn up(n: u32) -> u32
-    ensures { λ r. ⌜ r ≡ up n ⌝ }
-{
-    if n < 4294967295 { n + 1 } else { n }
-}
-
-// "hits (3), joins (21), admitted (18), revived (22), drops (14 that evicted), refused (refusal 15)": what an action is counted as.
-fn tallied(counted: Counted, tally: Tally) -> Tally
-    ensures { λ r. ⌜ r ≡ tallied counted tally ⌝ }
-{
-    let mut next = tally;
-    match counted {
-        Counted::Nothing => {}
-        Counted::Hit => {
-            next.hits = up(tally.hits);
-        }
-        Counted::Join => {
-            next.joins = up(tally.joins);
-        }
-        Counted::Admitted => {
-            next.admitted = up(tally.admitted);
-        }
-        Counted::Revived => {
-            next.revived = up(tally.revived);
-        }
-        Counted::Drop => {
-            next.drops = up(tally.drops);
-        }
-        Counted::Refusal => {
-            next.refused = up(tally.refused);
-        }
-    }
-    next
-}
+// ---- a step, with the tally
 
 // What a step leaves: its answer, the caller's tally brought up to date, the pool.
 pub struct Stepped {
@@ -259,7 +222,7 @@ pub fn step_tallied(pool: Pool, client: u8, tally: Tally) -> Stepped
     let after = done.pool;
     Stepped {
         answer,
-        tally: tallied(counted, tally),
+        tally: tallies::tallied(counted, tally),
         pool: after,
     }
 }

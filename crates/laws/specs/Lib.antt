@@ -1,2 +1,4 @@
 pub mod Choices
 pub mod Scans
+pub mod Loops
+pub mod Elements

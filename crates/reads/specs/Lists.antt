@@ -5,14 +5,13 @@ use mathlib.Core.List.{List}
 use Prim.Native.Nat.{ℕ, _+_, _%_, _<_, _≤_}
 use native.Mathlib.Nat.{mod-lt}
 use lib.Dec.{eqb}
-use lib.ListN.{getD}
-use borrow.Author.Tests.{eq-eqb, ne-eqb, lt-ltb}
+use borrow.Author.Tests.{eq-eqb, ne-eqb}
 use Rattle.pool.specs.Choose.{choose, both, either, scan, some}
-use Rattle.pool.specs.State.{none, no-client, clientCount, total, within, client, entryPage, entryFrame, ofClient, grantPlace, grantPage, grantFrame}
+use Rattle.pool.specs.State.{none, clientCount, total, within, client, entryPage, entryFrame, ofClient, grantPage, grantFrame}
 use Rattle.pool.specs.Table.{maps, entryOf, lookup, unusedEntry}
 use Rattle.pool.specs.Grants.{grantOf, holds}
 use Rattle.pool.specs.Frames.{names, firstTried}
-use Rattle.laws.specs.Choices.{by-test, chosen}
+use Rattle.laws.specs.Choices.{by-test}
 use Rattle.pool.specs.declared.Client.{Client}
 use Rattle.pool.specs.declared.Pool.{Pool}
 
@@ -81,20 +80,6 @@ pub record Searchable (p : Pool) : Type 0 where
   pub slots : p .size ≤ 64
   pub clients : clientCount p ≤ 16
   pub grants : (c : ℕ) → c < clientCount p → client p c .held ≤ 8
-
--- ---- an element, a grant and a client that are there
-
-pub there : (l : List ℕ) (n d i : ℕ) → i < n → within l n d i ≡ getD l i 0
-unfolding within
-there l n d i h = chosen _ _ _ (lt-ltb i n h)
-
-pub granted-there : (l : List ℕ) (c n d i : ℕ) → i < n → ofClient l c n d i ≡ getD l (grantPlace c i) 0
-unfolding ofClient
-granted-there l c n d i h = chosen _ _ _ (lt-ltb i n h)
-
-pub client-in : (p : Pool) (c : ℕ) → c < clientCount p → client p c ≡ getD (p .clients) c no-client
-unfolding client
-client-in p c h = chosen _ _ _ (lt-ltb c (clientCount p) h)
 
 -- ---- what is read, x, compared with a number v, and the definition's y compared with it
 

@@ -22,7 +22,7 @@ use Rattle.pool.specs.declared.Client.{Client}
 use Rattle.pool.specs.declared.Move.{Move}
 use Rattle.pool.specs.declared.Pool.{Pool}
 use Rattle.laws.specs.Choices.{by-test, chosen, passed}
-use Rattle.reads.specs.Lists.{client-in}
+use Rattle.laws.specs.Elements.{client-of-pool}
 use Rattle.invariant.proofs.Reached.{Reached}
 use Rattle.invariant.proofs.Edges.{Edge, on, found1, found18, lost2, lost22, pins2, pins19, gets3, gets21, takes, fills, swaps, gives-up}
 use Rattle.invariant.proofs.Edges.{drops, removes, admits, revives, evicts20, evicts23, begins, releases}
@@ -79,7 +79,7 @@ high p call = by-test NoneOrHigh (λ _. high-at p (client p (caller call)) call)
 
 unchanged : (p : Pool) (c n : ℕ) → c < clientCount p → apply p c (still (client p c) n) ≡ p
 unfolding apply slotsAfter pagesAfter pinsAfter countsAfter entryPagesAfter entryFramesAfter handAfter freeAfter lastAfter grantPagesAfter grantFramesAfter
-unchanged p c n h = rw (client-in p c h, set-getD)
+unchanged p c n h = rw (client-of-pool p c h, set-getD)
 
 -- ---- the call
 

@@ -6,10 +6,7 @@ ghost use mathlib.Core.Path.{_≡_};
 ghost use Prim.Native.Nat.{_+_, _*_, _<_, _≤_};
 ghost use Rattle.pool.specs.Choose.{both};
 ghost use Rattle.pool.specs.Valid.{numbersOk, usesOwn, usesFound, usesVictim, valid};
-ghost use Rattle.validity.specs.Marks.{New};
-ghost use Rattle.validity.specs.Places.{pageAt, pageOf};
-ghost use Rattle.validity.specs.Parts.{nameIn, usedIn, countsIn, namesIn, slotsIn, statesIn, placeOf, entryIn, entriesIn};
-ghost use Rattle.validity.specs.Parts.{firstOf, grantIn, grantsIn, clientIn, clientsIn};
+ghost use Rattle.validity.specs.Parts.{nameOkIn, usedOkIn, countsOkIn, namesOkIn, slotsOkIn, statesOkIn, clientOkIn, clientsOkIn};
 use pool::Client;
 use pool::Pool;
 
@@ -40,7 +37,7 @@ pub fn numbers_ok(size: u8, client_count: u8, cap: u8) -> bool
 
 // No frame, or one of the pool's n. "There are S + 2T frames, numbered from 0."
 fn name_ok(n: u8, f: u8) -> bool
-    ensures { λ r. ⌜ r ≡ nameIn n f ⌝ }
+    ensures { λ r. ⌜ r ≡ nameOkIn n f ⌝ }
 {
     if f == pool::NONE {
         return true;
@@ -50,7 +47,7 @@ fn name_ok(n: u8, f: u8) -> bool
 
 // One of the pool's n frames where the stage uses it, else none or one of them.
 fn used_ok(used: bool, n: u8, f: u8) -> bool
-    ensures { λ r. ⌜ r ≡ usedIn used n f ⌝ }
+    ensures { λ r. ⌜ r ≡ usedOkIn used n f ⌝ }
 {
     if used {
         return f < n;
@@ -95,7 +92,7 @@ fn uses_victim(stage: u8) -> bool
 // "A slot is empty or names one frame."
 fn slots_ok(slots: &[u8; 64], size: usize, n: u8) -> bool
     requires { ⌜ size ≤ 64 ⌝ }
-    ensures { λ r. ⌜ r ≡ slotsIn (now (slots .entry)) size n ⌝ }
+    ensures { λ r. ⌜ r ≡ slotsOkIn (now (slots .entry)) size n ⌝ }
 {
     for i in 0..size {
         let ok = name_ok(n, slots[i]);
@@ -109,7 +106,7 @@ fn slots_ok(slots: &[u8; 64], size: usize, n: u8) -> bool
 // "pins (-1, evicted, to 128) and a reference count (0 to C)"; the pins are stored one more.
 fn states_ok<'a>(pins: &'a [u8; 96], counts: &'a [u8; 96], n: usize, cap: u8) -> bool
     requires { ⌜ n ≤ 96 ⌝ }
-    ensures { λ r. ⌜ r ≡ statesIn (now (pins .entry)) (now (counts .entry)) n cap ⌝ }
+    ensures { λ r. ⌜ r ≡ statesOkIn (now (pins .entry)) (now (counts .entry)) n cap ⌝ }
 {
     for i in 0..n {
         let ok = both(pins[i] <= 129, counts[i] <= cap);
@@ -120,118 +117,10 @@ fn states_ok<'a>(pins: &'a [u8; 96], counts: &'a [u8; 96], n: usize, cap: u8) ->
     true
 }
 
-// The first place of the table that maps the page, or NONE.
-fn place_of<'a>(pages: &'a [u32; 96], frames: &'a [u8; 96], n: usize, page: u32) -> usize
-    requires { ⌜ n ≤ 96 ⌝ }
-    ensures { λ r. ⌜ r ≡ placeOf (now (pages .entry)) (now (frames .entry)) n page ⌝ }
-{
-    for i in 0..n {
-        let maps = both(pages[i] == page, frames[i] != pool::NONE);
-        if maps {
-            return i;
-        }
-    }
-    pool::NONE as usize
-}
-
-// "The table maps a page to at most one frame.": place i is unused, or names one of the pool's n frames and is the first that maps its page.
-// A mark of 0 says that the page stands at no earlier place, so that no search is needed.
-fn entry_ok<'a>(pages: &'a [u32; 96], frames: &'a [u8; 96], n: u8, i: usize, mark: u8) -> bool
-    requires { ⌜ (n ≤ 96) × (i < n) × (mark ≡ 0 → New (pageAt (now pages)) i) ⌝ }
-    ensures { λ r. ⌜ r ≡ entryIn (now (pages .entry)) (now (frames .entry)) n i ⌝ }
-{
-    let f = frames[i];
-    if f == pool::NONE {
-        return true;
-    }
-    if n <= f {
-        return false;
-    }
-    if mark == 0 {
-        return true;
-    }
-    let first = place_of(pages, frames, n as usize, pages[i]);
-    first == i
-}
-
-// The pages met are marked by their remainder by a prime, which spreads regular page numbers too: a page whose remainder has no mark is new.
-fn entries_ok<'a>(pages: &'a [u32; 96], frames: &'a [u8; 96], n: u8) -> bool
-    requires { ⌜ n ≤ 96 ⌝ }
-    ensures { λ r. ⌜ r ≡ entriesIn (now (pages .entry)) (now (frames .entry)) n ⌝ }
-{
-    let mut marks = [0u8; 1021];
-    let places = n as usize;
-    for i in 0..places {
-        let key = (pages[i] % 1021) as usize;
-        let ok = entry_ok(pages, frames, n, i, marks[key]);
-        if !ok {
-            return false;
-        }
-        marks[key] = 1;
-    }
-    true
-}
-
-// The place among client c's grants of its first on a page, or NONE.
-fn first_of(pages: &[u32; 128], c: usize, held: usize, page: u32) -> usize
-    requires { ⌜ (c < 16) × (held ≤ 8) ⌝ }
-    ensures { λ r. ⌜ r ≡ firstOf (now (pages .entry)) c held page ⌝ }
-{
-    for i in 0..held {
-        if pages[8 * c + i] == page {
-            return i;
-        }
-    }
-    pool::NONE as usize
-}
-
-// A grant names one of the pool's n frames, and the one that the client's first grant of its page names. A mark of 0 says that no earlier
-// grant is of the page, so that it is the first itself.
-fn grant_ok<'a>(
-    pages: &'a [u32; 128],
-    frames: &'a [u8; 128],
-    c: usize,
-    held: usize,
-    n: u8,
-    i: usize,
-    mark: u8,
-) -> bool
-    requires { ⌜ (c < 16) × (held ≤ 8) × (i < held) × (mark ≡ 0 → New (pageOf (now pages) c) i) ⌝ }
-    ensures { λ r. ⌜ r ≡ grantIn (now (pages .entry)) (now (frames .entry)) c held n i ⌝ }
-{
-    let frame = frames[8 * c + i];
-    if n <= frame {
-        return false;
-    }
-    if mark == 0 {
-        return true;
-    }
-    let first = first_of(pages, c, held, pages[8 * c + i]);
-    frames[8 * c + first] == frame
-}
-
-// "one bench's grants of one page name different frames": false. Marks as for the table; a power of two serves, for a search among 8 grants
-// is short.
-fn grants_ok<'a>(pages: &'a [u32; 128], frames: &'a [u8; 128], c: usize, held: usize, n: u8) -> bool
-    requires { ⌜ (c < 16) × (held ≤ 8) ⌝ }
-    ensures { λ r. ⌜ r ≡ grantsIn (now (pages .entry)) (now (frames .entry)) c held n ⌝ }
-{
-    let mut marks = [0u8; 64];
-    for i in 0..held {
-        let key = (pages[8 * c + i] % 64) as usize;
-        let ok = grant_ok(pages, frames, c, held, n, i, marks[key]);
-        if !ok {
-            return false;
-        }
-        marks[key] = 1;
-    }
-    true
-}
-
 // "Each working bench stands at one of 23 stages"; a bench "holds 0 to 8 grants"; "A slot number that a bench remembers is 0 to S - 1, and so is
 // a busy run."; the value of free that it read is "0 to S".
 fn counts_ok(client: Client, size: u8) -> bool
-    ensures { λ r. ⌜ r ≡ countsIn client size ⌝ }
+    ensures { λ r. ⌜ r ≡ countsOkIn client size ⌝ }
 {
     both(
         client.stage <= 23,
@@ -247,7 +136,7 @@ fn counts_ok(client: Client, size: u8) -> bool
 
 // The frames that a client remembers are the pool's, and there where its stage uses them.
 fn names_ok(client: Client, n: u8) -> bool
-    ensures { λ r. ⌜ r ≡ namesIn client n ⌝ }
+    ensures { λ r. ⌜ r ≡ namesOkIn client n ⌝ }
 {
     let own = used_ok(uses_own(client.stage), n, client.own);
     let found = used_ok(uses_found(client.stage), n, client.found);
@@ -265,7 +154,7 @@ fn client_ok<'a>(
     frames: &'a [u8; 128],
 ) -> bool
     requires { ⌜ c < 16 ⌝ }
-    ensures { λ r. ⌜ r ≡ clientIn client c size n (now (pages .entry)) (now (frames .entry)) ⌝ }
+    ensures { λ r. ⌜ r ≡ clientOkIn client c size n (now (pages .entry)) (now (frames .entry)) ⌝ }
 {
     let counts = counts_ok(client, size);
     if !counts {
@@ -275,7 +164,7 @@ fn client_ok<'a>(
     if !names {
         return false;
     }
-    grants_ok(pages, frames, c, client.held as usize, n)
+    repeats::grants_ok(pages, frames, c, client.held, n)
 }
 
 // The first `count` clients, T of the pool's.
@@ -288,7 +177,7 @@ fn clients_ok<'a>(
     frames: &'a [u8; 128],
 ) -> bool
     requires { ⌜ count ≤ 16 ⌝ }
-    ensures { λ r. ⌜ r ≡ clientsIn clients count size n (now (pages .entry)) (now (frames .entry)) ⌝ }
+    ensures { λ r. ⌜ r ≡ clientsOkIn clients count size n (now (pages .entry)) (now (frames .entry)) ⌝ }
 {
     for c in 0..count {
         let client = clients[c];
@@ -322,7 +211,7 @@ pub fn valid(pool: Pool) -> bool
     if !states {
         return false;
     }
-    let entries = entries_ok(&pool.table_pages, &pool.table_frames, n);
+    let entries = repeats::entries_ok(&pool.table_pages, &pool.table_frames, n);
     if !entries {
         return false;
     }

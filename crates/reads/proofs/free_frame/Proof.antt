@@ -1,19 +1,19 @@
--- The outer invariant: the search from n on is the whole search. Each inner one: the search of the slots, of the table and of the clients from
--- i on is the whole, and the turn's n has not changed. A hit in an inner loop makes the frame referenced, so both searches pass it over; a
+-- The outer invariant: what is left of the search from n on is all of it. Each inner one: so it is of the slots, the table and the clients, and the turn's n has not changed. A hit in an inner loop makes the frame referenced, so both searches pass it over; a
 -- turn that reaches its end has found it unreferenced. Each measure is what is left of its loop's range. Assumes nothing.
 use borrow.Author.Needs.{needs}
 use native.Mathlib.Omega.{arith}
 use native.Mathlib.Nat.{mod-lt}
-use mathlib.Core.Path.{_≡_, _∙_, sym, ap}
+use mathlib.Core.Path.{_≡_, refl, _∙_, sym, ap}
 use mathlib.Core.Bool.{Bool, true, false, not}
-use Prim.Native.Nat.{ℕ, _≤_, _<_, _-_, _+_, _%_}
+use Prim.Native.Nat.{ℕ, _<_, _-_, _+_, _%_}
 use lib.Dec.{eqb}
 use lib.ListN.{getD}
-use Rattle.pool.specs.Choose.{choose, either, scan, some}
+use Rattle.pool.specs.Choose.{choose, either, some}
 use Rattle.pool.specs.Frames.{names, referenced, tried, freeFrame}
 use Rattle.pool.specs.State.{none, clientCount, total, slot, entryFrame, no-client}
-use Rattle.laws.specs.Choices.{scan-hit, scan-miss, scan-end, scan-start}
-use Rattle.reads.specs.Lists.{first-of, first-in, namesIn, names-in, there, client-in, reads-as, reads-other}
+use Rattle.laws.specs.Elements.{element, client-of-pool}
+use Rattle.laws.specs.Loops.{Left, begins, hit, misses, ends}
+use Rattle.reads.specs.Lists.{first-of, first-in, namesIn, names-in, reads-as, reads-other}
 use Rattle.pool.specs.declared.Pool.{Pool}
 use Rattle.pool.specs.declared.Client.{Client}
 use Rattle.reads.proofs.free_frame.Statement.{statement}
@@ -29,33 +29,30 @@ inTable p f = some (λ x. eqb (entryFrame p x) f) (total p)
 abbrev named : Pool → ℕ → Bool
 named p f = some (names p f) (clientCount p)
 
--- the search from the n-th frame on
-abbrev searched : Pool → ℕ → ℕ
-searched p n = scan (λ x. not (referenced p (tried p x))) (tried p) none n (total p - n)
+-- what is left of the search from the n-th frame on is all of it
+abbrev Searching : Pool → ℕ → Type 0
+Searching p n = Left (λ x. not (referenced p (tried p x))) (tried p) none (total p) n
 
 abbrev Inv-loop : tie.InvT-loop
-Inv-loop pool size count total first n₀ f i₀ n i =
-    (n ≡ n₀) × (i ≤ size) × (scan (λ x. eqb (slot pool x) f) (λ _. true) false i (size - i) ≡ inSlots pool f)
+Inv-loop pool size count total first n₀ f i₀ n i = (n ≡ n₀) × Left (λ x. eqb (slot pool x) f) (λ _. true) false size i
 
 abbrev μ-loop : tie.MeasureT-loop
 μ-loop pool size count total first n₀ f i₀ n i = size - i
 
 abbrev Inv-loop2 : tie.InvT-loop2
-Inv-loop2 pool size count total first n₀ f i₀ n i =
-    (n ≡ n₀) × (i ≤ total) × (scan (λ x. eqb (entryFrame pool x) f) (λ _. true) false i (total - i) ≡ inTable pool f)
+Inv-loop2 pool size count total first n₀ f i₀ n i = (n ≡ n₀) × Left (λ x. eqb (entryFrame pool x) f) (λ _. true) false total i
 
 abbrev μ-loop2 : tie.MeasureT-loop2
 μ-loop2 pool size count total first n₀ f i₀ n i = total - i
 
 abbrev Inv-loop3 : tie.InvT-loop3
-Inv-loop3 pool size count total first n₀ f c₀ n c =
-    (n ≡ n₀) × (c ≤ count) × (scan (names pool f) (λ _. true) false c (count - c) ≡ named pool f)
+Inv-loop3 pool size count total first n₀ f c₀ n c = (n ≡ n₀) × Left (names pool f) (λ _. true) false count c
 
 abbrev μ-loop3 : tie.MeasureT-loop3
 μ-loop3 pool size count total first n₀ f c₀ n c = count - c
 
 abbrev Inv-frames : tie.InvT-frames
-Inv-frames pool size count total first n₀ n = (n ≤ total) × (searched pool n ≡ freeFrame pool)
+Inv-frames pool size count total first n₀ n = Searching pool n
 
 abbrev μ-frames : tie.MeasureT-frames
 μ-frames pool size count total first n₀ n = total - n
@@ -88,20 +85,19 @@ tested : (c : Turn) (b : Bool) → referenced (poolAt c) (frameAt c) ≡ b → n
 tested c b e = ap (λ (f : ℕ). not (referenced (poolAt c) f)) (same c) ∙ ap not e
 
 -- a frame that is referenced is passed over
-past : (c : Turn) (n : ℕ) → n ≡ c .before .frames .n → referenced (poolAt c) (frameAt c) ≡ true →
-    (n + 1 ≤ total (poolAt c)) × (searched (poolAt c) (n + 1) ≡ freeFrame (poolAt c))
-past c n e u = rw e (omega arith, sym (scan-miss _ _ _ _ _ (c .frames-test .taken) (tested c true u)) ∙ c .before .frames .inv .1)
+past : (c : Turn) (n : ℕ) → n ≡ c .before .frames .n → referenced (poolAt c) (frameAt c) ≡ true → Searching (poolAt c) (n + 1)
+past c n e u = rw e (misses (c .before .frames .inv) (c .frames-test .taken) refl (tested c true u))
 
 no-slot : (c : Past-slots) → inSlots (poolAt (turn c)) (frameAt (turn c)) ≡ false
-no-slot c = sym (c .before .loop .inv .2) ∙ scan-end _ _ _ _ _ (c .loop-test .left)
+no-slot c = sym (ends (c .before .loop .inv .1) (c .loop-test .left))
 
 no-entry : (c : Past-table) → inTable (poolAt (turn (c .before .before))) (frameAt (turn (c .before .before))) ≡ false
-no-entry c = sym (c .before .loop2 .inv .2) ∙ scan-end _ _ _ _ _ (c .loop2-test .left)
+no-entry c = sym (ends (c .before .loop2 .inv .1) (c .loop2-test .left))
 
 -- what `names` answered is whether the definition's client names the frame
 answered : (p : Pool) (f c : ℕ) → c < clientCount p → {b r : Bool} → r ≡ namesIn (getD (p .clients) c no-client) (p .«grant_frames») c f → r ≡ b →
     names p f c ≡ b
-answered p f c h e t = sym (names-in p f c) ∙ ap (λ (k : Client). namesIn k (p .«grant_frames») c f) (client-in p c h) ∙ sym e ∙ t
+answered p f c h e t = sym (names-in p f c) ∙ ap (λ (k : Client). namesIn k (p .«grant_frames») c f) (client-of-pool p c h) ∙ sym e ∙ t
 
 first-tried-requires :
     tie.Need-first-tried-requires
@@ -117,8 +113,7 @@ first-tried-requires c κs = let h = c .pre .some-slot in omega arith
 
 frames-holds :
     tie.Need-frames-holds Inv-loop μ-loop Inv-loop2 μ-loop2 Inv-loop3 μ-loop3 Inv-frames μ-frames
-unfolding freeFrame
-frames-holds c = (omega arith, scan-start _ _ _ _)
+frames-holds c = begins _ _ _ _
 
 add-f : tie.Need-add-f Inv-loop μ-loop Inv-loop2 μ-loop2 Inv-loop3 μ-loop3 Inv-frames μ-frames
 add-f c = let h = first-in (poolAt c .last) (total (poolAt c)) (omega arith) in omega (arith, c .before .before .first-tried .ensures)
@@ -128,7 +123,7 @@ cast-f c = let h : frameAt c < total (poolAt c) = mod-lt _ (omega arith) in omeg
 
 loop-holds :
     tie.Need-loop-holds Inv-loop μ-loop Inv-loop2 μ-loop2 Inv-loop3 μ-loop3 Inv-frames μ-frames
-loop-holds c = (search needs, omega arith, scan-start _ _ _ _)
+loop-holds c = (search needs, begins _ _ _ _)
 
 frames-again :
     tie.Need-frames-again Inv-loop μ-loop Inv-loop2 μ-loop2 Inv-loop3 μ-loop3 Inv-frames μ-frames
@@ -138,7 +133,7 @@ frames-again c =
     let t = l .before in
     let h = c .before .before .loop-test .taken in
     let hit : inSlots (poolAt t) (frameAt t) ≡ true =
-    sym (l .loop .inv .2) ∙ scan-hit _ _ _ _ _ h (reads-as (there (poolAt t .slots) _ none _ h) (c .if1 .taken)) in
+    sym (hit (l .loop .inv .1) h refl (reads-as (element (poolAt t .slots) _ none _ h) (c .if1 .taken))) in
     past t (l .loop .n) (l .loop .inv .0) (simp hit)
 
 loop-again :
@@ -147,12 +142,12 @@ unfolding slot
 loop-again c =
     let l = c .before .before .before in
     let h = c .before .before .loop-test .taken in
-    let other = reads-other (there (poolAt (l .before) .slots) _ none _ h) (c .if1 .left) in
-    (l .loop .inv .0, omega arith, sym (scan-miss _ _ _ _ _ h other) ∙ l .loop .inv .2)
+    let other = reads-other (element (poolAt (l .before) .slots) _ none _ h) (c .if1 .left) in
+    (l .loop .inv .0, misses (l .loop .inv .1) h refl other)
 
 loop2-holds :
     tie.Need-loop2-holds Inv-loop μ-loop Inv-loop2 μ-loop2 Inv-loop3 μ-loop3 Inv-frames μ-frames
-loop2-holds c = (search needs, omega arith, scan-start _ _ _ _)
+loop2-holds c = (search needs, begins _ _ _ _)
 
 frames-again-2 :
     tie.Need-frames-again-2 Inv-loop μ-loop Inv-loop2 μ-loop2 Inv-loop3 μ-loop3 Inv-frames μ-frames
@@ -163,7 +158,7 @@ frames-again-2 c =
     let t = turn s in
     let h = c .before .before .loop2-test .taken in
     let hit : inTable (poolAt t) (frameAt t) ≡ true =
-    sym (l .loop2 .inv .2) ∙ scan-hit _ _ _ _ _ h (reads-as (there (poolAt t .«table_frames») _ none _ h) (c .if2 .taken)) in
+    sym (hit (l .loop2 .inv .1) h refl (reads-as (element (poolAt t .«table_frames») _ none _ h) (c .if2 .taken))) in
     past t (l .loop2 .n) (l .loop2 .inv .0 ∙ s .before .loop .inv .0) (simp (no-slot s, hit))
 
 loop2-again :
@@ -172,12 +167,12 @@ unfolding entryFrame
 loop2-again c =
     let l = c .before .before .before in
     let h = c .before .before .loop2-test .taken in
-    let other = reads-other (there (poolAt (turn (l .before)) .«table_frames») _ none _ h) (c .if2 .left) in
-    (l .loop2 .inv .0, omega arith, sym (scan-miss _ _ _ _ _ h other) ∙ l .loop2 .inv .2)
+    let other = reads-other (element (poolAt (turn (l .before)) .«table_frames») _ none _ h) (c .if2 .left) in
+    (l .loop2 .inv .0, misses (l .loop2 .inv .1) h refl other)
 
 loop3-holds :
     tie.Need-loop3-holds Inv-loop μ-loop Inv-loop2 μ-loop2 Inv-loop3 μ-loop3 Inv-frames μ-frames
-loop3-holds c = (search needs, omega arith, scan-start _ _ _ _)
+loop3-holds c = (search needs, begins _ _ _ _)
 
 names-requires :
     tie.Need-names-requires Inv-loop μ-loop Inv-loop2 μ-loop2 Inv-loop3 μ-loop3 Inv-frames μ-frames
@@ -185,7 +180,7 @@ names-requires c κs =
     let l = c .before .before .before .before in
     let t = turn (l .before .before .before) in
     let h = c .before .before .before .loop3-test .taken in
-    (omega arith, rw (client-in (poolAt t) (l .loop3 .c) h) at (t .before .before .before .pre .grants (l .loop3 .c) h))
+    (omega arith, rw (client-of-pool (poolAt t) (l .loop3 .c) h) at (t .before .before .before .pre .grants (l .loop3 .c) h))
 
 frames-again-3 :
     tie.Need-frames-again-3 Inv-loop μ-loop Inv-loop2 μ-loop2 Inv-loop3 μ-loop3 Inv-frames μ-frames
@@ -197,7 +192,7 @@ frames-again-3 c =
     let t = turn s in
     let h = c .before .before .before .before .before .loop3-test .taken in
     let hit : named (poolAt t) (frameAt t) ≡ true =
-    sym (l .loop3 .inv .2) ∙ scan-hit _ _ _ _ _ h (answered (poolAt t) (frameAt t) (l .loop3 .c) h (c .before .names .ensures) (c .if3 .taken)) in
+    sym (hit (l .loop3 .inv .1) h refl (answered (poolAt t) (frameAt t) (l .loop3 .c) h (c .before .names .ensures) (c .if3 .taken))) in
     let same-turn = l .loop3 .inv .0 ∙ e .before .loop2 .inv .0 ∙ s .before .loop .inv .0 in
     past t (l .loop3 .n) same-turn (simp (no-slot s, no-entry e, hit))
 
@@ -208,21 +203,22 @@ loop3-again c =
     let t = turn (l .before .before .before) in
     let h = c .before .before .before .before .before .loop3-test .taken in
     let other = answered (poolAt t) (frameAt t) (l .loop3 .c) h (c .before .names .ensures) (c .if3 .left) in
-    (l .loop3 .inv .0, omega arith, sym (scan-miss _ _ _ _ _ h other) ∙ l .loop3 .inv .2)
+    (l .loop3 .inv .0, misses (l .loop3 .inv .1) h refl other)
 
 returns : tie.Need-returns Inv-loop μ-loop Inv-loop2 μ-loop2 Inv-loop3 μ-loop3 Inv-frames μ-frames
-unfolding referenced either choose
+unfolding freeFrame referenced either choose
 returns c =
     let e = c .before .before in
     let s = e .before .before in
     let t = turn s in
-    let nobody : named (poolAt t) (frameAt t) ≡ false = sym (c .before .loop3 .inv .2) ∙ scan-end _ _ _ _ _ (c .loop3-test .left) in
+    let nobody : named (poolAt t) (frameAt t) ≡ false = sym (ends (c .before .loop3 .inv .1) (c .loop3-test .left)) in
     let free : referenced (poolAt t) (frameAt t) ≡ false = simp (no-slot s, no-entry e, nobody) in
-    sym (same t) ∙ sym (scan-hit _ (tried (poolAt t)) none _ _ (t .frames-test .taken) (tested t false free)) ∙ t .before .frames .inv .1
+    sym (same t) ∙ hit (t .before .frames .inv) (t .frames-test .taken) refl (tested t false free)
 
 returns-2 :
     tie.Need-returns-2 Inv-loop μ-loop Inv-loop2 μ-loop2 Inv-loop3 μ-loop3 Inv-frames μ-frames
-returns-2 c = sym (scan-end _ _ _ _ _ (c .frames-test .left)) ∙ c .before .frames .inv .1
+unfolding freeFrame
+returns-2 c = ends (c .before .frames .inv) (c .frames-test .left)
 
 pub free-frame-spec : {M : Type 1} → statement M
 free-frame-spec =

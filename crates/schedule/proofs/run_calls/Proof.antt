@@ -20,7 +20,7 @@ use Rattle.pool.specs.declared.Call.{Call}
 use Rattle.pool.specs.declared.Move.{Move}
 use Rattle.pool.specs.declared.Pool.{Pool}
 use Rattle.pool.specs.declared.Reading.the-variants.{Asked}
-use Rattle.reads.specs.Lists.{client-in}
+use Rattle.laws.specs.Elements.{client-of-pool}
 use Rattle.moves.specs.Applied.{applied}
 use Rattle.moves.specs.Ready.{searchable, ready, grants-fit}
 use Rattle.report.specs.Lines.{written, line-fits}
@@ -120,7 +120,7 @@ seat-small : (c : Seated) → c .seat .result < 16
 seat-small c = omega (arith, seat-below c, loop-of (told c) .loop .inv .reached .shape .clients-high)
 
 its-client : (c : Seated) → client (pool-of (told c)) (c .seat .result) ≡ getD (pool-of (told c) .clients) (c .seat .result) no-client
-its-client c = client-in (pool-of (told c)) (c .seat .result) (seat-below c)
+its-client c = client-of-pool (pool-of (told c)) (c .seat .result) (seat-below c)
 
 valid : (c : Told) → Valid.valid (pool-of c) ≡ true
 valid c = valid-reached (pool-of c) (loop-of c .loop .inv .reached)

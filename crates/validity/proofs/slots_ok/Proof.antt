@@ -4,14 +4,14 @@ use borrow.Author.Needs.{needs}
 use mathlib.Core.Path.{_≡_}
 use Prim.Native.Nat.{_-_}
 use Rattle.pool.specs.State.{none}
-use Rattle.validity.specs.Loops.{Passing, starts, fails, passes, all-pass}
-use Rattle.validity.specs.Places.{at-within}
-use Rattle.validity.specs.Parts.{slotIn, slotsIn}
+use Rattle.laws.specs.Loops.{Passing, starts, fails, passes, all-pass}
+use Rattle.laws.specs.Elements.{element}
+use Rattle.validity.specs.Parts.{slotOkIn, slotsOkIn}
 use Rattle.validity.proofs.slots_ok.Statement.{statement}
 use Rattle.validity.proofs.slots_ok.Tie as tie
 
 abbrev Inv-loop : tie.InvT-loop
-Inv-loop slots size n i₀ i = Passing (slotIn slots size n) size i
+Inv-loop slots size n i₀ i = Passing (slotOkIn slots size n) size i
 
 abbrev μ-loop : tie.MeasureT-loop
 μ-loop slots size n i₀ i = size - i
@@ -20,21 +20,21 @@ tested :
     (c : tie.After-name-ok Inv-loop μ-loop) →
     let l = c .before .before in
     let a = l .before .before .args in
-    c .name-ok .result ≡ slotIn (a .slots .now) (a .size) (a .n) (l .before .loop .i)
-tested c = let l = c .before .before in cc (at-within (l .before .before .args .slots .now) _ none _ (l .loop-test .taken))
+    c .name-ok .result ≡ slotOkIn (a .slots .now) (a .size) (a .n) (l .before .loop .i)
+tested c = let l = c .before .before in cc (element (l .before .before .args .slots .now) _ none _ (l .loop-test .taken))
 
 loop-holds : tie.Need-loop-holds Inv-loop μ-loop
 loop-holds c = starts _ _
 
 returns : tie.Need-returns Inv-loop μ-loop
-unfolding slotsIn
+unfolding slotsOkIn
 returns c = let l = c .before .before .before in fails (l .before .loop .inv) (l .loop-test .taken) (tested (c .before)) (c .if1 .taken)
 
 loop-again : tie.Need-loop-again Inv-loop μ-loop
 loop-again c = let l = c .before .before .before in passes (l .before .loop .inv) (l .loop-test .taken) (tested (c .before)) (c .if1 .left)
 
 returns-2 : tie.Need-returns-2 Inv-loop μ-loop
-unfolding slotsIn
+unfolding slotsOkIn
 returns-2 c = all-pass (c .before .loop .inv) (c .loop-test .left)
 
 pub slots-ok-spec : {M : Type 1} → statement M

@@ -4,14 +4,14 @@ use borrow.Author.Needs.{needs}
 use mathlib.Core.Path.{_≡_}
 use Prim.Native.Nat.{_-_}
 use Rattle.pool.specs.State.{evicted}
-use Rattle.validity.specs.Loops.{Passing, starts, fails, passes, all-pass}
-use Rattle.validity.specs.Places.{at-within}
-use Rattle.validity.specs.Parts.{stateIn, statesIn}
+use Rattle.laws.specs.Loops.{Passing, starts, fails, passes, all-pass}
+use Rattle.laws.specs.Elements.{element}
+use Rattle.validity.specs.Parts.{stateOkIn, statesOkIn}
 use Rattle.validity.proofs.states_ok.Statement.{statement}
 use Rattle.validity.proofs.states_ok.Tie as tie
 
 abbrev Inv-loop : tie.InvT-loop
-Inv-loop pins counts n cap i₀ i = Passing (stateIn pins counts n cap) n i
+Inv-loop pins counts n cap i₀ i = Passing (stateOkIn pins counts n cap) n i
 
 abbrev μ-loop : tie.MeasureT-loop
 μ-loop pins counts n cap i₀ i = n - i
@@ -20,17 +20,17 @@ tested :
     (c : tie.After-both Inv-loop μ-loop) →
     let l = c .before .before .before in
     let a = l .before .before .args in
-    c .both .result ≡ stateIn (a .pins .now) (a .counts .now) (a .n) (a .cap) (l .before .loop .i)
+    c .both .result ≡ stateOkIn (a .pins .now) (a .counts .now) (a .n) (a .cap) (l .before .loop .i)
 tested c =
     let l = c .before .before .before in
     let a = l .before .before .args in
-    cc (at-within (a .pins .now) _ evicted _ (l .loop-test .taken), at-within (a .counts .now) _ 0 _ (l .loop-test .taken))
+    cc (element (a .pins .now) _ evicted _ (l .loop-test .taken), element (a .counts .now) _ 0 _ (l .loop-test .taken))
 
 loop-holds : tie.Need-loop-holds Inv-loop μ-loop
 loop-holds c = starts _ _
 
 returns : tie.Need-returns Inv-loop μ-loop
-unfolding statesIn
+unfolding statesOkIn
 returns c = let l = c .before .before .before .before in fails (l .before .loop .inv) (l .loop-test .taken) (tested (c .before)) (c .if1 .taken)
 
 loop-again : tie.Need-loop-again Inv-loop μ-loop
@@ -39,7 +39,7 @@ loop-again c =
     passes (l .before .loop .inv) (l .loop-test .taken) (tested (c .before)) (c .if1 .left)
 
 returns-2 : tie.Need-returns-2 Inv-loop μ-loop
-unfolding statesIn
+unfolding statesOkIn
 returns-2 c = all-pass (c .before .loop .inv) (c .loop-test .left)
 
 pub states-ok-spec : {M : Type 1} → statement M

@@ -2,16 +2,16 @@
 use borrow.Author.Needs.{needs}
 use mathlib.Core.Path.{_∙_}
 use Rattle.pool.specs.Choose.{choose}
-use Rattle.validity.specs.Parts.{usedIn}
+use Rattle.validity.specs.Parts.{usedOkIn}
 use Rattle.validity.proofs.used_ok.Statement.{statement}
 use Rattle.validity.proofs.used_ok.Tie as tie
 
 returns : tie.Need-returns
-unfolding usedIn choose
+unfolding usedOkIn choose
 returns c = simp (c .if1 .taken)
 
 returns-2 : tie.Need-returns-2
-unfolding usedIn choose
+unfolding usedOkIn choose
 returns-2 c = c .name-ok .ensures ∙ simp (c .before .if1 .left)
 
 pub used-ok-spec : {M : Type 1} → statement M

@@ -4,15 +4,15 @@ use borrow.Author.Needs.{needs}
 use mathlib.Core.Path.{refl}
 use native.Mathlib.Omega.{arith}
 use Prim.Native.Nat.{_-_}
-use Rattle.validity.specs.Loops.{Passing, starts, fails, passes, all-pass}
-use Rattle.validity.specs.Marks.{Marked, no-marks, unmarked, mark}
-use Rattle.validity.specs.Places.{pageAt}
-use Rattle.validity.specs.Parts.{entryIn, entriesIn}
-use Rattle.validity.proofs.entries_ok.Statement.{statement}
-use Rattle.validity.proofs.entries_ok.Tie as tie
+use Rattle.laws.specs.Loops.{Passing, starts, fails, passes, all-pass}
+use Rattle.repeats.specs.Marks.{Marked, no-marks, unmarked, mark}
+use Rattle.repeats.specs.Places.{pageAt}
+use Rattle.repeats.specs.Places.{entryOkIn, entriesOkIn}
+use Rattle.repeats.proofs.entries_ok.Statement.{statement}
+use Rattle.repeats.proofs.entries_ok.Tie as tie
 
 abbrev Inv-loop : tie.InvT-loop
-Inv-loop pages frames n marks₀ places i₀ marks i = Passing (entryIn pages frames n) n i × Marked (pageAt pages) 1021 marks i
+Inv-loop pages frames n marks₀ places i₀ marks i = Passing (entryOkIn pages frames n) n i × Marked (pageAt pages) 1021 marks i
 
 abbrev μ-loop : tie.MeasureT-loop
 μ-loop pages frames n marks₀ places i₀ marks i = n - i
@@ -24,7 +24,7 @@ entry-ok-requires : tie.Need-entry-ok-requires Inv-loop μ-loop
 entry-ok-requires c κs = (search needs, search needs, unmarked (c .before .before .loop .inv .1))
 
 returns : tie.Need-returns Inv-loop μ-loop
-unfolding entriesIn
+unfolding entriesOkIn
 returns c =
     let l = c .before .before .before in
     fails (l .before .loop .inv .0) (l .loop-test .taken) (c .before .entry-ok .ensures) (c .if1 .taken)
@@ -36,7 +36,7 @@ loop-again c =
     (passes (t .0) (l .loop-test .taken) (c .before .entry-ok .ensures) (c .if1 .left), mark (t .1) (omega arith))
 
 returns-2 : tie.Need-returns-2 Inv-loop μ-loop
-unfolding entriesIn
+unfolding entriesOkIn
 returns-2 c = all-pass (c .before .loop .inv .0) (c .loop-test .left)
 
 pub entries-ok-spec : {M : Type 1} → statement M

@@ -6,9 +6,9 @@ use Prim.Native.Nat.{_<_}
 use borrow.Author.Tests.{lt-ltb}
 use Rattle.pool.specs.Choose.{choose, both}
 use Rattle.laws.specs.Choices.{tests}
-use Rattle.validity.specs.Places.{first-held, first-new, grant-at}
-use Rattle.validity.proofs.grant_ok.Statement.{statement}
-use Rattle.validity.proofs.grant_ok.Tie as tie
+use Rattle.repeats.specs.Places.{first-held, first-new, grant-at}
+use Rattle.repeats.proofs.grant_ok.Statement.{statement}
+use Rattle.repeats.proofs.grant_ok.Tie as tie
 
 returns : tie.Need-returns
 unfolding both choose
@@ -20,11 +20,11 @@ returns-2 c =
     let s = c .before .before .before in
     rw (← grant-at _ _ _ _ (s .pre .2) _ _, first-new _ _ _ _ (s .pre .2) (s .pre .3 (c .if2 .taken))) (search tests)
 
-held : (c : tie.After-first-of) → c .first-of .result < c .before .before .before .before .before .args .held
+held : (c : tie.After-grant-of) → c .grant-of .result < c .before .before .before .before .before .args .held
 held c =
     let s = c .before .before .before .before .before in
     let h = first-held (s .args .pages .now) (s .args .c) (s .args .held) (s .args .i) (s .pre .2) in
-    omega (arith, c .first-of .ensures)
+    omega (arith, c .grant-of .ensures)
 
 add-result : tie.Need-add-result
 add-result c = let h = held c in omega arith
@@ -36,11 +36,11 @@ returns-3 : tie.Need-returns-3
 unfolding both choose
 returns-3 c =
     let e = c .before .before .before .before in
-    rw (← grant-at _ _ _ _ (e .before .before .pre .2) _ _, ← c .before .first-of .ensures, lt-ltb _ _ (e .if1 .left))
+    rw (← grant-at _ _ _ _ (e .before .before .pre .2) _ _, ← c .before .grant-of .ensures, lt-ltb _ _ (e .if1 .left))
 
 pub grant-ok-spec : {M : Type 1} → statement M
 grant-ok-spec =
     tie.close
     (tie.spec
     (λ c. search needs) (λ c. search needs) (λ c. search needs) returns returns-2 (λ c. search needs) (λ c. search needs) (λ c. search needs)
-    (λ c. search needs) (λ c κs. search needs) (λ c. search needs) add-result element-copy-out-result returns-3)
+    (λ c. search needs) (λ c κs. search needs) (λ c. search needs) (λ c. search needs) add-result element-copy-out-result returns-3)

@@ -3,9 +3,9 @@
 use borrow.Author.Needs.{needs}
 use Rattle.pool.specs.Choose.{choose, both, either}
 use Rattle.laws.specs.Choices.{tests}
-use Rattle.validity.specs.Places.{entry-at, place-new}
-use Rattle.validity.proofs.entry_ok.Statement.{statement}
-use Rattle.validity.proofs.entry_ok.Tie as tie
+use Rattle.repeats.specs.Places.{entry-at, place-new}
+use Rattle.repeats.proofs.entry_ok.Statement.{statement}
+use Rattle.repeats.proofs.entry_ok.Tie as tie
 
 returns : tie.Need-returns
 unfolding either choose
@@ -25,10 +25,10 @@ returns-4 : tie.Need-returns-4
 unfolding either both choose
 returns-4 c =
     let s = c .before .before .before .before .before .before in
-    rw (← entry-at _ _ _ _ (s .pre .1), ← c .place-of .ensures) (search tests)
+    rw (← entry-at _ _ _ _ (s .pre .1), ← c .entry-of .ensures) (search tests)
 
 pub entry-ok-spec : {M : Type 1} → statement M
 entry-ok-spec =
     tie.close
     (tie.spec
-    (λ c. search needs) returns returns-2 returns-3 (λ c. search needs) (λ c. search needs) (λ c κs. search needs) returns-4)
+    (λ c. search needs) returns returns-2 returns-3 (λ c. search needs) (λ c. search needs) (λ c κs. search needs) (λ c. search needs) returns-4)

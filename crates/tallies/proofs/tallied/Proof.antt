@@ -1,8 +1,8 @@
 -- Each arm raises the count that the definition has for its case, and leaves the others. Assumes nothing.
 use borrow.Author.Needs.{needs}
 use Rattle.pool.specs.Tallies.{tallied}
-use Rattle.calls.proofs.tallied.Statement.{statement}
-use Rattle.calls.proofs.tallied.Tie as tie
+use Rattle.tallies.proofs.tallied.Statement.{statement}
+use Rattle.tallies.proofs.tallied.Tie as tie
 
 returns : tie.Need-returns
 unfolding tallied

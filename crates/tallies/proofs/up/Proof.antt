@@ -3,8 +3,8 @@ use borrow.Author.Needs.{needs}
 use Rattle.pool.specs.Choose.{choose}
 use Rattle.pool.specs.Tallies.{up}
 use Rattle.laws.specs.Choices.{tests}
-use Rattle.calls.proofs.up.Statement.{statement}
-use Rattle.calls.proofs.up.Tie as tie
+use Rattle.tallies.proofs.up.Statement.{statement}
+use Rattle.tallies.proofs.up.Tie as tie
 
 returns : tie.Need-returns
 unfolding up choose

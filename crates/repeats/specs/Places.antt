@@ -1,0 +1,101 @@
+-- The tests of a place of the table and of a client's grant, over the arrays that are lent; and the same by the numbers that stand there, where
+-- the place is in range. Assumes nothing.
+use mathlib.Core.Path.{_≡_, refl, sym}
+use mathlib.Core.Bool.{Bool, true, false}
+use mathlib.Core.List.{List}
+use native.Mathlib.Omega.{arith}
+use Prim.Native.Nat.{ℕ, _<_}
+use lib.Dec.{eqb, ltb}
+use lib.ListN.{getD}
+use borrow.Author.Tests.{eq-eqb, ne-eqb}
+use Rattle.pool.specs.Choose.{choose, both, either, every}
+use Rattle.pool.specs.State.{none, within, ofClient, grantPlace}
+use Rattle.laws.specs.Scans.{first}
+use Rattle.laws.specs.Loops.{found-at}
+use Rattle.laws.specs.Elements.{element, grant-element}
+use Rattle.reads.specs.Lists.{mapsIn, entryIn, grantIn}
+use Rattle.repeats.specs.Marks.{New}
+
+-- ---- a place of the table
+
+module _ (pages frames : List ℕ) (n : ℕ) where
+  unfoldable pub entryOkIn : ℕ → Bool
+  entryOkIn i =
+      either (eqb (within frames n none i) none) (both (ltb (within frames n none i) n) (eqb (entryIn pages frames n (within pages n 0 i)) i))
+
+  unfoldable pub entriesOkIn : Bool
+  entriesOkIn = every entryOkIn n
+
+abbrev pub pageAt : List ℕ → ℕ → ℕ
+pageAt pages i = getD pages i 0
+
+module _ (pages frames : List ℕ) (n i : ℕ) (h : i < n) where
+  pub entry-at :
+      either (eqb (getD frames i 0) none) (both (ltb (getD frames i 0) n) (eqb (entryIn pages frames n (pageAt pages i)) i))
+      ≡ entryOkIn pages frames n i
+  unfolding entryOkIn
+  entry-at = rw (element frames n none i h, element pages n 0 i h)
+
+  -- a used place whose page is new is the first that maps it
+  pub place-new : New (pageAt pages) i → (getD frames i 0 ≡ none → ⊥) → entryIn pages frames n (pageAt pages i) ≡ i
+  unfolding mapsIn entryIn both choose
+  place-new new used = found-at (mapsIn pages frames n (pageAt pages i)) none n i h earlier here
+    where
+      earlier : (j : ℕ) → j < i → mapsIn pages frames n (pageAt pages i) j ≡ false
+      earlier j b = rw (element pages n 0 j (omega arith), ne-eqb (pageAt pages j) (pageAt pages i) (new .apart j b))
+
+      here : mapsIn pages frames n (pageAt pages i) i ≡ true
+      here =
+          rw (
+            element pages n 0 i h,
+            element frames n none i h,
+            eq-eqb (pageAt pages i) (pageAt pages i) refl,
+            ne-eqb (getD frames i 0) none used,
+          )
+
+-- ---- a grant of a client
+
+module _ (pages frames : List ℕ) (c held n : ℕ) where
+  unfoldable pub grantOkIn : ℕ → Bool
+  grantOkIn i =
+      both (ltb (ofClient frames c held none i) n)
+      (eqb (ofClient frames c held none (grantIn pages c held (ofClient pages c held 0 i))) (ofClient frames c held none i))
+
+  unfoldable pub grantsOkIn : Bool
+  grantsOkIn = every grantOkIn held
+
+abbrev pub pageOf : List ℕ → ℕ → ℕ → ℕ
+pageOf pages c i = getD pages (grantPlace c i) 0
+
+module _ (pages : List ℕ) (c held i : ℕ) (h : i < held) where
+  -- the first grant of its page is one that is held
+  pub first-held : grantIn pages c held (pageOf pages c i) < held
+  unfolding grantIn
+  first-held =
+      let g = pageOf pages c i in
+      let here = eq-eqb _ _ (grant-element pages c held 0 i h) in
+      let f = first (λ i. eqb (ofClient pages c held 0 i) g) none 0 held i (omega arith) (omega arith) here in
+      omega arith
+
+  -- a grant whose page is new is the first of its page
+  pub first-new : New (pageOf pages c) i → grantIn pages c held (pageOf pages c i) ≡ i
+  unfolding grantIn
+  first-new new =
+      found-at (λ j. eqb (ofClient pages c held 0 j) (pageOf pages c i)) none held i h
+      (λ j b. rw (grant-element pages c held 0 j (omega arith)) (ne-eqb _ _ (new .apart j b)))
+      (rw (grant-element pages c held 0 i h) (eq-eqb (pageOf pages c i) (pageOf pages c i) refl))
+
+  -- the test of a grant, by its frame and that of the first grant of its page
+  pub grant-at :
+      (frames : List ℕ) (n : ℕ) →
+      both (ltb (getD frames (grantPlace c i) 0) n)
+      (eqb (getD frames (grantPlace c (grantIn pages c held (pageOf pages c i))) 0) (getD frames (grantPlace c i) 0))
+      ≡ grantOkIn pages frames c held n i
+  unfolding grantOkIn
+  grant-at frames n =
+      let f = grantIn pages c held (pageOf pages c i) in
+      rw (
+        grant-element frames c held none i h,
+        grant-element pages c held 0 i h,
+        grant-element frames c held none f first-held,
+      )

@@ -1,0 +1,41 @@
+// The tally of what steps did, brought up to date by what an action is counted as.
+ghost use mathlib.Core.Path.{_≡_};
+ghost use Rattle.pool.specs.Tallies.{up, tallied};
+use pool::Counted;
+use pool::Tally;
+
+// "Each is 32 bits and stays at its largest value."
+fn up(n: u32) -> u32
+    ensures { λ r. ⌜ r ≡ up n ⌝ }
+{
+    if n < 4294967295 { n + 1 } else { n }
+}
+
+// "hits (3), joins (21), admitted (18), revived (22), drops (14 that evicted), refused (refusal 15)": what an action is counted as.
+pub fn tallied(counted: Counted, tally: Tally) -> Tally
+    ensures { λ r. ⌜ r ≡ tallied counted tally ⌝ }
+{
+    let mut next = tally;
+    match counted {
+        Counted::Nothing => {}
+        Counted::Hit => {
+            next.hits = up(tally.hits);
+        }
+        Counted::Join => {
+            next.joins = up(tally.joins);
+        }
+        Counted::Admitted => {
+            next.admitted = up(tally.admitted);
+        }
+        Counted::Revived => {
+            next.revived = up(tally.revived);
+        }
+        Counted::Drop => {
+            next.drops = up(tally.drops);
+        }
+        Counted::Refusal => {
+            next.refused = up(tally.refused);
+        }
+    }
+    next
+}
