@@ -444,10 +444,10 @@ def whole_way():
         answers.write_bytes(second.run(made)[0])
         status, shown, _ = run("show", str(schedule))
         same(run("make", data=shown), (0, made, ""), "make of show")
-        computed = run("explain", "-", data=made)
-        same(run("explain", str(schedule), "--report", str(answers)),
-             computed, "explain with and without a report")
-        same(computed[0], 0, "status of explain")
+        given = run("explain", str(schedule), "--report", str(answers))
+        same(given[0], 0, "status of explain")
+        same(run("explain", "-", data=made)[:2], given[:2],
+             "explain with and without a report")
         status, drawn, _ = run("draw", str(schedule))
         same((status, drawn.decode()), (0, picture.draw(made)), "draw")
     left = [path for part in ("tools", "tests")

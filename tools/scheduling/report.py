@@ -5,15 +5,18 @@ for a record that ends the run), a code and a value, in decimal.
 """
 
 import re
+import subprocess
 from typing import NamedTuple
 
 import second
 
-from . import BadInput, words
+from . import TOP, BadInput, words
 from .records import read
 
 DONE, WORKING, GRANTED, REFUSAL = (second.DONE, second.WORKING,
                                    second.GRANTED, second.REFUSAL)
+
+PROGRAM = TOP / "target" / "bin" / "replay"  # the proved one, once built
 
 LINE = re.compile(rb"([0-9]{1,10}) ([0-9]{1,10}) ([0-9]{1,10}) ([0-9]{1,10})")
 
@@ -84,6 +87,25 @@ def read_report(data, schedule):
     return answers
 
 
-def computed_report(schedule):
-    """The report as the second program writes it."""
+def proved_report(schedule):
+    """The report of the proved program, or None while it is not built."""
+    if not PROGRAM.exists():
+        return None
+    done = subprocess.run([PROGRAM], input=schedule, stdout=subprocess.PIPE)
+    if done.returncode:
+        raise BadInput("target/bin/replay ended with exit status %d"
+                       % done.returncode)
+    return done.stdout
+
+
+def second_report(schedule):
+    """The report of the second program, the one of the tests."""
     return second.run(schedule)[0]
+
+
+def check_alike(schedule):
+    """Complain where the two programs are there and do not agree."""
+    if proved_report(schedule) not in (None, second_report(schedule)):
+        raise BadInput("target/bin/replay and tests/second.py report "
+                       "differently; is the program built from these "
+                       "sources?")
