@@ -1,0 +1,85 @@
+// The largest pool, every slot of it held, and a request that meets only frames in use: through the public calls, check 8 before and after each.
+//
+// Each byte on standard input is one such request: a begin and 132 steps, the last of which is refusal 15. It prints the tally's refusals, so the
+// number of bytes. `bench/run` takes the time of a step from it.
+use libc::STDIN_FILENO;
+use libc::STDOUT_FILENO;
+use pool::Pool;
+use pool::Tally;
+
+struct Desk {
+    pool: Pool,
+    tally: Tally,
+}
+
+// S 64, T 16, C 100.
+fn set_up() -> Desk {
+    let done = calls::setup(64, 16, 100, 0);
+    let pool = done.pool;
+    let tally = Tally {
+        hits: 0,
+        joins: 0,
+        admitted: 0,
+        revived: 0,
+        drops: 0,
+        refused: 0,
+    };
+    Desk { pool, tally }
+}
+
+fn begin(desk: Desk, client: u8, page: u32) -> Desk {
+    let pool = desk.pool;
+    let tally = desk.tally;
+    let done = calls::begin(pool, client, page);
+    let next = done.pool;
+    Desk { pool: next, tally }
+}
+
+fn step(desk: Desk, client: u8) -> Desk {
+    let pool = desk.pool;
+    let tally = desk.tally;
+    let done = step::step_of(pool, client, tally);
+    let next = done.pool;
+    let counts = done.tally;
+    Desk {
+        pool: next,
+        tally: counts,
+    }
+}
+
+fn request(desk: Desk, client: u8, page: u32, n: u8) -> Desk {
+    let mut at = begin(desk, client, page);
+    for _ in 0..n {
+        at = step(at, client);
+    }
+    at
+}
+
+// Each of 64 pages into an empty slot, by stages 1, 4 to 9 and 18; every client keeps four of them.
+fn fill(desk: Desk) -> Desk {
+    let mut at = desk;
+    for page in 0..64u8 {
+        at = request(at, page % 16, page as u32, 8);
+    }
+    at
+}
+
+// Client 0 wants page 64: stages 1, 4, 5, 10, then 11 and 12 at each of 64 slots.
+fn sweeps(desk: Desk, n: usize) -> Desk {
+    let mut at = desk;
+    for _ in 0..n {
+        at = request(at, 0, 64, 132);
+    }
+    at
+}
+
+fn main() {
+    let mut input = [0u8; 4096];
+    let n = io::read_full(STDIN_FILENO, &mut input);
+    let mut desk = set_up();
+    desk = fill(desk);
+    desk = sweeps(desk, n);
+    let tally = desk.tally;
+    io::print_decimal(STDOUT_FILENO, tally.refused as u64);
+    io::write_all(STDOUT_FILENO, b"\n");
+}
