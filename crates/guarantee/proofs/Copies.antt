@@ -33,9 +33,9 @@ use Rattle.guarantee.proofs.Pages.{there, shows}
 
 one-copy : (p : Pool) → Reached p → OneCopy p
 one-copy p r c d i j a b e =
-    let u = r .outline .grant-named c i a in
-    let v = r .outline .grant-named d j b in
-    same-frame p r (grantFrame p c i) (grantFrame p d j) (grantPage p d j) u v (r .outline .granted c i u ∙ ap suc e) (r .outline .granted d j v)
+    let u = r .mapping .grant-named c i a in
+    let v = r .mapping .grant-named d j b in
+    same-frame p r (grantFrame p c i) (grantFrame p d j) (grantPage p d j) u v (r .mapping .grant-mapped c i u ∙ ap suc e) (r .mapping .grant-mapped d j v)
 
 -- ---- a page with a grant stays
 
@@ -81,10 +81,10 @@ not-evicted p x f r h out = v .live (ap (pins (callOf p x .pool)) (v .frame) ∙
     mirror = mirrors-view p (r .shape)
 
     named : grantFrame p c i ≢ none
-    named = r .outline .grant-named c i (grant .inside)
+    named = r .mapping .grant-named c i (grant .inside)
 
     kept : Keeps (view p) g f
-    kept = rw (grant .names) at (there r mirror named (λ z. omega (arith, grant-live p r c i named)) (r .outline .granted c i named))
+    kept = rw (grant .names) at (there r mirror named (λ z. omega (arith, grant-live p r c i named)) (r .mapping .grant-mapped c i named))
 
     granted : member g (taker (view p) c .grants) ≡ true
     granted =

@@ -164,7 +164,7 @@ module _ {p : Pool} {q : Sequential} (r : Reached p) (mirror : Mirrors p q) wher
         found = grantOf-found p c g z
 
         two : pinned 1 ≤ n
-        two = grant-live p r c i (r .outline .grant-named c i (found .0))
+        two = grant-live p r c i (r .mapping .grant-named c i (found .0))
 
         some : times g (t .grants) ≢ 0
         some w = omega (arith, open-grants (mirror .takers c) (rw s refl) g, some-grant c g z)

@@ -34,13 +34,13 @@ held-grant p f h =
 pub held-pinned : (p : Pool) → Reached p → HeldPinned p
 held-pinned p r f h =
     let g = held-grant p f h in
-    rw (g .names) at (grant-live p r (g .client-of) (g .place) (r .outline .grant-named (g .client-of) (g .place) (g .inside)))
+    rw (g .names) at (grant-live p r (g .client-of) (g .place) (r .mapping .grant-named (g .client-of) (g .place) (g .inside)))
 
 module _ (p : Pool) (r : Reached p) where
   -- a page has one frame
   pub same-frame : (f h g : ℕ) → f ≢ none → h ≢ none → mapped p f ≡ suc g → mapped p h ≡ suc g → f ≡ h
   same-frame f h g a b x y =
-      let frame-of = mapped-lookup p (r .shape) (r .outline .pages-apart) in
+      let frame-of = mapped-lookup p (r .shape) (r .mapping .pages-apart) in
       sym (frame-of f g a x .1) ∙ frame-of h g b y .1
 
   module _ (c : ℕ) (e : pinsFound (client p c .stage) ≡ true) where

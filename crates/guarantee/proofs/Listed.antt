@@ -56,7 +56,7 @@ given-in : (p : Pool) (c : ℕ) → Reached p → T (among (client p c .stage) g
 given-in p c r h =
     on-grants (λ i. Knows i p k → given i k < total p)
     (λ w. r .ranges .found-ok c (w .0)) (λ w. r .ranges .own-ok c (w .0)) (λ w. r .ranges .found-ok c (w .0)) (λ w. r .ranges .own-ok c (w .0 .0))
-    (k .stage) h (r .outline .knowing c)
+    (k .stage) h (r .mapping .knowing c)
   where
     k : Client
     k = client p c

@@ -38,7 +38,7 @@ use Rattle.guarantee.proofs.SoloSteps.{On, Goes, answer-is, on-next, go
 use Rattle.guarantee.proofs.SoloSteps.{go11}
 use Rattle.guarantee.proofs.SoloSteps.{go12-dead, go12-idle, go12-busy, go12-full, go13-zero, go13-more, go14, go15, go16, go17-out, go17-not, go18}
 use Rattle.guarantee.proofs.Base.{Base, slot-still, pins-still, base-still, emptied}
-use Rattle.guarantee.proofs.Solo.{next-is, absent-next, some-empty, no-ghost}
+use Rattle.guarantee.proofs.Solo.{next-is, absent-next, some-empty, found-not-evicted}
 use Rattle.guarantee.proofs.Frames.{held-pinned}
 use Rattle.guarantee.proofs.Sweep.{pins-held, Behind, behind-none, behind-next, behind-all}
 
@@ -130,7 +130,7 @@ module _ (p₀ : Pool) (b g : ℕ) (reached : Reached p₀) (rest : (c : ℕ) �
           | yes e ↦ (let w = go1 p b g o e in goes-on 4 (answer-is w) (at4 (early 4 (record { on = o; base = h; absent = e }) w refl refl tt)))
           | no z ↦
               let w = go1-found p b g o z in
-              let live = no-ghost p₀ reached rest g (λ e. z (h .looked ∙ e)) in
+              let live = found-not-evicted p₀ reached rest g (λ e. z (h .looked ∙ e)) in
               let found : pins p (lookup p (k .page)) ≡ pins p₀ (lookup p₀ g) =
               ap (λ (x : ℕ). pins p (lookup p x)) (o .page) ∙ (same (lookup p g) ∙ ap (pins p₀) (h .looked)) in
               goes-on 2 (answer-is w) (at2 (on-next w 2 o refl refl)
@@ -173,7 +173,7 @@ module _ (p₀ : Pool) (b g : ℕ) (reached : Reached p₀) (rest : (c : ℕ) �
           | yes f ↦ (let w = go5-none p b g o f in goes-on 10 (answer-is w) (at10 (early 10 e w refl refl tt) (next-is o w (λ q _. q .free ≡ 0) f)))
           | no f ↦
               let w = go5 p b g o f in
-              let i = some-empty p (λ q. f (omega (arith, o .reached .calm .empties))) in
+              let i = some-empty p (λ q. f (omega (arith, o .reached .evictions .empties))) in
               goes-on 6 (answer-is w) (at6
               (settle 6 o (e .absent) (λ h. h .1 (i .0) (omega (arith, i .1, e .base .size)) .0 (sym (e .base .slots (i .0)) ∙ i .2)) w refl refl tt)
               (next-is o w (λ q x. q .free ≡ x .seen) refl))
@@ -244,7 +244,7 @@ module _ (p₀ : Pool) (b g : ℕ) (reached : Reached p₀) (rest : (c : ℕ) �
     no-empty {i} o t f j l e =
         omega (
           arith,
-          o .reached .calm .empties,
+          o .reached .evictions .empties,
           sum-has (λ j. one (eqb (slot p j) none)) (p .size) j l,
           ap (λ (x : ℕ). one (eqb x none)) e,
           sum-zero (λ c. one (filling (client p c .stage))) (clientCount p) (λ c _. idle c (ℕ-discrete c b)),

@@ -261,8 +261,8 @@ module _ {p : Pool} {c : ℕ} {q : Sequential} (acting : Acting p c q) where
 
         no-grant : (i : ℕ) → i < client p d .held → grantPage p d i ≢ g
         no-grant i h w =
-            let n = r .outline .grant-named d i h in
-            only (grantFrame p d i) n (grant-live p r d i n) (r .outline .granted d i n ∙ ap suc w)
+            let n = r .mapping .grant-named d i h in
+            only (grantFrame p d i) n (grant-live p r d i n) (r .mapping .grant-mapped d i n ∙ ap suc w)
 
         wanted : (b : Bool) → pinsFound (client p d .stage) ≡ b → one (b && eqb (client p d .page) g) ≡ 0
         wanted false _ = refl
@@ -273,7 +273,7 @@ module _ {p : Pool} {c : ℕ} {q : Sequential} (acting : Acting p c q) where
 
     pub drops-one : k .stage ≡ 14 → k .victim ≢ none → pins p (k .victim) ≡ pinned 0 → Seated p (k .victim)
         → {m : Move} → outward m ≡ working k 15 Drop → m .write ≡ PutPins (k .victim) evicted → Simulates p c q m
-    drops-one e z unpinned seat {m} o w = by-known (r .outline .known f z live)
+    drops-one e z unpinned seat {m} o w = by-known (r .mapping .mapped-or-owned f z live)
       where
         f : ℕ
         f = k .victim

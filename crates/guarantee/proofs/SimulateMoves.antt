@@ -80,12 +80,12 @@ module _ {p : Pool} {c : ℕ} {q : Sequential} (acting : Acting p c q) (busy : c
   simulated (admits e l u) =
       let free = unused-found p (r .shape) u in
       admits-one acting busy 18 Admitted e tt refl refl refl (kn 18 e) room
-      (λ f z n. absurd (z (sym (mapped-lookup p (r .shape) (r .outline .pages-apart) f (k .page) z n .1) ∙ l)))
+      (λ f z n. absurd (z (sym (mapped-lookup p (r .shape) (r .mapping .pages-apart) f (k .page) z n .1) ∙ l)))
       (unusedEntry p) (free .0) (ap (pins p) (free .1) ∙ none-evicted p (r .shape)) refl refl
   simulated (revives e l) =
       let f = lookup-found p (r .shape) (k .page) (λ z. kn 22 e .1 .0 (sym l ∙ z)) in
       admits-one acting busy 22 Revived e tt refl refl refl (kn 22 e .0) room
-      (λ f z n. ap (pins p) (sym (mapped-lookup p (r .shape) (r .outline .pages-apart) f (k .page) z n .1) ∙ l) ∙ kn 22 e .1 .1)
+      (λ f z n. ap (pins p) (sym (mapped-lookup p (r .shape) (r .mapping .pages-apart) f (k .page) z n .1) ∙ l) ∙ kn 22 e .1 .1)
       (entryOf p (k .page)) (f .place) (ap (pins p) (f .entry-frame ∙ l) ∙ kn 22 e .1 .1) refl refl
   simulated (evicts20 e) = evicts 20 21 e tt (kn 20 e .0 .0)
   simulated (evicts23 e) = evicts 23 4 e tt (kn 23 e .0)

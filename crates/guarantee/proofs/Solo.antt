@@ -165,7 +165,7 @@ adm7 p b g n sz on a =
     e =
         some-empty p (λ z. omega (
           arith,
-          on .reached .calm .empties,
+          on .reached .evictions .empties,
           ap (λ (x : ℕ). one (filling x)) (on .stage),
           sum-has (λ c. one (filling (client p c .stage))) (clientCount p) b (on .here),
         ))
@@ -209,8 +209,8 @@ adm1 p b g n sz on a f =
 
 module _ (p : Pool) (r : Reached p) (rest : (c : ℕ) → client p c .stage ≡ 0) where
   -- nothing evicted is in the table
-  pub no-ghost : (g : ℕ) → lookup p g ≢ none → pins p (lookup p g) ≢ evicted
-  no-ghost g z d = go (r .calm .ghosts (lookup p g) z (suc-not (lookup-mapped p (r .shape) (r .outline .entries-apart) g z)) d)
+  pub found-not-evicted : (g : ℕ) → lookup p g ≢ none → pins p (lookup p g) ≢ evicted
+  found-not-evicted g z d = go (r .evictions .evicted-mapped (lookup p g) z (suc-not (lookup-mapped p (r .shape) (r .mapping .entries-apart) g z)) d)
     where
       go : (c : ℕ) × Leaves p (client p c) (lookup p g) → ⊥
       go (c, (_, inl h)) = rw (rest c) at h
@@ -226,14 +226,14 @@ module _ (p : Pool) (r : Reached p) (rest : (c : ℕ) → client p c .stage ≡ 
   absent-found : (g : ℕ) → resident p g ≡ false → lookup p g ≡ none
   unfolding resident
   absent-found g e =
-      elim (ℕ-discrete (lookup p g) none) [ yes q ↦ q | no z ↦ absurd (no-ghost g z (eqb-true _ evicted (not-false _ e))) ]
+      elim (ℕ-discrete (lookup p g) none) [ yes q ↦ q | no z ↦ absurd (found-not-evicted g z (eqb-true _ evicted (not-false _ e))) ]
 
   -- an empty slot is one that nobody has claimed
   free-some : (i : ℕ) → i < p .size → slot p i ≡ none → p .free ≢ 0
   free-some i h e z =
       omega (
         arith,
-        r .calm .empties,
+        r .evictions .empties,
         sum-has (λ i. one (eqb (slot p i) none)) (p .size) i h,
         ap (λ (x : ℕ). one (eqb x none)) e,
         sum-zero (λ c. one (filling (client p c .stage))) (clientCount p) (λ c _. ap (λ (x : ℕ). one (filling x)) (rest c)),

@@ -93,7 +93,7 @@ unfolding residents
 residents-kept p q r mirror =
     how-many _ (total p)
     ∙ (sum-same (λ i. one (P (entryFrame p i))) _ (total p) (λ i _. entry-full i (eqb (pins p (entryFrame p i)) evicted) refl)
-    ∙ (sym (counted (entryFrame p) (total p) (r .outline .entries-apart) in-entry)
+    ∙ (sym (counted (entryFrame p) (total p) (r .mapping .entries-apart) in-entry)
     ∙ (counted (slot p) (p .size) (r .places .slots-apart) in-slot
     ∙ sym shown)))
   where
@@ -118,7 +118,7 @@ residents-kept p q r mirror =
     in-slot : (f : ℕ) → P f ≡ true → (i : ℕ) × (i < p .size) × (slot p i ≡ f)
     in-slot f h =
         let z = live-named p (r .shape) f (live f h) in
-        let s = r .outline .resident f z (live f h) (entered f h) in
+        let s = r .mapping .resident-in-slot f z (live f h) (entered f h) in
         (s .0, slot-in p (s .0) (λ w. z (sym (s .1) ∙ w)), s .1)
 
     -- an entry's frame that is not evicted is resident
@@ -126,7 +126,7 @@ residents-kept p q r mirror =
     entry-full i true e = ap full (sym (seen-evicted p (entryFrame p i) (eqb-true _ _ e)))
     entry-full i false e =
         let l : pins p (entryFrame p i) ≢ evicted = eqb-false _ _ e in
-        ap full (sym (seen-full p (entryFrame p i) l (mapped-is p (entryFrame p i) (r .outline .entries-apart) (live-named p (r .shape) _ l) i refl)))
+        ap full (sym (seen-full p (entryFrame p i) l (mapped-is p (entryFrame p i) (r .mapping .entries-apart) (live-named p (r .shape) _ l) i refl)))
 
     shown : kept (q .places) ≡ sumTo (λ i. one (P (slot p i))) (p .size)
     shown = kept-sum (q .places) ∙ (ap (sumTo (λ i. full (place q i))) (mirror .size) ∙ sum-same _ _ (p .size) (λ i _. ap full (mirror .places i)))

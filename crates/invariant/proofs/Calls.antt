@@ -31,8 +31,8 @@ use Rattle.invariant.proofs.Ranges.{ranges-next}
 use Rattle.invariant.proofs.Places.{places-next}
 use Rattle.invariant.proofs.Private.{private-next}
 use Rattle.invariant.proofs.Counts.{counts-next}
-use Rattle.invariant.proofs.Outline.{outline-next}
-use Rattle.invariant.proofs.Calm.{calm-next}
+use Rattle.invariant.proofs.Mapping.{mapping-next}
+use Rattle.invariant.proofs.Evictions.{evictions-next}
 use Rattle.invariant.proofs.Valid.{valid-reached}
 use Rattle.invariant.proofs.Setup.{reached-setup}
 
@@ -47,8 +47,8 @@ reached-move p c m h r e =
       places = places-next x;
       private = private-next x;
       counts = counts-next p c r e x;
-      outline = outline-next p c r e x;
-      calm = calm-next p c r e x;
+      mapping = mapping-next p c r e x;
+      evictions = evictions-next p c r e x;
     }
 
 -- ---- a call

@@ -315,7 +315,7 @@ module _ (p : Pool) (c : ℕ) (r : Reached p) where
       gf = grantFrame p c i
 
       named : gf ≢ none
-      named = r .outline .grant-named c i (grantOf-found p c g z .0)
+      named = r .mapping .grant-named c i (grantOf-found p c g z .0)
 
       two : pinned 1 ≤ pins p gf
       two = grant-live p r c i named

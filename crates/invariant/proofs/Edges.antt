@@ -53,7 +53,7 @@ pub record Passes (p : Pool) (k n : Client) (j : ℕ) (w : Write) : Type 0 where
   pub victim-ok : n .victim ≢ none → n .victim < total p
   pub knows : Knows j p (standing n j)
   pub no-victim : T (victimless j) → n .victim ≡ none
-  pub six : j ≡ 6 → n .seen ≢ 0
+  pub six-seen : j ≡ 6 → n .seen ≢ 0
   pub hunts : T (hunting j) → Hunts p k n
   pub leaves : (f : ℕ) → f ≢ none → mapped p f ≢ 0 → Leaves p k f → Leaves p (standing n j) f
   pub fills : p .free + one (filling (k .stage)) ≡ freeAfter (p .free) w + one (filling j)

@@ -239,7 +239,7 @@ module _ (p : Pool) (c : ℕ) (here : c < clientCount p) (r : Reached p) where
   looking g z =
       let f = lookup-found p (r .shape) g z in (
         subst (λ (x : ℕ). x < total p) (f .entry-frame) (r .ranges .entry-ok (entryOf p g) (λ w. z (sym (f .entry-frame) ∙ w))),
-        suc-not (lookup-mapped p (r .shape) (r .outline .entries-apart) g z),
+        suc-not (lookup-mapped p (r .shape) (r .mapping .entries-apart) g z),
       )
 
   -- one more pin for the found frame
@@ -342,13 +342,13 @@ module _ (p : Pool) (c : ℕ) (here : c < clientCount p) (r : Reached p) where
       let n : entryFrame p (entryOf p (me .page)) ≡ me .found = f .entry-frame ∙ l in
       gets-own 22 _ Revived e tt (f .place) (kn 22 e .0 .0)
       (maps _ refl (f .place) (kn 22 e .0 .0) refl (kn 22 e .0 .1) (inr (ap (pins p) n ∙ kn 22 e .1 .1))
-      (λ j q y w. q (r .outline .pages-apart j (entryOf p (me .page)) y (λ x. z (sym n ∙ x)) (w ∙ sym (f .entry-page)))))
+      (λ j q y w. q (r .mapping .pages-apart j (entryOf p (me .page)) y (λ x. z (sym n ∙ x)) (w ∙ sym (f .entry-page)))))
   effect (evicts20 e) = evicts-own 21 (kn 20 e .0 .0)
   effect (evicts23 e) = evicts-own 4 (kn 23 e .0)
   effect (begins g e h) = quietly tt keep (kept refl tt) (found-stays refl) refl refl
   effect (releases g e z) =
       let i : ℕ = grantOf p c g in
       let h = grantOf-found p c g z .0 in
-      let n = r .outline .grant-named c i h in
+      let n = r .mapping .grant-named c i h in
       pinning tt _ _ refl (r .ranges .grant-ok c i n) (lowers (grant-live p r c i n) refl) (kept refl (rw e tt)) refl (ends i refl refl h)
       (λ _ _ x. ends-no-open x)

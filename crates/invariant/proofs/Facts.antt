@@ -169,7 +169,7 @@ module _ (p : Pool) (r : Reached p) where
         | yes e ↦ e
         | no w ↦
             let s = some-suc (mapped p v) w in
-            absurd (n (ap (lookup p) (r .outline .page-true v (s .0) z (s .1)) ∙ mapped-lookup p (r .shape) (r .outline .pages-apart) v (s .0) z (s .1) .1))
+            absurd (n (ap (lookup p) (r .mapping .mapped-page v (s .0) z (s .1)) ∙ mapped-lookup p (r .shape) (r .mapping .pages-apart) v (s .0) z (s .1) .1))
       ]
 
   -- an own frame that has no slot yet is nobody's victim while that hunts

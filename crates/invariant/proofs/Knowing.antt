@@ -124,7 +124,7 @@ module _ (p : Pool) (c : ℕ) (r : Reached p) where
   -- the frame that a look-up found is the page's
   looked : (m : Move) → EntryPagesStay p (m .write) → EntryFramesStay p (m .write) → (z : lookup p (k .page) ≢ none)
       → (lookup p (k .page) ≢ none) × (pins (apply p c m) (lookup p (k .page)) ≢ evicted → mapped (apply p c m) (lookup p (k .page)) ≡ suc (k .page))
-  looked m a b z = (z, λ _. mapped-kept p c m a b _ ∙ lookup-mapped p (r .shape) (r .outline .entries-apart) (k .page) z)
+  looked m a b z = (z, λ _. mapped-kept p c m a b _ ∙ lookup-mapped p (r .shape) (r .mapping .entries-apart) (k .page) z)
 
   -- the found frame, not evicted, is still the page's
   pinned-now : (m : Move) → Effect p c m → Live p k → pins p (k .found) ≢ evicted → Live (apply p c m) k

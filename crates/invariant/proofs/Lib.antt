@@ -29,14 +29,14 @@ pub mod Edges
 pub mod Steps
 pub mod Effects
 pub mod Next
--- the layers, in the order of the record; Knowing is the part of Outline that speaks of what a client knows at its stage
+-- the layers, in the order of the record; Knowing is the part of Mapping that speaks of what a client knows at its stage
 pub mod Ranges
 pub mod Places
 pub mod Private
 pub mod Counts
 pub mod Knowing
-pub mod Outline
-pub mod Calm
+pub mod Mapping
+pub mod Evictions
 -- check 8, the setup, and all calls
 pub mod Valid
 pub mod Setup

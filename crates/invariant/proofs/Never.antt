@@ -29,7 +29,7 @@ use Rattle.invariant.proofs.Pigeon.{below, equal, below-all, equal-has,
 module _ (p : Pool) (r : Reached p) where
   -- what a client knows at the stage it stands at
   pub know : (c i : ℕ) → client p c .stage ≡ i → Knows i p (client p c)
-  know c i e = subst (λ s. Knows s p (client p c)) e (r .outline .knowing c)
+  know c i e = subst (λ s. Knows s p (client p c)) e (r .mapping .knowing c)
 
   -- no client has a found frame and a victim
   not-both : (c : ℕ) → client p c .victim ≢ none → client p c .found ≡ none
@@ -42,9 +42,9 @@ module _ (p : Pool) (r : Reached p) where
       go true true a d =
           let l : 12 ≤ s = leb-true 12 s a in
           let h : s ≤ 17 = leb-true s 17 d in
-          r .outline .no-found c (rw (ne-eqb s 2 (λ q. omega arith), ne-eqb s 3 (λ q. omega arith), lt-leb 19 s (omega arith)) tt)
-      go true false a d = absurd (z (r .outline .no-victim c (rw (a, d) tt)))
-      go false y a d = absurd (z (r .outline .no-victim c (rw a tt)))
+          r .mapping .no-found c (rw (ne-eqb s 2 (λ q. omega arith), ne-eqb s 3 (λ q. omega arith), lt-leb 19 s (omega arith)) tt)
+      go true false a d = absurd (z (r .mapping .no-victim c (rw (a, d) tt)))
+      go false y a d = absurd (z (r .mapping .no-victim c (rw a tt)))
 
   -- the frame that a client names besides its own and those of its grants
   second : ℕ → ℕ
@@ -91,15 +91,15 @@ module _ (p : Pool) (r : Reached p) where
     as-mapped n = go (ℕ-discrete (pins p f) evicted)
       where
         go : Dec (pins p f ≡ evicted) → 1 ≤ times f
-        go (yes d) = let w = r .calm .ghosts f z n d in as-victim (w .0) (w .1 .0)
-        go (no d) = in-slot (r .outline .resident f z d n)
+        go (yes d) = let w = r .evictions .evicted-mapped f z n d in as-victim (w .0) (w .1 .0)
+        go (no d) = in-slot (r .mapping .resident-in-slot f z d n)
 
     as-entry : (i : ℕ) → entryFrame p i ≡ f → 1 ≤ times f
     as-entry i e = as-mapped (λ n. mapped-none p f z n i e)
 
     as-grant : (c i : ℕ) → grantFrame p c i ≡ f → 1 ≤ times f
     as-grant c i e =
-        as-mapped (suc-not (ap (mapped p) (sym e) ∙ r .outline .granted c i (λ n. z (sym e ∙ n))))
+        as-mapped (suc-not (ap (mapped p) (sym e) ∙ r .mapping .grant-mapped c i (λ n. z (sym e ∙ n))))
 
     as-referenced : referenced p f ≡ true → 1 ≤ times f
     unfolding referenced names holds
@@ -151,7 +151,7 @@ module _ (p : Pool) (r : Reached p) where
       own-none = r .counts .owns-none c (rw e tt)
 
       second-none : second c ≡ none
-      second-none = second-victim c (r .outline .no-found c (rw e tt)) ∙ r .outline .no-victim c (rw e tt)
+      second-none = second-victim c (r .mapping .no-found c (rw e tt)) ∙ r .mapping .no-victim c (rw e tt)
 
       most : n ≤ sumTo times n
       most = sum-most times n (λ f h. as-referenced f (λ w. let z : ⊥ = omega (arith, few) in z) (free-none p (r .shape) missing f h))
@@ -181,7 +181,7 @@ module _ (p : Pool) (r : Reached p) where
       n = total p
 
       once : (f : ℕ) → equal (entryFrame p) n f ≤ 1
-      once f = equal-least (entryFrame p) n f (λ i j h _ a b. r .outline .entries-apart i j (unused-none p (r .shape) full i h) (a ∙ sym b))
+      once f = equal-least (entryFrame p) n f (λ i j h _ a b. r .mapping .entries-apart i j (unused-none p (r .shape) full i h) (a ∙ sym b))
 
       out : equal (entryFrame p) n (client p c .own) ≡ 0
       out = equal-none (entryFrame p) n (client p c .own) (λ i _. mapped-none p (client p c .own) z (r .private .own-unmapped c z) i)

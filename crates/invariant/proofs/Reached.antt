@@ -186,29 +186,29 @@ pub record Counts (p : Pool) : Type 0 where
   pub balance : (f : ℕ) → f ≢ none → Balance p f (pins p f) (claimed p f)
 
 -- the table, and what each client knows
-pub record Outline (p : Pool) : Type 0 where
+pub record Mapping (p : Pool) : Type 0 where
   pub entries-apart : Apart (entryFrame p) none
   pub pages-apart : (i j : ℕ) → entryFrame p i ≢ none → entryFrame p j ≢ none → entryPage p i ≡ entryPage p j → i ≡ j
-  pub granted : (c i : ℕ) → grantFrame p c i ≢ none → mapped p (grantFrame p c i) ≡ suc (grantPage p c i)
+  pub grant-mapped : (c i : ℕ) → grantFrame p c i ≢ none → mapped p (grantFrame p c i) ≡ suc (grantPage p c i)
   pub grant-named : (c i : ℕ) → i < client p c .held → grantFrame p c i ≢ none
   pub knowing : (c : ℕ) → Knows (client p c .stage) p (client p c)
-  pub resident : (f : ℕ) → f ≢ none → pins p f ≢ evicted → mapped p f ≢ 0 → Seated p f
-  pub known : (f : ℕ) → f ≢ none → pins p f ≢ evicted → (mapped p f ≢ 0) ⊎ (((c : ℕ) × (client p c .own ≡ f)) ⊎ Orphan p f)
+  pub resident-in-slot : (f : ℕ) → f ≢ none → pins p f ≢ evicted → mapped p f ≢ 0 → Seated p f
+  pub mapped-or-owned : (f : ℕ) → f ≢ none → pins p f ≢ evicted → (mapped p f ≢ 0) ⊎ (((c : ℕ) × (client p c .own ≡ f)) ⊎ Orphan p f)
   pub no-found : (c : ℕ) → T (foundless (client p c .stage)) → client p c .found ≡ none
   pub no-victim : (c : ℕ) → T (victimless (client p c .stage)) → client p c .victim ≡ none
   pub own-page : (c : ℕ) → client p c .own ≢ none → page p (client p c .own) ≡ client p c .page
-  pub page-true : (f g : ℕ) → f ≢ none → mapped p f ≡ suc g → page p f ≡ g
+  pub mapped-page : (f g : ℕ) → f ≢ none → mapped p f ≡ suc g → page p f ≡ g
 
 -- a client leaves frame f behind: it has it for its victim and stands at 16 or 17, or at 15 with the frame in its slot
 abbrev pub Leaves : Pool → Client → ℕ → Type 0
 Leaves p k f = (k .victim ≡ f) × (T (leaving (k .stage)) ⊎ ((k .stage ≡ 15) × (slot p (k .place) ≡ f)))
 
 -- empty slots, victims, evicted frames in the table
-pub record Calm (p : Pool) : Type 0 where
+pub record Evictions (p : Pool) : Type 0 where
   pub empties : sumTo (λ i. one (eqb (slot p i) none)) (p .size) ≡ p .free + sumTo (λ c. one (filling (client p c .stage))) (clientCount p)
-  pub six : (c : ℕ) → client p c .stage ≡ 6 → client p c .seen ≢ 0
-  pub only : (c i : ℕ) → T (hunting (client p c .stage)) → client p c .victim ≢ none → slot p i ≡ client p c .victim → i ≡ client p c .place
-  pub ghosts : (f : ℕ) → f ≢ none → mapped p f ≢ 0 → pins p f ≡ evicted → (c : ℕ) × Leaves p (client p c) f
+  pub six-seen : (c : ℕ) → client p c .stage ≡ 6 → client p c .seen ≢ 0
+  pub victim-place : (c i : ℕ) → T (hunting (client p c .stage)) → client p c .victim ≢ none → slot p i ≡ client p c .victim → i ≡ client p c .place
+  pub evicted-mapped : (f : ℕ) → f ≢ none → mapped p f ≢ 0 → pins p f ≡ evicted → (c : ℕ) × Leaves p (client p c) f
 
 pub record Reached (p : Pool) : Type 0 where
   pub shape : Shape p
@@ -216,5 +216,5 @@ pub record Reached (p : Pool) : Type 0 where
   pub places : Places p
   pub private : Private p
   pub counts : Counts p
-  pub outline : Outline p
-  pub calm : Calm p
+  pub mapping : Mapping p
+  pub evictions : Evictions p

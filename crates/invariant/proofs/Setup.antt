@@ -127,27 +127,27 @@ module _ (s t c h : ℕ) (ok : numbersOk s t c ≡ true) where
           owns-none = λ d _. ap (λ (k : Client). k .own) (rests d);
           balance = λ f z. gone (pins-none f) (sum-zero (λ d. claims p d f) t (λ d _. rest-claims p d f z (rests d)));
         };
-        outline = record {
+        mapping = record {
           entries-apart = λ i j z _. absurd (z (entry-none i));
           pages-apart = λ i j z _ _. absurd (z (entry-none i));
-          granted = λ d i z. absurd (z (grant-none d i));
+          grant-mapped = λ d i z. absurd (z (grant-none d i));
           grant-named = λ d i l. absurd (let w = ap (λ (k : Client). k .held) (rests d) in let y : ⊥ = omega arith in y);
           knowing = λ d. rw (rests d) tt;
-          resident = λ f z l _. absurd (l (pins-none f));
-          known = λ f z l. absurd (l (pins-none f));
+          resident-in-slot = λ f z l _. absurd (l (pins-none f));
+          mapped-or-owned = λ f z l. absurd (l (pins-none f));
           no-found = λ d _. ap (λ (k : Client). k .found) (rests d);
           no-victim = λ d _. ap (λ (k : Client). k .victim) (rests d);
           own-page = λ d z. absurd (z (ap (λ (k : Client). k .own) (rests d)));
-          page-true = λ f g z e. absurd (suc-not e (mapped-zeros f z));
+          mapped-page = λ f g z e. absurd (suc-not e (mapped-zeros f z));
         };
-        calm = record {
+        evictions = record {
           empties = omega (
             arith,
             sum-full (λ i. one (eqb (slot p i) none)) s (λ i _. ap (λ (f : ℕ). one (eqb f none)) (slot-none i)),
             sum-zero (λ d. one (filling (client p d .stage))) t (λ d _. rw (rests d) refl),
           );
-          six = λ d e. absurd (let w = ap (λ (k : Client). k .stage) (rests d) in let y : ⊥ = omega arith in y);
-          only = λ d i _ z _. absurd (z (ap (λ (k : Client). k .victim) (rests d)));
-          ghosts = λ f z n _. absurd (n (mapped-zeros f z));
+          six-seen = λ d e. absurd (let w = ap (λ (k : Client). k .stage) (rests d) in let y : ⊥ = omega arith in y);
+          victim-place = λ d i _ z _. absurd (z (ap (λ (k : Client). k .victim) (rests d)));
+          evicted-mapped = λ f z n _. absurd (n (mapped-zeros f z));
         };
       }

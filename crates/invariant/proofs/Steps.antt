@@ -77,8 +77,8 @@ module _ (p : Pool) (c : ℕ) (here : c < clientCount p) (r : Reached p) where
         seen-ok = sn;
         victim-ok = λ z. rw v (r .ranges .victim-ok c (λ w. z (v ∙ w)));
         knows = kw;
-        no-victim = λ x. v ∙ r .outline .no-victim c (rw e (imp-mp (victimless j) (victimless i) (h .from-victimless) x));
-        six = λ w. absurd (h .not-six w);
+        no-victim = λ x. v ∙ r .mapping .no-victim c (rw e (imp-mp (victimless j) (victimless i) (h .from-victimless) x));
+        six-seen = λ w. absurd (h .not-six w);
         hunts = λ x. inl (v, at x, rw e (imp-mp (hunting j) (hunting i) (h .from-hunting) x));
         leaves = lv;
         fills = rw (e, fr, h .fills-alike) refl;
@@ -104,7 +104,7 @@ module _ (p : Pool) (c : ℕ) (here : c < clientCount p) (r : Reached p) where
         victim-ok = λ z. absurd (z refl);
         knows = o;
         no-victim = λ _. refl;
-        six = λ w. absurd (differ 11 6 tt w);
+        six-seen = λ w. absurd (differ 11 6 tt w);
         hunts = never;
         leaves = λ f _ _ l. absurd (lv f l);
         fills = rw (e, fr, T-false (filling i) fl) refl;
@@ -147,8 +147,8 @@ module _ (p : Pool) (c : ℕ) (here : c < clientCount p) (r : Reached p) where
         seen-ok = r .ranges .free-ok;
         victim-ok = r .ranges .victim-ok c;
         knows = kn 5 e;
-        no-victim = λ _. r .outline .no-victim c (rw e tt);
-        six = λ _. eqb-false _ _ t;
+        no-victim = λ _. r .mapping .no-victim c (rw e tt);
+        six-seen = λ _. eqb-false _ _ t;
         hunts = never;
         leaves = λ f _ _ w. absurd (no-leaves p k 5 e tt f w);
         fills = rw e refl;
@@ -159,7 +159,7 @@ module _ (p : Pool) (c : ℕ) (here : c < clientCount p) (r : Reached p) where
   unfolding stage6 freeAfter
   step6 e =
       by-test Goes
-      (λ t. let z : p .free ≢ 0 = λ w. r .calm .six c e (sym (eqb-true _ _ t) ∙ w) in by-test Goes (λ u. absurd (z (eqb-true _ _ u)))
+      (λ t. let z : p .free ≢ 0 = λ w. r .evictions .six-seen c e (sym (eqb-true _ _ t) ∙ w) in by-test Goes (λ u. absurd (z (eqb-true _ _ u)))
       (λ _. on k 7 (PutFree (p .free - 1)) (record {
         same = same;
         quiet = free (omega (arith, r .ranges .free-ok));
@@ -169,8 +169,8 @@ module _ (p : Pool) (c : ℕ) (here : c < clientCount p) (r : Reached p) where
         seen-ok = r .ranges .seen-ok c;
         victim-ok = r .ranges .victim-ok c;
         knows = kn 6 e;
-        no-victim = λ _. r .outline .no-victim c (rw e tt);
-        six = λ w. absurd (differ 7 6 tt w);
+        no-victim = λ _. r .mapping .no-victim c (rw e tt);
+        six-seen = λ w. absurd (differ 7 6 tt w);
         hunts = never;
         leaves = λ f _ _ w. absurd (no-leaves p k 6 e tt f w);
         fills = rw e (omega arith);
@@ -230,7 +230,7 @@ module _ (p : Pool) (c : ℕ) (here : c < clientCount p) (r : Reached p) where
         victim-ok = r .ranges .slot-ok (k .place);
         knows = (kn 11 e, (eqb-false _ _ t, λ _. (k .place, refl)));
         no-victim = never;
-        six = λ w. absurd (differ 12 6 tt w);
+        six-seen = λ w. absurd (differ 12 6 tt w);
         hunts = λ _. inr refl;
         leaves = λ f _ _ w. absurd (no-leaves p k 11 e tt f w);
         fills = rw e refl;
@@ -284,7 +284,7 @@ module _ (p : Pool) (c : ℕ) (here : c < clientCount p) (r : Reached p) where
         victim-ok = λ z. absurd (z refl);
         knows = kn 17 e .0;
         no-victim = λ _. refl;
-        six = λ w. absurd (differ 18 6 tt w);
+        six-seen = λ w. absurd (differ 18 6 tt w);
         hunts = never;
         leaves = λ f z n w. absurd (n (ap (mapped p) (sym (w .0)) ∙ entry-gone p r (k .victim) (kn 17 e .1 .0) (eqb-false _ _ t)));
         fills = rw e refl;
@@ -339,7 +339,7 @@ module _ (p : Pool) (c : ℕ) (here : c < clientCount p) (r : Reached p) where
   unfolding moveOf releaseMove
   release-edge g e z =
       let i : ℕ = grantOf p c g in
-      let f : grantFrame p c i ≢ none = r .outline .grant-named c i (grantOf-found p c g z .0) in
+      let f : grantFrame p c i ≢ none = r .mapping .grant-named c i (grantOf-found p c g z .0) in
       let two = grant-live p r c i f in
       by-test Goes (λ t. let x : pins p (grantFrame p c i) ≡ evicted = eqb-true _ _ t in let y : ⊥ = omega arith in absurd y) (λ _. releases g e z)
 

@@ -64,20 +64,20 @@ module _ (p : Pool) (r : Reached p) where
   -- one client's grants of one page name the frame that the page is mapped to
   granted-frame : (c i : ℕ) → i < client p c .held → grantFrame p c i ≡ lookup p (grantPage p c i)
   granted-frame c i h =
-      let n = r .outline .grant-named c i h in
-      sym (mapped-lookup p (r .shape) (r .outline .pages-apart) (grantFrame p c i) (grantPage p c i) n (r .outline .granted c i n) .1)
+      let n = r .mapping .grant-named c i h in
+      sym (mapped-lookup p (r .shape) (r .mapping .pages-apart) (grantFrame p c i) (grantPage p c i) n (r .mapping .grant-mapped c i n) .1)
 
   client-ranged : (c : ℕ) → ClientRanged p c
   client-ranged c =
       let k = client p c in
       let s = r .ranges in
-      let h : Has k (k .stage) = each-in (Shows p k) Nothing knows (shows p k) (k .stage) (omega (arith, s .stage-ok c)) (r .outline .knowing c) in
+      let h : Has k (k .stage) = each-in (Shows p k) Nothing knows (shows p k) (k .stage) (omega (arith, s .stage-ok c)) (r .mapping .knowing c) in
       record {
         counts = record { stage = s .stage-ok c; held = s .held-ok c; place = s .place-ok c; busy = s .busy-ok c; seen = s .seen-ok c };
         own = record { named = s .own-ok c; there = λ u. s .own-ok c (h .own u) };
         found = record { named = s .found-ok c; there = λ u. s .found-ok c (h .found u) };
         victim = record { named = s .victim-ok c; there = λ u. s .victim-ok c (h .victim u) };
-        grant = λ i l. s .grant-ok c i (r .outline .grant-named c i l);
+        grant = λ i l. s .grant-ok c i (r .mapping .grant-named c i l);
         agree = λ i j l m e. granted-frame c i l ∙ ap (lookup p) e ∙ sym (granted-frame c j m);
       }
 
@@ -96,7 +96,7 @@ module _ (p : Pool) (r : Reached p) where
         pins = λ f _. r .ranges .pins-ok f;
         count = λ f _. r .ranges .count-ok f;
         entry = λ i _. r .ranges .entry-ok i;
-        apart = λ i j _ _. r .outline .pages-apart i j;
+        apart = λ i j _ _. r .mapping .pages-apart i j;
         client = λ c _. client-ranged c;
       }
 

@@ -14,7 +14,7 @@ use Rattle.pool.specs.Apply.{slotsAfter, freeAfter, apply}
 use Rattle.pool.specs.declared.Pool.{Pool}
 use Rattle.pool.specs.declared.Client.{Client}
 use Rattle.pool.specs.declared.Move.{Move}
-use Rattle.invariant.proofs.Reached.{Reached, Calm, Knows, one, sumTo, mapped, unplaced, leaving, filling, hunting, Leaves}
+use Rattle.invariant.proofs.Reached.{Reached, Evictions, Knows, one, sumTo, mapped, unplaced, leaving, filling, hunting, Leaves}
 use Rattle.invariant.proofs.After.{SlotsStay, SlotsPut, client-same, client-other, all-clients, slot-kept, slot-here, slot-else, pins-kept, pins-here}
 use Rattle.invariant.proofs.After.{pins-else}
 use Rattle.invariant.proofs.Sums.{one-not, sum-same, sum-put}
@@ -28,7 +28,7 @@ use Rattle.invariant.proofs.Edges.{Hunts, Edge, on, found1, found18, lo
 use Rattle.invariant.proofs.Edges.{removes, admits, revives, evicts20, evicts23, begins, releases}
 use Rattle.invariant.proofs.Effects.{PinChange, adds, lowers, drops-victim, drops-own, takes-one, PinsOk, pins-stay, pins-put, unseen, Effect}
 use Rattle.invariant.proofs.Next.{SlotNow, TakenOut, slot-now, slot-or-out}
-use Rattle.invariant.proofs.Outline.{new-entry}
+use Rattle.invariant.proofs.Mapping.{new-entry}
 
 -- how many slots are empty
 abbrev empty : Pool → ℕ
@@ -36,15 +36,15 @@ empty p = sumTo (λ i. one (eqb (slot p i) none)) (p .size)
 
 -- ---- what a move has to show
 
-record Settles (p : Pool) (c : ℕ) (m : Move) : Type 0 where
-  level : empty (apply p c m) + p .free + one (filling (client p c .stage)) ≡ empty p + freeAfter (p .free) (m .write) + one (filling (m .next .stage))
-  six : m .next .stage ≡ 6 → m .next .seen ≢ 0
+record EvictionsCondition (p : Pool) (c : ℕ) (m : Move) : Type 0 where
+  empties : empty (apply p c m) + p .free + one (filling (client p c .stage)) ≡ empty p + freeAfter (p .free) (m .write) + one (filling (m .next .stage))
+  six-seen : m .next .stage ≡ 6 → m .next .seen ≢ 0
   hunts : T (hunting (m .next .stage)) → Hunts p (client p c) (m .next)
   leaves : (f : ℕ) → f ≢ none → mapped p f ≢ 0 → mapped (apply p c m) f ≢ 0 → Leaves p (client p c) f → Leaves (apply p c m) (m .next) f
 
--- ---- a settling move keeps the layer
+-- ---- a move that shows it keeps the layer
 
-module _ {p : Pool} {c : ℕ} {m : Move} (x : Effect p c m) (s : Settles p c m) where
+module _ {p : Pool} {c : ℕ} {m : Move} (x : Effect p c m) (s : EvictionsCondition p c m) where
   abbrev r : Reached p
   r = x .reached
 
@@ -64,10 +64,10 @@ module _ {p : Pool} {c : ℕ} {m : Move} (x : Effect p c m) (s : Settles p c m) 
   empties-next =
       let n = sum-put (λ d. one (filling (client p d .stage))) (λ d. one (filling (client q d .stage))) (clientCount p) c here
       (λ d _ o. ap (λ (n : Client). one (filling (n .stage))) (client-other p c m d o)) in
-      omega (arith, r .calm .empties, s .level, n, ap (λ (n : Client). one (filling (n .stage))) at-c)
+      omega (arith, r .evictions .empties, s .empties, n, ap (λ (n : Client). one (filling (n .stage))) at-c)
 
-  only-next : (d i : ℕ) → T (hunting (client q d .stage)) → client q d .victim ≢ none → slot q i ≡ client q d .victim → i ≡ client q d .place
-  only-next d i =
+  victim-place-next : (d i : ℕ) → T (hunting (client q d .stage)) → client q d .victim ≢ none → slot q i ≡ client q d .victim → i ≡ client q d .place
+  victim-place-next d i =
       all-clients p c m (r .shape) (λ _ n. T (hunting (n .stage)) → n .victim ≢ none → slot q i ≡ n .victim → i ≡ n .place) here others
       (mine (slot-now x i)) d
     where
@@ -75,7 +75,7 @@ module _ {p : Pool} {c : ℕ} {m : Move} (x : Effect p c m) (s : Settles p c m) 
       others d _ t z h = go (slot-now x i)
         where
           go : SlotNow x i → i ≡ client p d .place
-          go (inl e) = r .calm .only d i t z (sym e ∙ h)
+          go (inl e) = r .evictions .victim-place d i t z (sym e ∙ h)
           go (inr e) = absurd (own-not-victim p r c d (e .1) (e .3) t (sym h ∙ e .0))
 
       mine : SlotNow x i → T (hunting (m .next .stage)) → m .next .victim ≢ none → slot q i ≡ m .next .victim → i ≡ m .next .place
@@ -83,7 +83,7 @@ module _ {p : Pool} {c : ℕ} {m : Move} (x : Effect p c m) (s : Settles p c m) 
       mine (inl e) t z h = go (s .hunts t)
         where
           go : Hunts p k (m .next) → i ≡ m .next .place
-          go (inl w) = r .calm .only c i (w .2) (λ n. z (w .0 ∙ n)) (sym e ∙ h ∙ w .0) ∙ sym (w .1)
+          go (inl w) = r .evictions .victim-place c i (w .2) (λ n. z (w .0 ∙ n)) (sym e ∙ h ∙ w .0) ∙ sym (w .1)
           go (inr w) = r .places .slots-apart i (m .next .place) (λ n. z (sym h ∙ e ∙ n)) (sym e ∙ h ∙ w)
 
   -- a frame that is evicted now, and was mapped to: it was evicted, or the mover leaves it
@@ -113,7 +113,7 @@ module _ {p : Pool} {c : ℕ} {m : Move} (x : Effect p c m) (s : Settles p c m) 
                 seat = kn .1 .1 (λ u. let e : pins p g ≡ evicted = ap (pins p) v ∙ u in let y : ⊥ = omega arith in y)
 
                 stands : slot p (k .place) ≡ f
-                stands = ap (slot p) (sym (r .calm .only c (seat .0) (rw a tt) (kn .1 .0) (seat .1))) ∙ seat .1 ∙ sym (w ∙ v)
+                stands = ap (slot p) (sym (r .evictions .victim-place c (seat .0) (rw a tt) (kn .1 .0) (seat .1))) ∙ seat .1 ∙ sym (w ∙ v)
 
                 out : (slot q (k .place) ≡ f) ⊎ TakenOut x f → slot q (m .next .place) ≡ f
                 out (inl u) = ap (slot q) pl ∙ u
@@ -121,7 +121,7 @@ module _ {p : Pool} {c : ℕ} {m : Move} (x : Effect p c m) (s : Settles p c m) 
 
     left : mapped q f ≢ 0 → (pins p f ≡ evicted) ⊎ Leaves q (m .next) f → (d : ℕ) × Leaves q (client q d) f
     left n′ (inr h) = (c, rw at-c h)
-    left n′ (inl h) = who (r .calm .ghosts f z n h)
+    left n′ (inl h) = who (r .evictions .evicted-mapped f z n h)
       where
         who : (d : ℕ) × Leaves p (client p d) f → (d : ℕ) × Leaves q (client q d) f
         who w = by (ℕ-discrete (w .0) c)
@@ -140,8 +140,8 @@ module _ {p : Pool} {c : ℕ} {m : Move} (x : Effect p c m) (s : Settles p c m) 
             by (no o) = still (client-other p c m (w .0) o) (w .1 .1)
             by (yes o) = (c, rw at-c (s .leaves f z n n′ (subst (λ (d : ℕ). Leaves p (client p d) f) o (w .1))))
 
-  ghosts-next : (f : ℕ) → f ≢ none → mapped q f ≢ 0 → pins q f ≡ evicted → (d : ℕ) × Leaves q (client q d) f
-  ghosts-next f z n d = go (ℕ-discrete (mapped p f) 0)
+  evicted-mapped-next : (f : ℕ) → f ≢ none → mapped q f ≢ 0 → pins q f ≡ evicted → (d : ℕ) × Leaves q (client q d) f
+  evicted-mapped-next f z n d = go (ℕ-discrete (mapped p f) 0)
     where
       go : Dec (mapped p f ≡ 0) → (d : ℕ) × Leaves q (client q d) f
       go (no e) = left f z e d n (evicted-now f z e d)
@@ -149,14 +149,14 @@ module _ {p : Pool} {c : ℕ} {m : Move} (x : Effect p c m) (s : Settles p c m) 
           let w = new-entry x f z e n in
           absurd (own-live p r c (λ y. z (w .0 ∙ y)) (ap (pins p) (sym (w .0)) ∙ sym (w .3) ∙ d))
 
-  calm-of : Calm q
+  evictions-of : Evictions q
   unfolding apply
-  calm-of =
+  evictions-of =
       record {
         empties = empties-next;
-        six = all-clients p c m (r .shape) (λ _ n. n .stage ≡ 6 → n .seen ≢ 0) here (λ d _. r .calm .six d) (s .six);
-        only = only-next;
-        ghosts = ghosts-next;
+        six-seen = all-clients p c m (r .shape) (λ _ n. n .stage ≡ 6 → n .seen ≢ 0) here (λ d _. r .evictions .six-seen d) (s .six-seen);
+        victim-place = victim-place-next;
+        evicted-mapped = evicted-mapped-next;
       }
 
 -- ---- each kind of move
@@ -173,17 +173,17 @@ module _ (p : Pool) (c : ℕ) (r : Reached p) where
   unfolding apply
   same-empty m e = sum-same _ _ (p .size) (λ i _. ap (λ (f : ℕ). one (eqb f none)) (slot-kept p c m e i))
 
-  settled : {m : Move} (i : ℕ) → client p c .stage ≡ i → SlotsStay p (m .write) → freeAfter (p .free) (m .write) ≡ p .free
+  same-slots : {m : Move} (i : ℕ) → client p c .stage ≡ i → SlotsStay p (m .write) → freeAfter (p .free) (m .write) ≡ p .free
       → filling i ≡ filling (m .next .stage) → T (not (eqb (m .next .stage) 6)) → (T (hunting (m .next .stage)) → Hunts p me (m .next))
-      → ((f : ℕ) → f ≢ none → mapped p f ≢ 0 → mapped (apply p c m) f ≢ 0 → Leaves p me f → Leaves (apply p c m) (m .next) f) → Settles p c m
-  settled {m} i e sl fr fi no-six hu lv =
-      record { level = rw (e, fr, fi) (omega (arith, same-empty m sl)); six = λ w. absurd (differ (m .next .stage) 6 no-six w); hunts = hu; leaves = lv }
+      → ((f : ℕ) → f ≢ none → mapped p f ≢ 0 → mapped (apply p c m) f ≢ 0 → Leaves p me f → Leaves (apply p c m) (m .next) f) → EvictionsCondition p c m
+  same-slots {m} i e sl fr fi no-six hu lv =
+      record { empties = rw (e, fr, fi) (omega (arith, same-empty m sl)); six-seen = λ w. absurd (differ (m .next .stage) 6 no-six w); hunts = hu; leaves = lv }
 
   -- and nothing is hunted or left
-  calmly : {m : Move} (i : ℕ) → client p c .stage ≡ i → SlotsStay p (m .write) → freeAfter (p .free) (m .write) ≡ p .free
-      → filling i ≡ filling (m .next .stage) → T (not (eqb (m .next .stage) 6)) → T (not (hunting (m .next .stage))) → T (leavesNone i) → Settles p c m
-  calmly {m} i e sl fr fi no-six hu lv =
-      settled i e sl fr fi no-six (λ t. absurd (T-not (hunting (m .next .stage)) hu t)) (λ f _ _ _ w. absurd (no-leaves p me i e lv f w))
+  unexamined : {m : Move} (i : ℕ) → client p c .stage ≡ i → SlotsStay p (m .write) → freeAfter (p .free) (m .write) ≡ p .free
+      → filling i ≡ filling (m .next .stage) → T (not (eqb (m .next .stage) 6)) → T (not (hunting (m .next .stage))) → T (leavesNone i) → EvictionsCondition p c m
+  unexamined {m} i e sl fr fi no-six hu lv =
+      same-slots i e sl fr fi no-six (λ t. absurd (T-not (hunting (m .next .stage)) hu t)) (λ f _ _ _ w. absurd (no-leaves p me i e lv f w))
 
   -- the own frame is put into the slot at the client's place: what stood there counted b as empty
   placing : (m : Move) (b : ℕ) → SlotsPut p (m .write) (me .place) (me .own) → me .own ≢ none → one (eqb (slot p (me .place)) none) ≡ b
@@ -198,12 +198,12 @@ module _ (p : Pool) (c : ℕ) (r : Reached p) where
             (λ i _ o. ap (λ (f : ℕ). one (eqb f none)) (slot-else p c m (me .place) (me .own) e i o)),
       )
 
-  settles : {m : Move} → Edge p c m → Effect p c m → Settles p c m
+  evictions-condition : {m : Move} → Edge p c m → Effect p c m → EvictionsCondition p c m
   unfolding slotsAfter freeAfter
-  settles {m} (on n j w h) x =
+  evictions-condition {m} (on n j w h) x =
       record {
-        level = let f = h .fills in omega (arith, same-empty m (unseen _ _ (h .quiet) .slots));
-        six = h .six;
+        empties = let f = h .fills in omega (arith, same-empty m (unseen _ _ (h .quiet) .slots));
+        six-seen = h .six-seen;
         hunts = h .hunts;
         leaves = λ f z a _ l. shifted (h .leaves f z a l);
       }
@@ -214,35 +214,35 @@ module _ (p : Pool) (c : ℕ) (r : Reached p) where
       shifted : {f : ℕ} → Leaves p (m .next) f → Leaves (apply p c m) (m .next) f
       shifted (v, inl l) = (v, inl l)
       shifted (v, inr l) = (v, inr (l .0, at (n .place) ∙ l .1))
-  settles (found1 e _) x = calmly 1 e refl refl refl tt tt tt
-  settles (found18 e _) x = calmly 18 e refl refl refl tt tt tt
-  settles (lost2 e _) x = calmly 2 e refl refl refl tt tt tt
-  settles (lost22 e _) x = calmly 22 e refl refl refl tt tt tt
-  settles (pins2 e _) x = calmly 2 e refl refl refl tt tt tt
-  settles (pins19 e _) x = calmly 19 e refl refl refl tt tt tt
-  settles (gets3 e) x = calmly 3 e refl refl refl tt tt tt
-  settles (gets21 e) x = calmly 21 e refl refl refl tt tt tt
-  settles (takes e _) x = calmly 4 e refl refl refl tt tt tt
-  settles {m} (fills e h) x =
+  evictions-condition (found1 e _) x = unexamined 1 e refl refl refl tt tt tt
+  evictions-condition (found18 e _) x = unexamined 18 e refl refl refl tt tt tt
+  evictions-condition (lost2 e _) x = unexamined 2 e refl refl refl tt tt tt
+  evictions-condition (lost22 e _) x = unexamined 22 e refl refl refl tt tt tt
+  evictions-condition (pins2 e _) x = unexamined 2 e refl refl refl tt tt tt
+  evictions-condition (pins19 e _) x = unexamined 19 e refl refl refl tt tt tt
+  evictions-condition (gets3 e) x = unexamined 3 e refl refl refl tt tt tt
+  evictions-condition (gets21 e) x = unexamined 21 e refl refl refl tt tt tt
+  evictions-condition (takes e _) x = unexamined 4 e refl refl refl tt tt tt
+  evictions-condition {m} (fills e h) x =
       record {
-        level = rw e (omega (arith, placing m 1 refl (kn 8 e) (ap (λ (f : ℕ). one (eqb f none)) h)));
-        six = λ w. absurd (differ 9 6 tt w);
+        empties = rw e (omega (arith, placing m 1 refl (kn 8 e) (ap (λ (f : ℕ). one (eqb f none)) h)));
+        six-seen = λ w. absurd (differ 9 6 tt w);
         hunts = never;
         leaves = λ f _ _ _ w. absurd (no-leaves p me 8 e tt f w);
       }
-  settles {m} (swaps e h) x =
+  evictions-condition {m} (swaps e h) x =
       let z : slot p (me .place) ≢ none = λ w. kn 15 e .1 .0 (sym h ∙ w) in
       record {
-        level = rw e (omega (arith, placing m 0 refl (kn 15 e .0) (one-not _ _ z)));
-        six = λ w. absurd (differ 16 6 tt w);
+        empties = rw e (omega (arith, placing m 0 refl (kn 15 e .0) (one-not _ _ z)));
+        six-seen = λ w. absurd (differ 16 6 tt w);
         hunts = never;
         leaves = λ f _ _ _ w. (w .0, inl tt);
       }
-  settles (gives-up v _) x = calmly (me .stage) refl refl refl (v .no-fill) tt tt (v .no-leave)
-  settles (drops e _) x =
-      settled 14 e refl refl refl tt (λ _. inl (refl, refl, rw e tt)) (λ f _ _ _ w. absurd (no-leaves p me 14 e tt f w))
-  settles {m} (removes e h) x =
-      settled 17 e refl refl refl tt never (λ f _ _ n w. absurd (n (ap (mapped (apply p c m)) (sym (w .0)) ∙ gone)))
+  evictions-condition (gives-up v _) x = unexamined (me .stage) refl refl refl (v .no-fill) tt tt (v .no-leave)
+  evictions-condition (drops e _) x =
+      same-slots 14 e refl refl refl tt (λ _. inl (refl, refl, rw e tt)) (λ f _ _ _ w. absurd (no-leaves p me 14 e tt f w))
+  evictions-condition {m} (removes e h) x =
+      same-slots 17 e refl refl refl tt never (λ f _ _ n w. absurd (n (ap (mapped (apply p c m)) (sym (w .0)) ∙ gone)))
     where
       z : me .victim ≢ none
       z = kn 17 e .1 .0
@@ -259,14 +259,14 @@ module _ (p : Pool) (c : ℕ) (r : Reached p) where
       gone : mapped (apply p c m) (me .victim) ≡ 0
       gone =
           ap (mapped (apply p c m)) (sym there) ∙
-          put-gone p c m (r .shape) i g none refl (lookup-found p (r .shape) g (λ w. z (sym h ∙ w)) .place) (r .outline .entries-apart)
+          put-gone p c m (r .shape) i g none refl (lookup-found p (r .shape) g (λ w. z (sym h ∙ w)) .place) (r .mapping .entries-apart)
           (λ w. absurd (w refl)) (λ w. z (sym there ∙ w)) (λ w. z (sym there ∙ w))
-  settles (admits e _ _) x = calmly 18 e refl refl refl tt tt tt
-  settles (revives e _) x = calmly 22 e refl refl refl tt tt tt
-  settles (evicts20 e) x = calmly 20 e refl refl refl tt tt tt
-  settles (evicts23 e) x = calmly 23 e refl refl refl tt tt tt
-  settles (begins g e _) x = calmly 0 e refl refl refl tt tt tt
-  settles (releases g e _) x = calmly 0 e refl refl (rw e refl) (rw e tt) (rw e tt) tt
+  evictions-condition (admits e _ _) x = unexamined 18 e refl refl refl tt tt tt
+  evictions-condition (revives e _) x = unexamined 22 e refl refl refl tt tt tt
+  evictions-condition (evicts20 e) x = unexamined 20 e refl refl refl tt tt tt
+  evictions-condition (evicts23 e) x = unexamined 23 e refl refl refl tt tt tt
+  evictions-condition (begins g e _) x = unexamined 0 e refl refl refl tt tt tt
+  evictions-condition (releases g e _) x = unexamined 0 e refl refl (rw e refl) (rw e tt) (rw e tt) tt
 
-  pub calm-next : {m : Move} → Edge p c m → Effect p c m → Calm (apply p c m)
-  calm-next {m} e x = calm-of x (settles e x)
+  pub evictions-next : {m : Move} → Edge p c m → Effect p c m → Evictions (apply p c m)
+  evictions-next {m} e x = evictions-of x (evictions-condition e x)

@@ -16,7 +16,7 @@ use Rattle.pool.specs.declared.Pool.{Pool}
 use Rattle.pool.specs.declared.Client.{Client}
 use Rattle.pool.specs.declared.Move.{Move}
 use Rattle.pool.specs.declared.Write.the-variants.{PutEntry}
-use Rattle.invariant.proofs.Reached.{Reached, Apart, Outline, mapped, Seated, Knows, Orphan, foundless, victimless}
+use Rattle.invariant.proofs.Reached.{Reached, Apart, Mapping, mapped, Seated, Knows, Orphan, foundless, victimless}
 use Rattle.invariant.proofs.After.{client-same, client-other, all-clients, pins-kept, pins-here, page-here, entryPage-kept, entryFrame-kept}
 use Rattle.invariant.proofs.Apart.{apart-used, apart-same}
 use Rattle.invariant.proofs.Searches.{Fresh, fresh-means, grant-in, lookup-found, unused-found}
@@ -40,7 +40,7 @@ NoFound n = T (foundless (n .stage)) → n .found ≡ none
 abbrev NoVictim : Client → Type 0
 NoVictim n = T (victimless (n .stage)) → n .victim ≡ none
 
-record Tells (p : Pool) (c : ℕ) (m : Move) : Type 0 where
+record MappingCondition (p : Pool) (c : ℕ) (m : Move) : Type 0 where
   no-found : NoFound (m .next)
   no-victim : NoVictim (m .next)
   wants : client p c .own ≢ none → m .next .own ≡ client p c .own → m .next .page ≡ client p c .page
@@ -68,15 +68,15 @@ module _ {p : Pool} {c : ℕ} {m : Move} (x : Effect p c m) where
 
   own-mapped : (i g f : ℕ) → f ≡ k .own → f ≢ none → m .write ≡ PutEntry i g f → i < total p → mapped q f ≡ suc g
   own-mapped i g f e z w h =
-      put-new p c m (r .shape) i g f w h (r .outline .entries-apart) (λ _ j _ y. own-only (λ n. z (e ∙ n)) j (y ∙ e)) z
+      put-new p c m (r .shape) i g f w h (r .mapping .entries-apart) (λ _ j _ y. own-only (λ n. z (e ∙ n)) j (y ∙ e)) z
 
   entries-next : Apart (entryFrame q) none
   entries-next = go (x .entries)
     where
       go : EntryOk p c m → Apart (entryFrame q) none
-      go (entries-stay _ w) = apart-same (entryFrame p) (entryFrame q) none (r .outline .entries-apart) (entryFrame-kept p c m w)
-      go (maps i w h z _ _ _ _) = put-apart p c m (r .shape) i (k .page) (k .own) w h (r .outline .entries-apart) (λ _ j _. own-only z j)
-      go (unmaps i g w h _ _) = put-apart p c m (r .shape) i g none w h (r .outline .entries-apart) (λ z. absurd (z refl))
+      go (entries-stay _ w) = apart-same (entryFrame p) (entryFrame q) none (r .mapping .entries-apart) (entryFrame-kept p c m w)
+      go (maps i w h z _ _ _ _) = put-apart p c m (r .shape) i (k .page) (k .own) w h (r .mapping .entries-apart) (λ _ j _. own-only z j)
+      go (unmaps i g w h _ _) = put-apart p c m (r .shape) i g none w h (r .mapping .entries-apart) (λ z. absurd (z refl))
 
   pages-next : (i j : ℕ) → entryFrame q i ≢ none → entryFrame q j ≢ none → entryPage q i ≡ entryPage q j → i ≡ j
   pages-next = go (x .entries)
@@ -85,7 +85,7 @@ module _ {p : Pool} {c : ℕ} {m : Move} (x : Effect p c m) where
       put : (n g f : ℕ) → m .write ≡ PutEntry n g f → n < total p → (f ≢ none → (i : ℕ) → i ≢ n → entryFrame p i ≢ none → entryPage p i ≢ g)
           → (i j : ℕ) → entryFrame q i ≢ none → entryFrame q j ≢ none → entryPage q i ≡ entryPage q j → i ≡ j
       put n g f w h new =
-          apart-used (λ i. entryFrame p i ≢ none) (λ i. entryFrame q i ≢ none) (entryPage p) (entryPage q) n (r .outline .pages-apart)
+          apart-used (λ i. entryFrame p i ≢ none) (λ i. entryFrame q i ≢ none) (entryPage p) (entryPage q) n (r .mapping .pages-apart)
           (λ i o z y. z (else-frame p c m (r .shape) n g f w h i o ∙ y)) (else-page p c m (r .shape) n g f w h)
           (λ z i o y e. new (λ v. z (put-frame p c m (r .shape) n g f w h ∙ v)) i o y (e ∙ put-page p c m (r .shape) n g f w h))
 
@@ -93,7 +93,7 @@ module _ {p : Pool} {c : ℕ} {m : Move} (x : Effect p c m) where
       go (entries-stay v w) =
           let s : (i : ℕ) → entryFrame q i ≡ entryFrame p i = entryFrame-kept p c m w in
           let t : (i : ℕ) → entryPage q i ≡ entryPage p i = entryPage-kept p c m v in
-          λ i j a b e. r .outline .pages-apart i j (λ n. a (s i ∙ n)) (λ n. b (s j ∙ n)) (sym (t i) ∙ e ∙ t j)
+          λ i j a b e. r .mapping .pages-apart i j (λ n. a (s i ∙ n)) (λ n. b (s j ∙ n)) (sym (t i) ∙ e ∙ t j)
       go (maps n w h _ _ _ _ o) = put n (k .page) (k .own) w h (λ _. o)
       go (unmaps n g w h _ _) = put n g none w h (λ z. absurd (z refl))
 
@@ -126,14 +126,14 @@ module _ {p : Pool} {c : ℕ} {m : Move} (x : Effect p c m) where
             by : Dec (f ≡ entryFrame p i) → mapped q f ≡ mapped p f
             by (no v) = put-other p c m (r .shape) i (k .page) (k .own) w h f not-own v
             by (yes v) =
-                absurd (n (ap (mapped q) v ∙ put-gone p c m (r .shape) i (k .page) (k .own) w h (r .outline .entries-apart) (λ _ j _. own-only o j)
+                absurd (n (ap (mapped q) v ∙ put-gone p c m (r .shape) i (k .page) (k .own) w h (r .mapping .entries-apart) (λ _ j _. own-only o j)
                 (λ y. z (v ∙ y)) (λ y. not-own (v ∙ y))))
         go (unmaps i g w h _ _) = by (ℕ-discrete f (entryFrame p i))
           where
             by : Dec (f ≡ entryFrame p i) → mapped q f ≡ mapped p f
             by (no v) = put-other p c m (r .shape) i g none w h f z v
             by (yes v) =
-                absurd (n (ap (mapped q) v ∙ put-gone p c m (r .shape) i g none w h (r .outline .entries-apart) (λ y. absurd (y refl))
+                absurd (n (ap (mapped q) v ∙ put-gone p c m (r .shape) i g none w h (r .mapping .entries-apart) (λ y. absurd (y refl))
                 (λ y. z (v ∙ y)) (λ y. z (v ∙ y))))
 
     fresh-or : Fresh p f ⊎ (referenced p f ≡ false → ⊥)
@@ -143,8 +143,8 @@ module _ {p : Pool} {c : ℕ} {m : Move} (x : Effect p c m) where
         go false e = inl (fresh-means p f z e)
         go true e = inr (λ w. true≢false (sym e ∙ w))
 
-    resident-next : pins q f ≢ evicted → mapped q f ≢ 0 → Seated q f
-    resident-next l n = go (ℕ-discrete (mapped p f) 0)
+    resident-in-slot-next : pins q f ≢ evicted → mapped q f ≢ 0 → Seated q f
+    resident-in-slot-next l n = go (ℕ-discrete (mapped p f) 0)
       where
         seat : (referenced p f ≡ false → ⊥) → Seated p f → Seated q f
         seat a s = seats-next x f z (λ d. l (dead-next x f z a d)) s
@@ -153,10 +153,10 @@ module _ {p : Pool} {c : ℕ} {m : Move} (x : Effect p c m) where
         go (yes e) = let w = new-entry e n in seat (by-own x f z c (sym (w .0))) (w .1)
         go (no e) =
             let a = by-mapped x f z e in
-            seat a (r .outline .resident f z (λ d. l (dead-next x f z a d)) e)
+            seat a (r .mapping .resident-in-slot f z (λ d. l (dead-next x f z a d)) e)
 
-    known-next : Tells p c m → pins q f ≢ evicted → (mapped q f ≢ 0) ⊎ (((d : ℕ) × (client q d .own ≡ f)) ⊎ Orphan q f)
-    known-next t l = go (ℕ-discrete (m .next .own) f) fresh-or
+    mapped-or-owned-next : MappingCondition p c m → pins q f ≢ evicted → (mapped q f ≢ 0) ⊎ (((d : ℕ) × (client q d .own ≡ f)) ⊎ Orphan q f)
+    mapped-or-owned-next t l = go (ℕ-discrete (m .next .own) f) fresh-or
       where
         Goal : Type 0
         Goal = (mapped q f ≢ 0) ⊎ (((d : ℕ) × (client q d .own ≡ f)) ⊎ Orphan q f)
@@ -182,68 +182,68 @@ module _ {p : Pool} {c : ℕ} {m : Move} (x : Effect p c m) where
         go (no e) (inl w) =
             inr (inr (orphan-stays x f z
             (record { no-slot = w .no-slot; unmapped = mapped-zero p f (w .no-entry); unowned = w .no-own; unfound = w .no-found; ungranted = w .no-grant }) e))
-        go (no e) (inr w) = let a : pins p f ≢ evicted = λ d. l (dead-next x f z w d) in old e a (r .outline .known f z a)
+        go (no e) (inr w) = let a : pins p f ≢ evicted = λ d. l (dead-next x f z w d) in old e a (r .mapping .mapped-or-owned f z a)
 
-    true-next : (g : ℕ) → mapped q f ≡ suc g → page q f ≡ g
-    true-next g e = go (ℕ-discrete (mapped p f) 0)
+    mapped-page-next : (g : ℕ) → mapped q f ≡ suc g → page q f ≡ g
+    mapped-page-next g e = go (ℕ-discrete (mapped p f) 0)
       where
         go : Dec (mapped p f ≡ 0) → page q f ≡ g
         go (no n) =
-            page-next x f z (by-mapped x f z n) ∙ r .outline .page-true f g z (sym (entry-same n (suc-not e)) ∙ e)
+            page-next x f z (by-mapped x f z n) ∙ r .mapping .mapped-page f g z (sym (entry-same n (suc-not e)) ∙ e)
         go (yes n) =
             let w = new-entry n (suc-not e) in
             let s : suc (k .page) ≡ suc g = sym (w .2) ∙ e in
-            page-next x f z (by-own x f z c (sym (w .0))) ∙ ap (page p) (w .0) ∙ r .outline .own-page c (λ y. z (w .0 ∙ y)) ∙
+            page-next x f z (by-own x f z c (sym (w .0))) ∙ ap (page p) (w .0) ∙ r .mapping .own-page c (λ y. z (w .0 ∙ y)) ∙
             omega arith
 
   -- ---- grants and own frames
 
-  granted-next : (d i : ℕ) → grantFrame q d i ≢ none → mapped q (grantFrame q d i) ≡ suc (grantPage q d i)
-  granted-next d i z =
+  grant-mapped-next : (d i : ℕ) → grantFrame q d i ≢ none → mapped q (grantFrame q d i) ≡ suc (grantPage q d i)
+  grant-mapped-next d i z =
       all-grants x (λ g f. f ≢ none → mapped q f ≡ suc g)
       (λ d i _ n. let two = grant-live p r d i n in
-      maps-next x (grantFrame p d i) n (λ e. let y : ⊥ = omega arith in y) (grantPage p d i) (r .outline .granted d i n))
+      maps-next x (grantFrame p d i) n (λ e. let y : ⊥ = omega arith in y) (grantPage p d i) (r .mapping .grant-mapped d i n))
       (λ g f w. new (x .opened g f w)) d i (grant-in q d i z) z
     where
       new : {g f : ℕ} → Opened p c m g f → f ≢ none → mapped q f ≡ suc g
       new {g} {f} (of-found _ _ e two) n = maps-next x f n (λ w. let y : ⊥ = omega arith in y) g e
       new {g} {f} (of-own i e n _ w h) _ = own-mapped i g f e n w h
 
-  named-next : (d i : ℕ) → i < client q d .held → grantFrame q d i ≢ none
-  named-next = all-grants x (λ _ f. f ≢ none) (r .outline .grant-named) (λ g f w. new (x .opened g f w))
+  grant-named-next : (d i : ℕ) → i < client q d .held → grantFrame q d i ≢ none
+  grant-named-next = all-grants x (λ _ f. f ≢ none) (r .mapping .grant-named) (λ g f w. new (x .opened g f w))
     where
       new : {g f : ℕ} → Opened p c m g f → f ≢ none
       new (of-found _ z _ _) = z
       new (of-own _ _ z _ _ _) = z
 
-  own-page-next : Tells p c m → (d : ℕ) → client q d .own ≢ none → page q (client q d .own) ≡ client q d .page
+  own-page-next : MappingCondition p c m → (d : ℕ) → client q d .own ≢ none → page q (client q d .own) ≡ client q d .page
   unfolding pagesAfter
   own-page-next t =
       all-clients p c m (r .shape) (λ _ n. n .own ≢ none → page q (n .own) ≡ n .page) here
-      (λ d _ z. page-next x (client p d .own) z (by-own x (client p d .own) z d refl) ∙ r .outline .own-page d z) (mine (x .own))
+      (λ d _ z. page-next x (client p d .own) z (by-own x (client p d .own) z d refl) ∙ r .mapping .own-page d z) (mine (x .own))
     where
       mine : OwnOk p c m → m .next .own ≢ none → page q (m .next .own) ≡ m .next .page
       mine (forgot e) z = absurd (z e)
       mine (taken _ h _ w) z = page-here p c m (r .shape) (m .next .own) (m .next .page) (rw w refl) h
       mine (kept e _) z =
           let o : k .own ≢ none = λ y. z (e ∙ y) in
-          ap (page q) e ∙ page-next x (k .own) o (by-own x (k .own) o c refl) ∙ r .outline .own-page c o ∙ sym (t .wants o e)
+          ap (page q) e ∙ page-next x (k .own) o (by-own x (k .own) o c refl) ∙ r .mapping .own-page c o ∙ sym (t .wants o e)
 
-  outline-of : Edge p c m → Tells p c m → Outline q
-  outline-of e t =
+  mapping-of : Edge p c m → MappingCondition p c m → Mapping q
+  mapping-of e t =
       record {
         entries-apart = entries-next;
         pages-apart = pages-next;
-        granted = granted-next;
-        grant-named = named-next;
+        grant-mapped = grant-mapped-next;
+        grant-named = grant-named-next;
         knowing = all-clients p c m (r .shape) (λ _ n. Knows (n .stage) q n) here (λ d _. carry x d (client p d .stage) refl)
             (learns p c r e x);
-        resident = resident-next;
-        known = λ f z. known-next f z t;
-        no-found = all-clients p c m (r .shape) (λ _ n. NoFound n) here (λ d _. r .outline .no-found d) (t .no-found);
-        no-victim = all-clients p c m (r .shape) (λ _ n. NoVictim n) here (λ d _. r .outline .no-victim d) (t .no-victim);
+        resident-in-slot = resident-in-slot-next;
+        mapped-or-owned = λ f z. mapped-or-owned-next f z t;
+        no-found = all-clients p c m (r .shape) (λ _ n. NoFound n) here (λ d _. r .mapping .no-found d) (t .no-found);
+        no-victim = all-clients p c m (r .shape) (λ _ n. NoVictim n) here (λ d _. r .mapping .no-victim d) (t .no-victim);
         own-page = own-page-next t;
-        page-true = λ f g z. true-next f z g;
+        mapped-page = λ f g z. mapped-page-next f z g;
       }
 
 -- ---- each kind of move
@@ -256,55 +256,55 @@ module _ (p : Pool) (c : ℕ) (r : Reached p) where
   kn = know p r c
 
   foundless-now : (i : ℕ) → client p c .stage ≡ i → T (foundless i) → me .found ≡ none
-  foundless-now i e t = r .outline .no-found c (rw e t)
+  foundless-now i e t = r .mapping .no-found c (rw e t)
 
   victimless-now : (i : ℕ) → client p c .stage ≡ i → T (victimless i) → me .victim ≡ none
-  victimless-now i e t = r .outline .no-victim c (rw e t)
+  victimless-now i e t = r .mapping .no-victim c (rw e t)
 
   -- the own frame stays
-  stays : {m : Move} → m .next .own ≡ me .own → m .next .page ≡ me .page → NoFound (m .next) → NoVictim (m .next) → Tells p c m
-  stays o g f v = record { no-found = f; no-victim = v; wants = λ _ _. g; own-end = λ _ n. absurd (n o) }
+  keeps-own : {m : Move} → m .next .own ≡ me .own → m .next .page ≡ me .page → NoFound (m .next) → NoVictim (m .next) → MappingCondition p c m
+  keeps-own o g f v = record { no-found = f; no-victim = v; wants = λ _ _. g; own-end = λ _ n. absurd (n o) }
 
   -- the client had none
-  ownless-now : {m : Move} → me .own ≡ none → NoFound (m .next) → NoVictim (m .next) → Tells p c m
-  ownless-now o f v = record { no-found = f; no-victim = v; wants = λ z _. absurd (z o); own-end = λ z _. absurd (z o) }
+  had-no-own : {m : Move} → me .own ≡ none → NoFound (m .next) → NoVictim (m .next) → MappingCondition p c m
+  had-no-own o f v = record { no-found = f; no-victim = v; wants = λ z _. absurd (z o); own-end = λ z _. absurd (z o) }
 
   -- it ends: with an entry, evicted, or as an orphan
-  ends : {m : Move} → m .next .own ≡ none → NoFound (m .next) → NoVictim (m .next)
-      → (me .own ≢ none → (mapped (apply p c m) (me .own) ≢ 0) ⊎ ((pins (apply p c m) (me .own) ≡ evicted) ⊎ Orphan (apply p c m) (me .own))) → Tells p c m
-  ends o f v w = record { no-found = f; no-victim = v; wants = λ z e. absurd (z (sym e ∙ o)); own-end = λ z _. w z }
+  forgets-own : {m : Move} → m .next .own ≡ none → NoFound (m .next) → NoVictim (m .next)
+      → (me .own ≢ none → (mapped (apply p c m) (me .own) ≢ 0) ⊎ ((pins (apply p c m) (me .own) ≡ evicted) ⊎ Orphan (apply p c m) (me .own))) → MappingCondition p c m
+  forgets-own o f v w = record { no-found = f; no-victim = v; wants = λ z e. absurd (z (sym e ∙ o)); own-end = λ z _. w z }
 
-  tells : {m : Move} → Edge p c m → Effect p c m → Tells p c m
+  mapping-condition : {m : Move} → Edge p c m → Effect p c m → MappingCondition p c m
   unfolding pinsAfter
-  tells (on n j w h) x =
-      stays (h .same .own) (h .same .page)
-      (λ t. h .same .found ∙ r .outline .no-found c (imp-mp (foundless j) (foundless (me .stage)) (h .stages .from-foundless) t)) (h .no-victim)
-  tells (found1 e _) x = stays refl refl never (λ _. victimless-now 1 e tt)
-  tells (found18 e _) x = stays refl refl never (λ _. victimless-now 18 e tt)
-  tells (lost2 e _) x = stays refl refl (λ _. refl) (λ _. victimless-now 2 e tt)
-  tells (lost22 e _) x = stays refl refl (λ _. refl) (λ _. victimless-now 22 e tt)
-  tells (pins2 e _) x = stays refl refl never (λ _. victimless-now 2 e tt)
-  tells (pins19 e _) x = stays refl refl never (λ _. victimless-now 19 e tt)
-  tells (gets3 e) x = ownless-now (r .counts .owns-none c (rw e tt)) (λ _. refl) (λ _. refl)
-  tells (gets21 e) x = ownless-now (r .counts .owns-none c (rw e tt)) (λ _. refl) (λ _. refl)
-  tells (takes e _) x = ownless-now (r .counts .owns-none c (rw e tt)) (λ _. foundless-now 4 e tt) (λ _. victimless-now 4 e tt)
-  tells (fills e _) x = stays refl refl (λ _. foundless-now 8 e tt) (λ _. victimless-now 8 e tt)
-  tells (swaps e _) x = stays refl refl (λ _. foundless-now 15 e tt) never
-  tells (gives-up v _) x = ends refl (λ _. refl) (λ _. refl) (λ z. inr (inr (stranded p c r x (v .is-unplaced) z)))
-  tells (drops e _) x = stays refl refl (λ _. foundless-now 14 e tt) never
-  tells (removes e _) x = stays refl refl (λ _. foundless-now 17 e tt) (λ _. refl)
-  tells {m} (admits e _ u) x =
-      ends refl (λ _. refl) (λ _. refl) (λ z. inl (suc-not (own-mapped x _ _ (me .own) refl z refl (unused-found p (r .shape) u .0))))
-  tells {m} (revives e l) x =
-      ends refl (λ _. refl) (λ _. refl)
+  mapping-condition (on n j w h) x =
+      keeps-own (h .same .own) (h .same .page)
+      (λ t. h .same .found ∙ r .mapping .no-found c (imp-mp (foundless j) (foundless (me .stage)) (h .stages .from-foundless) t)) (h .no-victim)
+  mapping-condition (found1 e _) x = keeps-own refl refl never (λ _. victimless-now 1 e tt)
+  mapping-condition (found18 e _) x = keeps-own refl refl never (λ _. victimless-now 18 e tt)
+  mapping-condition (lost2 e _) x = keeps-own refl refl (λ _. refl) (λ _. victimless-now 2 e tt)
+  mapping-condition (lost22 e _) x = keeps-own refl refl (λ _. refl) (λ _. victimless-now 22 e tt)
+  mapping-condition (pins2 e _) x = keeps-own refl refl never (λ _. victimless-now 2 e tt)
+  mapping-condition (pins19 e _) x = keeps-own refl refl never (λ _. victimless-now 19 e tt)
+  mapping-condition (gets3 e) x = had-no-own (r .counts .owns-none c (rw e tt)) (λ _. refl) (λ _. refl)
+  mapping-condition (gets21 e) x = had-no-own (r .counts .owns-none c (rw e tt)) (λ _. refl) (λ _. refl)
+  mapping-condition (takes e _) x = had-no-own (r .counts .owns-none c (rw e tt)) (λ _. foundless-now 4 e tt) (λ _. victimless-now 4 e tt)
+  mapping-condition (fills e _) x = keeps-own refl refl (λ _. foundless-now 8 e tt) (λ _. victimless-now 8 e tt)
+  mapping-condition (swaps e _) x = keeps-own refl refl (λ _. foundless-now 15 e tt) never
+  mapping-condition (gives-up v _) x = forgets-own refl (λ _. refl) (λ _. refl) (λ z. inr (inr (stranded p c r x (v .is-unplaced) z)))
+  mapping-condition (drops e _) x = keeps-own refl refl (λ _. foundless-now 14 e tt) never
+  mapping-condition (removes e _) x = keeps-own refl refl (λ _. foundless-now 17 e tt) (λ _. refl)
+  mapping-condition {m} (admits e _ u) x =
+      forgets-own refl (λ _. refl) (λ _. refl) (λ z. inl (suc-not (own-mapped x _ _ (me .own) refl z refl (unused-found p (r .shape) u .0))))
+  mapping-condition {m} (revives e l) x =
+      forgets-own refl (λ _. refl) (λ _. refl)
       (λ z. inl (suc-not (own-mapped x _ _ (me .own) refl z refl (lookup-found p (r .shape) (me .page) (λ w. kn 22 e .1 .0 (sym l ∙ w)) .place))))
-  tells {m} (evicts20 e) x =
-      ends refl never (λ _. victimless-now 20 e tt) (λ z. inr (inl (pins-here p c m (r .shape) (me .own) evicted refl (r .ranges .own-ok c z))))
-  tells {m} (evicts23 e) x =
-      ends refl (λ _. foundless-now 23 e tt) (λ _. victimless-now 23 e tt)
+  mapping-condition {m} (evicts20 e) x =
+      forgets-own refl never (λ _. victimless-now 20 e tt) (λ z. inr (inl (pins-here p c m (r .shape) (me .own) evicted refl (r .ranges .own-ok c z))))
+  mapping-condition {m} (evicts23 e) x =
+      forgets-own refl (λ _. foundless-now 23 e tt) (λ _. victimless-now 23 e tt)
       (λ z. inr (inl (pins-here p c m (r .shape) (me .own) evicted refl (r .ranges .own-ok c z))))
-  tells (begins g e _) x = ownless-now (r .counts .owns-none c (rw e tt)) (λ _. foundless-now 0 e tt) (λ _. victimless-now 0 e tt)
-  tells (releases g e _) x = stays refl refl (λ _. foundless-now 0 e tt) (λ _. victimless-now 0 e tt)
+  mapping-condition (begins g e _) x = had-no-own (r .counts .owns-none c (rw e tt)) (λ _. foundless-now 0 e tt) (λ _. victimless-now 0 e tt)
+  mapping-condition (releases g e _) x = keeps-own refl refl (λ _. foundless-now 0 e tt) (λ _. victimless-now 0 e tt)
 
-  pub outline-next : {m : Move} → Edge p c m → Effect p c m → Outline (apply p c m)
-  outline-next {m} e x = outline-of x e (tells e x)
+  pub mapping-next : {m : Move} → Edge p c m → Effect p c m → Mapping (apply p c m)
+  mapping-next {m} e x = mapping-of x e (mapping-condition e x)
