@@ -17,7 +17,7 @@ use Rattle.pool.specs.declared.Call.{Call}
 use Rattle.pool.specs.declared.Answer.{Answer}
 use Rattle.invariant.proofs.Reached.{Reached, one}
 use Rattle.invariant.proofs.Sums.{one-is, sum-has}
-use Rattle.invariant.proofs.Facts.{grant-live}
+use Rattle.invariant.proofs.Facts.{grant-pinned}
 use Rattle.invariant.proofs.Grants.{grantsOf}
 use Rattle.invariant.proofs.Calls.{reached-call}
 use Rattle.guarantee.specs.Runs.{happens, events, Throughout}
@@ -84,7 +84,7 @@ not-evicted p x f r h out = v .live (ap (pins (callOf p x .pool)) (v .frame) ∙
     named = r .mapping .grant-named c i (grant .inside)
 
     kept : Keeps (view p) g f
-    kept = rw (grant .names) at (there r mirror named (λ z. omega (arith, grant-live p r c i named)) (r .mapping .grant-mapped c i named))
+    kept = rw (grant .names) at (there r mirror named (λ z. omega (arith, grant-pinned p r c i named)) (r .mapping .grant-mapped c i named))
 
     granted : member g (taker (view p) c .grants) ≡ true
     granted =

@@ -29,7 +29,7 @@ use Rattle.invariant.proofs.Reached.{Reached, one}
 use Rattle.invariant.proofs.After.{pins-in}
 use Rattle.invariant.proofs.Sums.{sum-zero, sum-has}
 use Rattle.invariant.proofs.Searches.{grantOf-found}
-use Rattle.invariant.proofs.Facts.{grant-live}
+use Rattle.invariant.proofs.Facts.{grant-pinned}
 use Rattle.invariant.proofs.Grants.{grantsOf, keeps, ends, grantsOf-keeps, grantsOf-ends}
 use Rattle.invariant.proofs.Valid.{valid-reached}
 use Rattle.invariant.proofs.Allowed.{Allowed, allowed, may-begin, may-step, may-release}
@@ -164,7 +164,7 @@ module _ {p : Pool} {q : Sequential} (r : Reached p) (mirror : Mirrors p q) wher
         found = grantOf-found p c g z
 
         two : pinned 1 ≤ n
-        two = grant-live p r c i (r .mapping .grant-named c i (found .0))
+        two = grant-pinned p r c i (r .mapping .grant-named c i (found .0))
 
         some : times g (t .grants) ≢ 0
         some w = omega (arith, open-grants (mirror .takers c) (rw s refl) g, some-grant c g z)

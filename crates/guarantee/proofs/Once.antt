@@ -18,7 +18,7 @@ use Rattle.pool.specs.declared.Call.{Call}
 use Rattle.pool.specs.declared.Call.the-variants.{Step}
 use Rattle.invariant.proofs.Reached.{Reached}
 use Rattle.invariant.proofs.After.{client-same, all-clients}
-use Rattle.invariant.proofs.Searches.{live-named}
+use Rattle.invariant.proofs.Searches.{pins-named}
 use Rattle.invariant.proofs.Facts.{own-pins}
 use Rattle.invariant.proofs.Edges.{Edge}
 use Rattle.invariant.proofs.Steps.{call-edge}
@@ -145,7 +145,7 @@ taken-between p (x ∷ calls) f r z (suc k) (suc n) l a b =
 -- what is evicted is a frame
 evicts-frame : (p : Pool) (calls : List Call) (f : ℕ) → Reached p → (k : ℕ) → At (Evicts f) (events p calls) k → f ≢ none
 evicts-frame p calls f =
-    at-some (Evicts f) (f ≢ none) (λ p x r e. live-named p (r .shape) f (e .puts-out .0)) p calls
+    at-some (Evicts f) (f ≢ none) (λ p x r e. pins-named p (r .shape) f (e .puts-out .0)) p calls
 
 pub taken-out-once : (p : Pool) (calls : List Call) → Reached p → TakenOutOnce (events p calls)
 taken-out-once p calls r f k m n e a b = go (decLt m n) (decLt n m)

@@ -11,7 +11,7 @@ use Rattle.pool.specs.Table.{lookup, resident}
 use Rattle.pool.specs.declared.Pool.{Pool}
 use Rattle.invariant.proofs.Reached.{Reached, mapped}
 use Rattle.invariant.proofs.Table.{suc-not, lookup-mapped, mapped-lookup}
-use Rattle.invariant.proofs.Searches.{live-named}
+use Rattle.invariant.proofs.Searches.{pins-named}
 use Rattle.guarantee.specs.Sequential.{Sequential, Keeps}
 use Rattle.guarantee.specs.Claims.{SamePages}
 use Rattle.guarantee.proofs.Mirror.{seen, seen-full, Shows, seen-shows, Mirrors}
@@ -35,11 +35,11 @@ module _ {p : Pool} {q : Sequential} (r : Reached p) (mirror : Mirrors p q) wher
       to h =
           let v = shows h in
           let s : ℕ = slot p (h .0) in
-          let e : lookup p g ≡ s = mapped-lookup p (r .shape) (r .mapping .pages-apart) s g (live-named p (r .shape) s (v .live)) (v .entry) .1 in
+          let e : lookup p g ≡ s = mapped-lookup p (r .shape) (r .mapping .pages-apart) s g (pins-named p (r .shape) s (v .live)) (v .entry) .1 in
           (rw (e, ne-eqb (pins p s) evicted (v .live)) refl, e ∙ v .frame)
 
       back : (not (eqb (pins p (lookup p g)) evicted) ≡ true) × (lookup p g ≡ f) → Keeps q g f
       back (h, e) =
           let live : pins p (lookup p g) ≢ evicted = eqb-false _ _ (not-true _ h) in
-          let z = live-named p (r .shape) (lookup p g) live in
+          let z = pins-named p (r .shape) (lookup p g) live in
           rw e at (there z live (lookup-mapped p (r .shape) (r .mapping .entries-apart) g z))

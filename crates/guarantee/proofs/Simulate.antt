@@ -22,19 +22,19 @@ use Rattle.pool.specs.declared.Counted.{Counted}
 use Rattle.pool.specs.declared.Counted.the-variants.{Nothing, Drop}
 use Rattle.pool.specs.declared.GrantChange.the-variants.{Same}
 use Rattle.pool.specs.declared.Write.the-variants.{PutPins, PutEntry}
-use Rattle.invariant.proofs.Reached.{Reached, one, mapped, pinsFound, Seated, Live, Placed, Orphan}
+use Rattle.invariant.proofs.Reached.{Reached, one, mapped, pinsFound, InSlot, FoundMapped, Placed, Orphan}
 use Rattle.invariant.proofs.After.{client-same, client-other, pins-in}
 use Rattle.invariant.proofs.Writes.{silent}
 use Rattle.invariant.proofs.Sums.{sum-zero}
-use Rattle.invariant.proofs.Facts.{own-pins, grant-live}
+use Rattle.invariant.proofs.Facts.{own-pins, grant-pinned}
 use Rattle.invariant.proofs.Grants.{grantsOf, Granting, keeps, opens, grantsOf-other, grantsOf-keeps, grantsOf-opens}
 use Rattle.invariant.proofs.Table.{suc-not, some-suc}
-use Rattle.invariant.proofs.Searches.{live-named}
+use Rattle.invariant.proofs.Searches.{pins-named}
 use Rattle.guarantee.specs.Sequential.{Place, empty, holds, Taker, Sequential, place, resting, taker, member, Absent, Unused, adding, admitting}
 use Rattle.guarantee.specs.Sequential.{answering, StepRule, adds, admits, drops, answers, moves, refuses}
 use Rattle.guarantee.proofs.Mirror.{seen, seen-unmapped, seen-full, not-member, Taken, open-many, open-grants, taken-as, Mirrors}
 use Rattle.guarantee.proofs.Takers.{Outward, outward, working, gotten, denied, Quiet, Stays, Gets, rests, stays, pins-more, answered, admitted}
-use Rattle.guarantee.proofs.Frames.{same-frame, live-found, found-pinned}
+use Rattle.guarantee.proofs.Frames.{same-frame, found-mapped, found-has-pin}
 use Rattle.guarantee.proofs.Pages.{there, shows}
 use Rattle.guarantee.proofs.Weights.{full, kept-set, gained, lost, Weighs}
 use Rattle.guarantee.proofs.Shown.{Kept, Changed, as-was, pins-put, pins-out, entry-new}
@@ -154,7 +154,7 @@ module _ {p : Pool} {c : ℕ} {q : Sequential} (acting : Acting p c q) where
           mirrors = same-places m _ (keeping m j Nothing o) (stays taken (works-on m j Nothing o busy) (rw e (w .pins-alike))) same;
         }
 
-    pub adds-one : (i j : ℕ) → k .stage ≡ i → T (adding i j) → pinsFound i ≡ false → pinsFound j ≡ true → Live p k → pins p (k .found) ≢ evicted
+    pub adds-one : (i j : ℕ) → k .stage ≡ i → T (adding i j) → pinsFound i ≡ false → pinsFound j ≡ true → FoundMapped p k → pins p (k .found) ≢ evicted
         → {m : Move} → outward m ≡ working k j Nothing → m .write ≡ PutPins (k .found) (pins p (k .found) + 1) → Simulates p c q m
     adds-one i j e h pi pj know live {m} o w =
         let n : ℕ = pins p (k .found) in
@@ -170,10 +170,10 @@ module _ {p : Pool} {c : ℕ} {q : Sequential} (acting : Acting p c q) where
               (pins-put p c m r (k .found) (n + 1) w (pins-in p (k .found) live) (inl (ne-eqb (n + 1) 0 (λ z. omega arith) ∙ sym (ne-eqb n 0 live))));
         }
 
-    pub answers-one : (i : ℕ) (u : Counted) → k .stage ≡ i → T (answering i) → pinsFound i ≡ true → gained u ≡ 0 → lost u ≡ 0 → Live p k → k .held < 8
+    pub answers-one : (i : ℕ) (u : Counted) → k .stage ≡ i → T (answering i) → pinsFound i ≡ true → gained u ≡ 0 → lost u ≡ 0 → FoundMapped p k → k .held < 8
         → {m : Move} → outward m ≡ gotten k (k .found) u → T (silent (m .write)) → Simulates p c q m
     answers-one i u e h pi no-gain no-loss know room {m} o s =
-        let live : pins p (k .found) ≢ evicted = λ z. omega (arith, found-pinned p r c (rw e pi)) in
+        let live : pins p (k .found) ≢ evicted = λ z. omega (arith, found-has-pin p r c (rw e pi)) in
         record {
           places = q .places;
           next = resting (t .grants);
@@ -220,7 +220,7 @@ module _ {p : Pool} {c : ℕ} {q : Sequential} (acting : Acting p c q) where
         absent : Absent q (t .wants)
         absent f at =
             let v = shows r mirror at in
-            v .live (gone (slot p (at .0)) (live-named p (r .shape) _ (v .live)) (v .entry ∙ ap suc (taken .wants busy)))
+            v .live (gone (slot p (at .0)) (pins-named p (r .shape) _ (v .live)) (v .entry ∙ ap suc (taken .wants busy)))
 
         unused : Unused q (k .own)
         unused g at = let v = shows r mirror at in suc-not (v .entry) (ap (mapped p) (v .frame) ∙ unmapped)
@@ -262,16 +262,16 @@ module _ {p : Pool} {c : ℕ} {q : Sequential} (acting : Acting p c q) where
         no-grant : (i : ℕ) → i < client p d .held → grantPage p d i ≢ g
         no-grant i h w =
             let n = r .mapping .grant-named d i h in
-            only (grantFrame p d i) n (grant-live p r d i n) (r .mapping .grant-mapped d i n ∙ ap suc w)
+            only (grantFrame p d i) n (grant-pinned p r d i n) (r .mapping .grant-mapped d i n ∙ ap suc w)
 
         wanted : (b : Bool) → pinsFound (client p d .stage) ≡ b → one (b && eqb (client p d .page) g) ≡ 0
         wanted false _ = refl
         wanted true s =
-            let two = found-pinned p r d s in
-            let know = live-found p r d s in
+            let two = found-has-pin p r d s in
+            let know = found-mapped p r d s in
             ap one (ne-eqb _ _ (λ w. only (client p d .found) (know .0) two (know .1 (λ x. omega arith) ∙ ap suc w)))
 
-    pub drops-one : k .stage ≡ 14 → k .victim ≢ none → pins p (k .victim) ≡ pinned 0 → Seated p (k .victim)
+    pub drops-one : k .stage ≡ 14 → k .victim ≢ none → pins p (k .victim) ≡ pinned 0 → InSlot p (k .victim)
         → {m : Move} → outward m ≡ working k 15 Drop → m .write ≡ PutPins (k .victim) evicted → Simulates p c q m
     drops-one e z unpinned seat {m} o w = by-known (r .mapping .mapped-or-owned f z live)
       where

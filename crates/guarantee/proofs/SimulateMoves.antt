@@ -36,8 +36,8 @@ module _ {p : Pool} {c : ℕ} {q : Sequential} (acting : Acting p c q) (busy : c
   r : Reached p
   r = acting .reached
 
-  kn : (i : ℕ) → k .stage ≡ i → Knows i p k
-  kn = know p r c
+  known : (i : ℕ) → k .stage ≡ i → Knows i p k
+  known = know p r c
 
   room : k .held < 8
   room = omega (arith, r .ranges .working-held c busy)
@@ -58,36 +58,36 @@ module _ {p : Pool} {c : ℕ} {q : Sequential} (acting : Acting p c q) (busy : c
   simulated {m} (found18 e _) = passes 18 19 e refl tt (as-was p c m r tt)
   simulated {m} (lost2 e _) = passes 2 4 e refl tt (as-was p c m r tt)
   simulated {m} (lost22 e _) = passes 22 23 e refl tt (as-was p c m r tt)
-  simulated (pins2 e l) = adds-one acting busy 2 3 e tt refl refl (kn 2 e) l refl refl
-  simulated (pins19 e l) = adds-one acting busy 19 20 e tt refl refl (kn 19 e .1) l refl refl
-  simulated (gets3 e) = answers-one acting busy 3 Hit e tt refl refl refl (kn 3 e) room refl tt
-  simulated (gets21 e) = answers-one acting busy 21 Join e tt refl refl refl (kn 21 e) room refl tt
+  simulated (pins2 e l) = adds-one acting busy 2 3 e tt refl refl (known 2 e) l refl refl
+  simulated (pins19 e l) = adds-one acting busy 19 20 e tt refl refl (known 19 e .1) l refl refl
+  simulated (gets3 e) = answers-one acting busy 3 Hit e tt refl refl refl (known 3 e) room refl tt
+  simulated (gets21 e) = answers-one acting busy 21 Join e tt refl refl refl (known 21 e) room refl tt
   simulated (takes e z) =
       passes 4 5 e refl tt
       (taken-frame p c _ r (freeFrame p) (k .page) (pinned 1) 1 refl (fresh-means p (freeFrame p) z (free-found p (r .shape) z .1) .no-slot))
   simulated (fills e s) =
       passes 8 9 e refl tt
-      (slot-put p c _ r (k .place) (k .own) refl (r .ranges .place-ok c) (r .private .own-unmapped c (kn 8 e)) (ap (pins p) s ∙ none-evicted p (r .shape)))
+      (slot-put p c _ r (k .place) (k .own) refl (r .ranges .place-ok c) (r .private .own-unmapped c (known 8 e)) (ap (pins p) s ∙ none-evicted p (r .shape)))
   simulated (swaps e s) =
       passes 15 16 e refl tt
-      (slot-put p c _ r (k .place) (k .own) refl (r .ranges .place-ok c) (r .private .own-unmapped c (kn 15 e .0)) (ap (pins p) s ∙ kn 15 e .1 .1))
+      (slot-put p c _ r (k .place) (k .own) refl (r .ranges .place-ok c) (r .private .own-unmapped c (known 15 e .0)) (ap (pins p) s ∙ known 15 e .1 .1))
   simulated (gives-up v _) = refuses-one acting busy (k .stage) refl (v .no-pin) refl tt
-  simulated (drops e h) = drops-one acting busy e (kn 14 e .1 .0) h (kn 14 e .1 .1 (λ z. omega arith)) refl refl
+  simulated (drops e h) = drops-one acting busy e (known 14 e .1 .0) h (known 14 e .1 .1 (λ z. omega arith)) refl refl
   simulated (removes e h) =
       let g : ℕ = page p (k .victim) in
-      let f = lookup-found p (r .shape) g (λ z. kn 17 e .1 .0 (sym h ∙ z)) in
-      passes 17 18 e refl tt (entry-gone p c _ r (entryOf p g) g none refl (f .place) (ap (pins p) (f .entry-frame ∙ h) ∙ kn 17 e .1 .1) refl)
+      let f = lookup-found p (r .shape) g (λ z. known 17 e .1 .0 (sym h ∙ z)) in
+      passes 17 18 e refl tt (entry-gone p c _ r (entryOf p g) g none refl (f .place) (ap (pins p) (f .entry-frame ∙ h) ∙ known 17 e .1 .1) refl)
   simulated (admits e l u) =
       let free = unused-found p (r .shape) u in
-      admits-one acting busy 18 Admitted e tt refl refl refl (kn 18 e) room
+      admits-one acting busy 18 Admitted e tt refl refl refl (known 18 e) room
       (λ f z n. absurd (z (sym (mapped-lookup p (r .shape) (r .mapping .pages-apart) f (k .page) z n .1) ∙ l)))
       (unusedEntry p) (free .0) (ap (pins p) (free .1) ∙ none-evicted p (r .shape)) refl refl
   simulated (revives e l) =
-      let f = lookup-found p (r .shape) (k .page) (λ z. kn 22 e .1 .0 (sym l ∙ z)) in
-      admits-one acting busy 22 Revived e tt refl refl refl (kn 22 e .0) room
-      (λ f z n. ap (pins p) (sym (mapped-lookup p (r .shape) (r .mapping .pages-apart) f (k .page) z n .1) ∙ l) ∙ kn 22 e .1 .1)
-      (entryOf p (k .page)) (f .place) (ap (pins p) (f .entry-frame ∙ l) ∙ kn 22 e .1 .1) refl refl
-  simulated (evicts20 e) = evicts 20 21 e tt (kn 20 e .0 .0)
-  simulated (evicts23 e) = evicts 23 4 e tt (kn 23 e .0)
+      let f = lookup-found p (r .shape) (k .page) (λ z. known 22 e .1 .0 (sym l ∙ z)) in
+      admits-one acting busy 22 Revived e tt refl refl refl (known 22 e .0) room
+      (λ f z n. ap (pins p) (sym (mapped-lookup p (r .shape) (r .mapping .pages-apart) f (k .page) z n .1) ∙ l) ∙ known 22 e .1 .1)
+      (entryOf p (k .page)) (f .place) (ap (pins p) (f .entry-frame ∙ l) ∙ known 22 e .1 .1) refl refl
+  simulated (evicts20 e) = evicts 20 21 e tt (known 20 e .0 .0)
+  simulated (evicts23 e) = evicts 23 4 e tt (known 23 e .0)
   simulated (begins _ e _) = absurd (busy e)
   simulated (releases _ e _) = absurd (busy e)

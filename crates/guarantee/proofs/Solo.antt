@@ -26,10 +26,10 @@ use Rattle.pool.specs.declared.Call.the-variants.{Begin, Step}
 use Rattle.pool.specs.declared.Answer.the-variants.{Done, Granted}
 use Rattle.pool.specs.declared.Write.the-variants.{Keep}
 use Rattle.laws.specs.Choices.{by-test}
-use Rattle.invariant.proofs.Reached.{one, sumTo, filling, Leaves, Shape, Reached}
+use Rattle.invariant.proofs.Reached.{one, sumTo, filling, WillUnmap, Shape, Reached}
 use Rattle.invariant.proofs.After.{pins-kept, slot-kept}
 use Rattle.invariant.proofs.Writes.{keepsTable, lookup-kept}
-use Rattle.invariant.proofs.Searches.{live-named}
+use Rattle.invariant.proofs.Searches.{pins-named}
 use Rattle.invariant.proofs.Table.{suc-not, lookup-mapped}
 use Rattle.invariant.proofs.Sums.{sum-zero, sum-has, some-one}
 use Rattle.invariant.proofs.Calls.{reached-calls}
@@ -212,7 +212,7 @@ module _ (p : Pool) (r : Reached p) (rest : (c : ℕ) → client p c .stage ≡ 
   pub found-not-evicted : (g : ℕ) → lookup p g ≢ none → pins p (lookup p g) ≢ evicted
   found-not-evicted g z d = go (r .evictions .evicted-mapped (lookup p g) z (suc-not (lookup-mapped p (r .shape) (r .mapping .entries-apart) g z)) d)
     where
-      go : (c : ℕ) × Leaves p (client p c) (lookup p g) → ⊥
+      go : (c : ℕ) × WillUnmap p (client p c) (lookup p g) → ⊥
       go (c, (_, inl h)) = rw (rest c) at h
       go (c, (_, inr h)) = let q : _≡_ {A = ℕ} 0 15 = sym (rest c) ∙ h .0 in omega arith
 
@@ -221,7 +221,7 @@ module _ (p : Pool) (r : Reached p) (rest : (c : ℕ) → client p c .stage ≡ 
   unfolding resident
   resident-found g e =
       let live = eqb-false _ evicted (not-true _ e) in
-      (live-named p (r .shape) _ live, live)
+      (pins-named p (r .shape) _ live, live)
 
   absent-found : (g : ℕ) → resident p g ≡ false → lookup p g ≡ none
   unfolding resident

@@ -22,7 +22,7 @@ use Rattle.laws.specs.Choices.{by-test, chosen, passed}
 use Rattle.invariant.proofs.Reached.{Reached, Apart, one, sumTo, mapped}
 use Rattle.invariant.proofs.After.{few-frames, slot-in, pins-in, entry-in}
 use Rattle.invariant.proofs.Sums.{sum-same}
-use Rattle.invariant.proofs.Searches.{live-named}
+use Rattle.invariant.proofs.Searches.{pins-named}
 use Rattle.invariant.proofs.Table.{mapped-entry, mapped-is}
 use Rattle.invariant.proofs.Calls.{reached-call}
 use Rattle.invariant.proofs.Pigeon.{below, equal, below-all, equal-has, equal-none, equal-least}
@@ -113,11 +113,11 @@ residents-kept p q r mirror =
     in-entry : (f : ℕ) → P f ≡ true → (i : ℕ) × (i < total p) × (entryFrame p i ≡ f)
     in-entry f h =
         let e = mapped-entry p f (entered f h) in
-        (e .0, entry-in p (e .0) (λ z. live-named p (r .shape) f (live f h) (sym (e .1) ∙ z)), e .1)
+        (e .0, entry-in p (e .0) (λ z. pins-named p (r .shape) f (live f h) (sym (e .1) ∙ z)), e .1)
 
     in-slot : (f : ℕ) → P f ≡ true → (i : ℕ) × (i < p .size) × (slot p i ≡ f)
     in-slot f h =
-        let z = live-named p (r .shape) f (live f h) in
+        let z = pins-named p (r .shape) f (live f h) in
         let s = r .mapping .resident-in-slot f z (live f h) (entered f h) in
         (s .0, slot-in p (s .0) (λ w. z (sym (s .1) ∙ w)), s .1)
 
@@ -126,7 +126,7 @@ residents-kept p q r mirror =
     entry-full i true e = ap full (sym (seen-evicted p (entryFrame p i) (eqb-true _ _ e)))
     entry-full i false e =
         let l : pins p (entryFrame p i) ≢ evicted = eqb-false _ _ e in
-        ap full (sym (seen-full p (entryFrame p i) l (mapped-is p (entryFrame p i) (r .mapping .entries-apart) (live-named p (r .shape) _ l) i refl)))
+        ap full (sym (seen-full p (entryFrame p i) l (mapped-is p (entryFrame p i) (r .mapping .entries-apart) (pins-named p (r .shape) _ l) i refl)))
 
     shown : kept (q .places) ≡ sumTo (λ i. one (P (slot p i))) (p .size)
     shown = kept-sum (q .places) ∙ (ap (sumTo (λ i. full (place q i))) (mirror .size) ∙ sum-same _ _ (p .size) (λ i _. ap full (mirror .places i)))

@@ -25,7 +25,7 @@ use Rattle.invariant.proofs.Searches.{Fresh, fresh-means, free-found, g
 use Rattle.invariant.proofs.Table.{mapped-kept}
 use Rattle.invariant.proofs.Grants.{grantsOn-none, grantsOn-other, grantsOn-keeps, grantsOn-opens, grantsOn-ends}
 use Rattle.invariant.proofs.Never.{know}
-use Rattle.invariant.proofs.Facts.{none-own, foreign-claims, orphan-claims, own-pins, grant-live}
+use Rattle.invariant.proofs.Facts.{none-own, foreign-claims, orphan-claims, own-pins, grant-pinned}
 use Rattle.invariant.proofs.Flags.{T-false, never, differ, imp-mp}
 use Rattle.invariant.proofs.Edges.{Edge, on, found1, found18, lost2, lost22, pins2, pins19, gets3, gets21, takes, fills, swaps, gives-up, drops}
 use Rattle.invariant.proofs.Edges.{removes, admits, revives, evicts20, evicts23, begins, releases}
@@ -175,8 +175,8 @@ module _ (p : Pool) (c : ℕ) (r : Reached p) where
   abbrev me : Client
   me = client p c
 
-  kn : (i : ℕ) → client p c .stage ≡ i → Knows i p me
-  kn = know p r c
+  known : (i : ℕ) → client p c .stage ≡ i → Knows i p me
+  known = know p r c
 
   -- what the client claims by its found frame, at stage i
   by-found : (i f : ℕ) → client p c .stage ≡ i → one (pinsFound (me .stage) && eqb (me .found) f) ≡ one (pinsFound i && eqb (me .found) f)
@@ -261,8 +261,8 @@ module _ (p : Pool) (c : ℕ) (r : Reached p) where
   tallies (found18 e _) x = still x never refl refl refl (λ f. rw e refl)
   tallies (lost2 e _) x = still x (λ _. r .counts .owns-none c (rw e tt)) refl refl refl (λ f. rw e refl)
   tallies (lost22 e _) x = still x never refl refl refl (λ f. rw e refl)
-  tallies (pins2 e l) x = pins-found x 2 e tt refl (λ _. r .counts .owns-none c (rw e tt)) refl refl refl refl refl (kn 2 e .0) l
-  tallies (pins19 e l) x = pins-found x 19 e tt refl never refl refl refl refl refl (kn 19 e .1 .0) l
+  tallies (pins2 e l) x = pins-found x 2 e tt refl (λ _. r .counts .owns-none c (rw e tt)) refl refl refl refl refl (known 2 e .0) l
+  tallies (pins19 e l) x = pins-found x 19 e tt refl never refl refl refl refl refl (known 19 e .1 .0) l
   tallies (gets3 e) x =
       becomes x 3 (me .found) e tt refl refl refl refl refl (λ f z. omega (arith, by-found 3 f e, by-none f z (rw e tt)))
   tallies (gets21 e) x =
@@ -293,14 +293,14 @@ module _ (p : Pool) (c : ℕ) (r : Reached p) where
           idle (pins-kept p c m refl f)
           (omega (arith, claims-kept x refl refl f, none-own f z, one-not _ _ h, ap (λ (b : Bool). one (b && eqb (me .found) f)) (v .no-pin)))
   tallies {m} (drops e h) x =
-      touch x (me .victim) evicted never refl (r .ranges .victim-ok c (kn 14 e .1 .0))
+      touch x (me .victim) evicted never refl (r .ranges .victim-ok c (known 14 e .1 .0))
       (λ _. evict (λ n. let y : ⊥ = omega arith in y) refl (omega (arith, claims-kept x refl refl (me .victim), by-found 14 (me .victim) e)))
       (λ f _ _. omega (arith, claims-kept x refl refl f, by-found 14 f e))
   tallies (removes e _) x = still x never refl refl refl (λ f. rw e refl)
   tallies (admits e _ _) x = becomes x 18 (me .own) e tt refl refl refl refl refl (λ f _. omega (arith, by-found 18 f e))
   tallies (revives e _) x = becomes x 22 (me .own) e tt refl refl refl refl refl (λ f _. omega (arith, by-found 22 f e))
-  tallies (evicts20 e) x = evicts x 21 refl refl refl refl (rw e refl) refl (kn 20 e .0 .0)
-  tallies (evicts23 e) x = evicts x 4 refl refl refl refl (rw e refl) refl (kn 23 e .0)
+  tallies (evicts20 e) x = evicts x 21 refl refl refl refl (rw e refl) refl (known 20 e .0 .0)
+  tallies (evicts23 e) x = evicts x 4 refl refl refl refl (rw e refl) refl (known 23 e .0)
   tallies (begins g e _) x = still x (λ _. r .counts .owns-none c (rw e tt)) refl refl refl (λ f. rw e refl)
   tallies {m} (releases g e z) x =
       touch x gf (pins p gf - 1) (λ t. r .counts .owns-none c t) refl (r .ranges .grant-ok c i named)
@@ -318,7 +318,7 @@ module _ (p : Pool) (c : ℕ) (r : Reached p) where
       named = r .mapping .grant-named c i (grantOf-found p c g z .0)
 
       two : pinned 1 ≤ pins p gf
-      two = grant-live p r c i named
+      two = grant-pinned p r c i named
 
       less : (f : ℕ) → claims (apply p c m) c f + one (eqb gf f) ≡ claims p c f
       less f =

@@ -22,7 +22,7 @@ use Rattle.pool.specs.declared.Counted.the-variants.{Hit, Join, Admitted, Reviv
 use Rattle.pool.specs.declared.GrantChange.the-variants.{Open, End}
 use Rattle.pool.specs.declared.Write.{Write}
 use Rattle.pool.specs.declared.Write.the-variants.{Keep, PutSlot, PutPins, PutCount, TakeFrame, PutEntry, PutHand, PutFree}
-use Rattle.invariant.proofs.Reached.{one, mapped, victimless, filling, hunting, Knows, Leaves}
+use Rattle.invariant.proofs.Reached.{one, mapped, victimless, filling, examining, Knows, WillUnmap}
 use Rattle.invariant.proofs.Flags.{Onward, Visits}
 
 -- a write that the slots, the frames' pages and pins, and the table do not see
@@ -38,9 +38,9 @@ pub record Alike (k n : Client) : Type 0 where
   pub found : n .found ≡ k .found
   pub held : n .held ≡ k .held
 
--- a hunting client n that was k hunts the frame that it hunted at that place, or the one that stands at its place now
-abbrev pub Hunts : Pool → Client → Client → Type 0
-Hunts p k n = ((n .victim ≡ k .victim) × (n .place ≡ k .place) × T (hunting (k .stage))) ⊎ (n .victim ≡ slot p (n .place))
+-- a client n that was k and examines a victim: the frame that it examined at that place, or the one that stands at its place now
+abbrev pub Examines : Pool → Client → Client → Type 0
+Examines p k n = ((n .victim ≡ k .victim) × (n .place ≡ k .place) × T (examining (k .stage))) ⊎ (n .victim ≡ slot p (n .place))
 
 -- client k goes on to stage j as n
 pub record Passes (p : Pool) (k n : Client) (j : ℕ) (w : Write) : Type 0 where
@@ -54,8 +54,8 @@ pub record Passes (p : Pool) (k n : Client) (j : ℕ) (w : Write) : Type 0 where
   pub knows : Knows j p (standing n j)
   pub no-victim : T (victimless j) → n .victim ≡ none
   pub six-seen : j ≡ 6 → n .seen ≢ 0
-  pub hunts : T (hunting j) → Hunts p k n
-  pub leaves : (f : ℕ) → f ≢ none → mapped p f ≢ 0 → Leaves p k f → Leaves p (standing n j) f
+  pub examines : T (examining j) → Examines p k n
+  pub will-unmap : (f : ℕ) → f ≢ none → mapped p f ≢ 0 → WillUnmap p k f → WillUnmap p (standing n j) f
   pub fills : p .free + one (filling (k .stage)) ≡ freeAfter (p .free) w + one (filling j)
 
 -- client k, which is to rest, is granted frame f

@@ -25,13 +25,13 @@ use Rattle.pool.specs.declared.Write.{Write}
 use Rattle.pool.specs.declared.Write.the-variants.{PutSlot, PutPins, PutCount, TakeFrame, PutEntry}
 use Rattle.invariant.proofs.After.{SlotsStay, PinsStay, PinsPut, PagesStay, PagesPut, CountsStay, CountsPut, EntryPagesStay, EntryFramesStay}
 use Rattle.invariant.proofs.Writes.{silent, Untouched, untouched}
-use Rattle.invariant.proofs.Reached.{Reached, mapped, Seated, Knows, unplaced, pinsFound, leaving}
+use Rattle.invariant.proofs.Reached.{Reached, mapped, InSlot, Knows, unplaced, pinsFound, unmapping}
 use Rattle.invariant.proofs.Searches.{lookup-found, lookup-none, unused-found, grantOf-found, free-found}
 use Rattle.invariant.proofs.Table.{suc-not, lookup-mapped}
 use Rattle.invariant.proofs.Grants.{Granting, keeps, opens, ends}
 use Rattle.invariant.proofs.Never.{know}
 use Rattle.invariant.proofs.Flags.{differ, imp}
-use Rattle.invariant.proofs.Facts.{raised-ok, grant-live, found-live, one-more}
+use Rattle.invariant.proofs.Facts.{raised-ok, grant-pinned, found-pinned, one-more}
 use Rattle.invariant.proofs.Edges.{Quiet, keep, hand, counts, free, Edge, on, grants, found1, found18, lost2, lost22, pins2, pins19, gets3, gets21}
 use Rattle.invariant.proofs.Edges.{takes, fills, swaps, gives-up, drops, removes, admits, revives, evicts20, evicts23, begins, releases}
 
@@ -62,7 +62,7 @@ module _ (p : Pool) (c : ℕ) (m : Move) where
 
   -- the slot at i is empty, or the client takes its evicted victim out of it
   abbrev pub Vacant : ℕ → Type 0
-  Vacant i = (slot p i ≡ none) ⊎ ((slot p i ≡ k .victim) × (pins p (k .victim) ≡ evicted) × T (leaving (m .next .stage)) × (m .next .victim ≡ k .victim))
+  Vacant i = (slot p i ≡ none) ⊎ ((slot p i ≡ k .victim) × (pins p (k .victim) ≡ evicted) × T (unmapping (m .next .stage)) × (m .next .victim ≡ k .victim))
 
   -- the own frame is put into a slot
   pub data SlotOk : Type 0 where
@@ -96,7 +96,7 @@ module _ (p : Pool) (c : ℕ) (m : Move) where
   -- a page is mapped to the own frame, at a place that is unused or whose frame is evicted; or the evicted victim's entry is removed
   pub data EntryOk : Type 0 where
     entries-stay : EntryPagesStay p (m .write) → EntryFramesStay p (m .write) → EntryOk
-    maps : (i : ℕ) → m .write ≡ PutEntry i (k .page) (k .own) → i < total p → k .own ≢ none → m .next .own ≡ none → Seated p (k .own)
+    maps : (i : ℕ) → m .write ≡ PutEntry i (k .page) (k .own) → i < total p → k .own ≢ none → m .next .own ≡ none → InSlot p (k .own)
         → (entryFrame p i ≡ none) ⊎ (pins p (entryFrame p i) ≡ evicted) → ((j : ℕ) → j ≢ i → entryFrame p j ≢ none → entryPage p j ≢ k .page) → EntryOk
     unmaps : (i g : ℕ) → m .write ≡ PutEntry i g none → i < total p → entryFrame p i ≡ k .victim → pins p (k .victim) ≡ evicted → EntryOk
 
@@ -142,8 +142,8 @@ module _ (p : Pool) (c : ℕ) (here : c < clientCount p) (r : Reached p) where
   abbrev me : Client
   me = client p c
 
-  kn : (i : ℕ) → client p c .stage ≡ i → Knows i p me
-  kn = know p r c
+  known : (i : ℕ) → client p c .stage ≡ i → Knows i p me
+  known = know p r c
 
   -- free, the last frame taken and the counts are not written
   unwritten : {w : Write} → freeAfter (p .free) w ≡ p .free → lastAfter (p .last) w ≡ p .last → CountsStay p w → Written p w
@@ -260,7 +260,7 @@ module _ (p : Pool) (c : ℕ) (here : c < clientCount p) (r : Reached p) where
       → Effect p c (grants me (me .found) (PutCount (me .found) (raised (p .cap) (count p (me .found)))) u)
   unfolding slotsAfter pinsAfter entryPagesAfter entryFramesAfter pagesAfter freeAfter lastAfter countsAfter refusalOf
   gets-found i u e w t z live =
-      let two = found-live p r c (rw e t) z in
+      let two = found-pinned p r c (rw e t) z in
       record {
         here = here;
         reached = r;
@@ -298,10 +298,10 @@ module _ (p : Pool) (c : ℕ) (here : c < clientCount p) (r : Reached p) where
   effect (found18 e z) = let l = looking (me .page) z in quietly tt keep (kept refl tt) (looked (l .0) (l .1)) refl refl
   effect (lost2 e d) = quietly tt keep (kept refl tt) (lost refl) refl refl
   effect (lost22 e _) = quietly tt keep (kept refl tt) (lost refl) refl refl
-  effect (pins2 e l) = pins-found 2 3 e tt tt tt (kn 2 e .0) l
-  effect (pins19 e l) = pins-found 19 20 e tt tt tt (kn 19 e .1 .0) l
-  effect (gets3 e) = gets-found 3 Hit e tt tt (kn 3 e .0) (kn 3 e .1)
-  effect (gets21 e) = gets-found 21 Join e tt tt (kn 21 e .0) (kn 21 e .1)
+  effect (pins2 e l) = pins-found 2 3 e tt tt tt (known 2 e .0) l
+  effect (pins19 e l) = pins-found 19 20 e tt tt tt (known 19 e .1 .0) l
+  effect (gets3 e) = gets-found 3 Hit e tt tt (known 3 e .0) (known 3 e .1)
+  effect (gets21 e) = gets-found 21 Join e tt tt (known 21 e .0) (known 21 e .1)
   effect (takes e z) =
       let f = free-found p (r .shape) z in
       record {
@@ -318,37 +318,37 @@ module _ (p : Pool) (c : ℕ) (here : c < clientCount p) (r : Reached p) where
         written = record { free-ok = r .ranges .free-ok; last-ok = inr (f .0); count-ok = counts-put _ 1 refl (r .shape .cap-low) };
         sound = tt;
       }
-  effect (fills e s) = placing tt (me .place) refl (puts (me .place) refl (r .ranges .place-ok c) (rw e tt) tt (kn 8 e) (inl s)) (kept refl tt) refl refl refl
+  effect (fills e s) = placing tt (me .place) refl (puts (me .place) refl (r .ranges .place-ok c) (rw e tt) tt (known 8 e) (inl s)) (kept refl tt) refl refl refl
   effect (swaps e s) =
-      placing tt (me .place) refl (puts (me .place) refl (r .ranges .place-ok c) (rw e tt) tt (kn 15 e .0) (inr (s, kn 15 e .1 .1, tt, refl)))
+      placing tt (me .place) refl (puts (me .place) refl (r .ranges .place-ok c) (rw e tt) tt (known 15 e .0) (inr (s, known 15 e .1 .1, tt, refl)))
       (kept refl tt) refl refl refl
   effect (gives-up v _) = quietly tt keep (forgot refl) (lost refl) refl refl
   effect (drops e h) =
-      let z = kn 14 e .1 .0 in
+      let z = known 14 e .1 .0 in
       pinning tt (me .victim) evicted refl (r .ranges .victim-ok c z) (drops-victim refl h refl e refl refl refl) (kept refl (rw e tt)) refl
       (keeps refl refl) (λ _ _ x. no-open x)
   effect (removes e h) =
-      let z = kn 17 e .1 .0 in
+      let z = known 17 e .1 .0 in
       let f = lookup-found p (r .shape) (page p (me .victim)) (λ w. z (sym h ∙ w)) in
-      entering tt _ _ none refl (unmaps _ _ refl (f .place) (f .entry-frame ∙ h) (kn 17 e .1 .1)) (kept refl tt) (found-stays refl) (keeps refl refl)
+      entering tt _ _ none refl (unmaps _ _ refl (f .place) (f .entry-frame ∙ h) (known 17 e .1 .1)) (kept refl tt) (found-stays refl) (keeps refl refl)
       (λ _ _ x. no-open x)
   effect (admits e l u) =
       let f = unused-found p (r .shape) u in
-      gets-own 18 _ Admitted e tt (f .0) (kn 18 e .0)
-      (maps _ refl (f .0) (kn 18 e .0) refl (kn 18 e .1) (inl (f .1)) (λ j _ z. lookup-none p (r .shape) (me .page) l j z))
+      gets-own 18 _ Admitted e tt (f .0) (known 18 e .0)
+      (maps _ refl (f .0) (known 18 e .0) refl (known 18 e .1) (inl (f .1)) (λ j _ z. lookup-none p (r .shape) (me .page) l j z))
   effect (revives e l) =
-      let z = kn 22 e .1 .0 in
+      let z = known 22 e .1 .0 in
       let f = lookup-found p (r .shape) (me .page) (λ w. z (sym l ∙ w)) in
       let n : entryFrame p (entryOf p (me .page)) ≡ me .found = f .entry-frame ∙ l in
-      gets-own 22 _ Revived e tt (f .place) (kn 22 e .0 .0)
-      (maps _ refl (f .place) (kn 22 e .0 .0) refl (kn 22 e .0 .1) (inr (ap (pins p) n ∙ kn 22 e .1 .1))
+      gets-own 22 _ Revived e tt (f .place) (known 22 e .0 .0)
+      (maps _ refl (f .place) (known 22 e .0 .0) refl (known 22 e .0 .1) (inr (ap (pins p) n ∙ known 22 e .1 .1))
       (λ j q y w. q (r .mapping .pages-apart j (entryOf p (me .page)) y (λ x. z (sym n ∙ x)) (w ∙ sym (f .entry-page)))))
-  effect (evicts20 e) = evicts-own 21 (kn 20 e .0 .0)
-  effect (evicts23 e) = evicts-own 4 (kn 23 e .0)
+  effect (evicts20 e) = evicts-own 21 (known 20 e .0 .0)
+  effect (evicts23 e) = evicts-own 4 (known 23 e .0)
   effect (begins g e h) = quietly tt keep (kept refl tt) (found-stays refl) refl refl
   effect (releases g e z) =
       let i : ℕ = grantOf p c g in
       let h = grantOf-found p c g z .0 in
       let n = r .mapping .grant-named c i h in
-      pinning tt _ _ refl (r .ranges .grant-ok c i n) (lowers (grant-live p r c i n) refl) (kept refl (rw e tt)) refl (ends i refl refl h)
+      pinning tt _ _ refl (r .ranges .grant-ok c i n) (lowers (grant-pinned p r c i n) refl) (kept refl (rw e tt)) refl (ends i refl refl h)
       (λ _ _ x. ends-no-open x)

@@ -14,9 +14,9 @@ use Rattle.pool.specs.Stages.{raised}
 use Rattle.pool.specs.declared.Pool.{Pool}
 use Rattle.pool.specs.declared.Client.{Client}
 use Rattle.laws.specs.Choices.{by-test}
-use Rattle.invariant.proofs.Reached.{one, mapped, Seated, grantsOn, claims, claimed, pinsFound, unplaced, hunting, Orphan, Balance, gone, held, orphan}
+use Rattle.invariant.proofs.Reached.{one, mapped, InSlot, grantsOn, claims, claimed, pinsFound, unplaced, examining, Orphan, Balance, gone, held, orphan}
 use Rattle.invariant.proofs.Reached.{Reached}
-use Rattle.invariant.proofs.Flags.{T-true, T-false, and-false, hunt-cases}
+use Rattle.invariant.proofs.Flags.{T-true, T-false, and-false, examining-cases}
 use Rattle.invariant.proofs.After.{client-here}
 use Rattle.invariant.proofs.Sums.{one-is, one-not, one-least, sum-zero, sum-one, sum-has, sum-gap, sum-least}
 use Rattle.invariant.proofs.Searches.{grantFrame-past, grant-in}
@@ -84,13 +84,13 @@ module _ (p : Pool) (r : Reached p) where
         go (orphan o) = absurd (o .unowned c refl)
 
     -- so it is not evicted
-    pub own-live : pins p (client p c .own) ≢ evicted
-    own-live e = let y : ⊥ = omega (arith, own-pins) in y
+    pub own-not-evicted : pins p (client p c .own) ≢ evicted
+    own-not-evicted e = let y : ⊥ = omega (arith, own-pins) in y
 
   -- a claimed frame is pinned
-  claimed-live : (c f : ℕ) → f ≢ none → 1 ≤ claims p c f → pinned 1 ≤ pins p f
+  claimed-pinned : (c f : ℕ) → f ≢ none → 1 ≤ claims p c f → pinned 1 ≤ pins p f
   unfolding claimed
-  claimed-live c f z h = go (r .counts .balance f z)
+  claimed-pinned c f z h = go (r .counts .balance f z)
     where
       here : c < clientCount p
       here = client-here p (λ k. client p c ≡ k) c refl (λ e. let y : ⊥ = omega (arith, rest-claims p c f z e) in y)
@@ -104,12 +104,12 @@ module _ (p : Pool) (r : Reached p) where
       go (orphan o) = omega (arith, all, orphan-claims p f o)
 
   -- so a held frame is, and the found frame where it is pinned for its client
-  pub grant-live : (c i : ℕ) → grantFrame p c i ≢ none → pinned 1 ≤ pins p (grantFrame p c i)
-  grant-live c i z = claimed-live c (grantFrame p c i) z (omega (arith, grant-claims p c i z))
+  pub grant-pinned : (c i : ℕ) → grantFrame p c i ≢ none → pinned 1 ≤ pins p (grantFrame p c i)
+  grant-pinned c i z = claimed-pinned c (grantFrame p c i) z (omega (arith, grant-claims p c i z))
 
-  pub found-live : (c : ℕ) → T (pinsFound (client p c .stage)) → client p c .found ≢ none → pinned 1 ≤ pins p (client p c .found)
-  found-live c t z =
-      claimed-live c (client p c .found) z (rw (T-true (pinsFound (client p c .stage)) t) (omega (arith, one-is (client p c .found))))
+  pub found-pinned : (c : ℕ) → T (pinsFound (client p c .stage)) → client p c .found ≢ none → pinned 1 ≤ pins p (client p c .found)
+  found-pinned c t z =
+      claimed-pinned c (client p c .found) z (rw (T-true (pinsFound (client p c .stage)) t) (omega (arith, one-is (client p c .found))))
 
   -- ---- how many claims there are
 
@@ -172,15 +172,15 @@ module _ (p : Pool) (r : Reached p) where
             absurd (n (ap (lookup p) (r .mapping .mapped-page v (s .0) z (s .1)) ∙ mapped-lookup p (r .shape) (r .mapping .pages-apart) v (s .0) z (s .1) .1))
       ]
 
-  -- an own frame that has no slot yet is nobody's victim while that hunts
-  pub own-not-victim : (c d : ℕ) → T (unplaced (client p c .stage)) → client p c .own ≢ none → T (hunting (client p d .stage))
+  -- an own frame that has no slot yet is no victim that a client examines
+  pub own-not-victim : (c d : ℕ) → T (unplaced (client p c .stage)) → client p c .own ≢ none → T (examining (client p d .stage))
       → client p d .victim ≢ client p c .own
-  own-not-victim c d u z h e = go (hunt-cases (client p d .stage) h)
+  own-not-victim c d u z h e = go (examining-cases (client p d .stage) h)
     where
       two : pins p (client p d .victim) ≡ pinned 1
       two = ap (pins p) e ∙ own-pins c z
 
-      seat : (pins p (client p d .victim) ≢ evicted → Seated p (client p d .victim)) → ⊥
+      seat : (pins p (client p d .victim) ≢ evicted → InSlot p (client p d .victim)) → ⊥
       seat s = let w = s (λ x. let n : ⊥ = omega (arith, two) in n) in r .places .unplaced-out c (w .0) u z (w .1 ∙ e)
 
       go : (client p d .stage ≡ 12) ⊎ ((client p d .stage ≡ 13) ⊎ ((client p d .stage ≡ 14) ⊎ (client p d .stage ≡ 15))) → ⊥

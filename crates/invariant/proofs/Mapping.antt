@@ -16,21 +16,21 @@ use Rattle.pool.specs.declared.Pool.{Pool}
 use Rattle.pool.specs.declared.Client.{Client}
 use Rattle.pool.specs.declared.Move.{Move}
 use Rattle.pool.specs.declared.Write.the-variants.{PutEntry}
-use Rattle.invariant.proofs.Reached.{Reached, Apart, Mapping, mapped, Seated, Knows, Orphan, foundless, victimless}
+use Rattle.invariant.proofs.Reached.{Reached, Apart, Mapping, mapped, InSlot, Knows, Orphan, foundless, victimless}
 use Rattle.invariant.proofs.After.{client-same, client-other, all-clients, pins-kept, pins-here, page-here, entryPage-kept, entryFrame-kept}
 use Rattle.invariant.proofs.Apart.{apart-used, apart-same}
 use Rattle.invariant.proofs.Searches.{Fresh, fresh-means, grant-in, lookup-found, unused-found}
 use Rattle.invariant.proofs.Table.{suc-not, some-suc, mapped-none, mapped-zero, mapped-kept, put-frame, put-page, else-frame, else-page, put-other}
 use Rattle.invariant.proofs.Table.{put-apart, put-new, put-gone, put-cases}
 use Rattle.invariant.proofs.Never.{know}
-use Rattle.invariant.proofs.Facts.{grant-live}
+use Rattle.invariant.proofs.Facts.{grant-pinned}
 use Rattle.invariant.proofs.Flags.{never, imp-mp}
 use Rattle.invariant.proofs.Edges.{Edge, on, found1, found18, lost2, lost22, pins2, pins19, gets3, gets21, takes, fills, swaps, gives-up, drops}
 use Rattle.invariant.proofs.Edges.{removes, admits, revives, evicts20, evicts23, begins, releases}
 use Rattle.invariant.proofs.Effects.{OwnOk, forgot, kept, taken, Opened, of-found, of-own, EntryOk, entries-stay, maps, unmaps, Effect}
-use Rattle.invariant.proofs.Next.{dead-next, seats-next, maps-next, page-next, by-own, by-mapped, all-grants}
+use Rattle.invariant.proofs.Next.{evicted-next, in-slot-next, mapped-next, page-next, by-own, by-mapped, all-grants}
 use Rattle.invariant.proofs.Counts.{orphan-stays, stranded}
-use Rattle.invariant.proofs.Knowing.{carry, learns}
+use Rattle.invariant.proofs.Knowing.{knows-next, learns}
 
 -- ---- what a move has to show of its client
 
@@ -99,15 +99,15 @@ module _ {p : Pool} {c : ℕ} {m : Move} (x : Effect p c m) where
 
   module _ (f : ℕ) (z : f ≢ none) where
     -- an entry that is new is that of the own frame, which stands in a slot
-    pub new-entry : mapped p f ≡ 0 → mapped q f ≢ 0 → (f ≡ k .own) × Seated p f × (mapped q f ≡ suc (k .page)) × (pins q f ≡ pins p f)
+    pub new-entry : mapped p f ≡ 0 → mapped q f ≢ 0 → (f ≡ k .own) × InSlot p f × (mapped q f ≡ suc (k .page)) × (pins q f ≡ pins p f)
     unfolding pinsAfter
     new-entry e n = go (x .entries)
       where
-        go : EntryOk p c m → (f ≡ k .own) × Seated p f × (mapped q f ≡ suc (k .page)) × (pins q f ≡ pins p f)
+        go : EntryOk p c m → (f ≡ k .own) × InSlot p f × (mapped q f ≡ suc (k .page)) × (pins q f ≡ pins p f)
         go (entries-stay a b) = absurd (n (mapped-kept p c m a b f ∙ e))
         go (maps i w h o _ s _ _) = by (ℕ-discrete f (k .own))
           where
-            by : Dec (f ≡ k .own) → (f ≡ k .own) × Seated p f × (mapped q f ≡ suc (k .page)) × (pins q f ≡ pins p f)
+            by : Dec (f ≡ k .own) → (f ≡ k .own) × InSlot p f × (mapped q f ≡ suc (k .page)) × (pins q f ≡ pins p f)
             by (yes v) = (v, (s .0, s .1 ∙ sym v), ap (mapped q) v ∙ own-mapped i (k .page) (k .own) refl o w h, pins-kept p c m (rw w refl) f)
             by (no v) = absurd (n (put-cases p c m (r .shape) i (k .page) (k .own) w h f z e v))
         go (unmaps i g w h _ _) = absurd (n (put-cases p c m (r .shape) i g none w h f z e z))
@@ -143,17 +143,17 @@ module _ {p : Pool} {c : ℕ} {m : Move} (x : Effect p c m) where
         go false e = inl (fresh-means p f z e)
         go true e = inr (λ w. true≢false (sym e ∙ w))
 
-    resident-in-slot-next : pins q f ≢ evicted → mapped q f ≢ 0 → Seated q f
+    resident-in-slot-next : pins q f ≢ evicted → mapped q f ≢ 0 → InSlot q f
     resident-in-slot-next l n = go (ℕ-discrete (mapped p f) 0)
       where
-        seat : (referenced p f ≡ false → ⊥) → Seated p f → Seated q f
-        seat a s = seats-next x f z (λ d. l (dead-next x f z a d)) s
+        seat : (referenced p f ≡ false → ⊥) → InSlot p f → InSlot q f
+        seat a s = in-slot-next x f z (λ d. l (evicted-next x f z a d)) s
 
-        go : Dec (mapped p f ≡ 0) → Seated q f
+        go : Dec (mapped p f ≡ 0) → InSlot q f
         go (yes e) = let w = new-entry e n in seat (by-own x f z c (sym (w .0))) (w .1)
         go (no e) =
             let a = by-mapped x f z e in
-            seat a (r .mapping .resident-in-slot f z (λ d. l (dead-next x f z a d)) e)
+            seat a (r .mapping .resident-in-slot f z (λ d. l (evicted-next x f z a d)) e)
 
     mapped-or-owned-next : MappingCondition p c m → pins q f ≢ evicted → (mapped q f ≢ 0) ⊎ (((d : ℕ) × (client q d .own ≡ f)) ⊎ Orphan q f)
     mapped-or-owned-next t l = go (ℕ-discrete (m .next .own) f) fresh-or
@@ -167,7 +167,7 @@ module _ {p : Pool} {c : ℕ} {m : Move} (x : Effect p c m) where
         ended (inr (inr y)) = inr (inr y)
 
         old : m .next .own ≢ f → pins p f ≢ evicted → (mapped p f ≢ 0) ⊎ (((d : ℕ) × (client p d .own ≡ f)) ⊎ Orphan p f) → Goal
-        old n a (inl y) = let g = some-suc (mapped p f) y in inl (suc-not (maps-next x f z a (g .0) (g .1)))
+        old n a (inl y) = let g = some-suc (mapped p f) y in inl (suc-not (mapped-next x f z a (g .0) (g .1)))
         old n a (inr (inr o)) = inr (inr (orphan-stays x f z o n))
         old n a (inr (inl d)) = owner (ℕ-discrete (d .0) c)
           where
@@ -182,7 +182,7 @@ module _ {p : Pool} {c : ℕ} {m : Move} (x : Effect p c m) where
         go (no e) (inl w) =
             inr (inr (orphan-stays x f z
             (record { no-slot = w .no-slot; unmapped = mapped-zero p f (w .no-entry); unowned = w .no-own; unfound = w .no-found; ungranted = w .no-grant }) e))
-        go (no e) (inr w) = let a : pins p f ≢ evicted = λ d. l (dead-next x f z w d) in old e a (r .mapping .mapped-or-owned f z a)
+        go (no e) (inr w) = let a : pins p f ≢ evicted = λ d. l (evicted-next x f z w d) in old e a (r .mapping .mapped-or-owned f z a)
 
     mapped-page-next : (g : ℕ) → mapped q f ≡ suc g → page q f ≡ g
     mapped-page-next g e = go (ℕ-discrete (mapped p f) 0)
@@ -201,12 +201,12 @@ module _ {p : Pool} {c : ℕ} {m : Move} (x : Effect p c m) where
   grant-mapped-next : (d i : ℕ) → grantFrame q d i ≢ none → mapped q (grantFrame q d i) ≡ suc (grantPage q d i)
   grant-mapped-next d i z =
       all-grants x (λ g f. f ≢ none → mapped q f ≡ suc g)
-      (λ d i _ n. let two = grant-live p r d i n in
-      maps-next x (grantFrame p d i) n (λ e. let y : ⊥ = omega arith in y) (grantPage p d i) (r .mapping .grant-mapped d i n))
+      (λ d i _ n. let two = grant-pinned p r d i n in
+      mapped-next x (grantFrame p d i) n (λ e. let y : ⊥ = omega arith in y) (grantPage p d i) (r .mapping .grant-mapped d i n))
       (λ g f w. new (x .opened g f w)) d i (grant-in q d i z) z
     where
       new : {g f : ℕ} → Opened p c m g f → f ≢ none → mapped q f ≡ suc g
-      new {g} {f} (of-found _ _ e two) n = maps-next x f n (λ w. let y : ⊥ = omega arith in y) g e
+      new {g} {f} (of-found _ _ e two) n = mapped-next x f n (λ w. let y : ⊥ = omega arith in y) g e
       new {g} {f} (of-own i e n _ w h) _ = own-mapped i g f e n w h
 
   grant-named-next : (d i : ℕ) → i < client q d .held → grantFrame q d i ≢ none
@@ -236,7 +236,7 @@ module _ {p : Pool} {c : ℕ} {m : Move} (x : Effect p c m) where
         pages-apart = pages-next;
         grant-mapped = grant-mapped-next;
         grant-named = grant-named-next;
-        knowing = all-clients p c m (r .shape) (λ _ n. Knows (n .stage) q n) here (λ d _. carry x d (client p d .stage) refl)
+        knowing = all-clients p c m (r .shape) (λ _ n. Knows (n .stage) q n) here (λ d _. knows-next x d (client p d .stage) refl)
             (learns p c r e x);
         resident-in-slot = resident-in-slot-next;
         mapped-or-owned = λ f z. mapped-or-owned-next f z t;
@@ -252,8 +252,8 @@ module _ (p : Pool) (c : ℕ) (r : Reached p) where
   abbrev me : Client
   me = client p c
 
-  kn : (i : ℕ) → client p c .stage ≡ i → Knows i p me
-  kn = know p r c
+  known : (i : ℕ) → client p c .stage ≡ i → Knows i p me
+  known = know p r c
 
   foundless-now : (i : ℕ) → client p c .stage ≡ i → T (foundless i) → me .found ≡ none
   foundless-now i e t = r .mapping .no-found c (rw e t)
@@ -297,7 +297,7 @@ module _ (p : Pool) (c : ℕ) (r : Reached p) where
       forgets-own refl (λ _. refl) (λ _. refl) (λ z. inl (suc-not (own-mapped x _ _ (me .own) refl z refl (unused-found p (r .shape) u .0))))
   mapping-condition {m} (revives e l) x =
       forgets-own refl (λ _. refl) (λ _. refl)
-      (λ z. inl (suc-not (own-mapped x _ _ (me .own) refl z refl (lookup-found p (r .shape) (me .page) (λ w. kn 22 e .1 .0 (sym l ∙ w)) .place))))
+      (λ z. inl (suc-not (own-mapped x _ _ (me .own) refl z refl (lookup-found p (r .shape) (me .page) (λ w. known 22 e .1 .0 (sym l ∙ w)) .place))))
   mapping-condition {m} (evicts20 e) x =
       forgets-own refl never (λ _. victimless-now 20 e tt) (λ z. inr (inl (pins-here p c m (r .shape) (me .own) evicted refl (r .ranges .own-ok c z))))
   mapping-condition {m} (evicts23 e) x =

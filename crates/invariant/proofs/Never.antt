@@ -19,7 +19,7 @@ use Rattle.pool.specs.declared.Pool.{Pool}
 use Rattle.pool.specs.declared.Client.{Client}
 use Rattle.laws.specs.Choices.{chosen, passed}
 use Rattle.laws.specs.Scans.{either-true, some-true}
-use Rattle.invariant.proofs.Reached.{mapped, Seated, Knows, Reached, sumTo}
+use Rattle.invariant.proofs.Reached.{mapped, InSlot, Knows, Reached, sumTo}
 use Rattle.invariant.proofs.After.{few-frames, slot-in, client-here}
 use Rattle.invariant.proofs.Sums.{sum-add, sum-most, sum-gap}
 use Rattle.invariant.proofs.Searches.{free-found, free-none, unused-none}
@@ -69,7 +69,7 @@ module _ (p : Pool) (r : Reached p) where
     named-here : (c : ℕ) (g : Client → ℕ) → g (resting 0) ≡ none → g (client p c) ≡ f → c < clientCount p
     named-here c g n e = client-here p (λ k. g k ≡ f) c e (λ w. z (sym w ∙ n))
 
-    in-slot : Seated p f → 1 ≤ times f
+    in-slot : InSlot p f → 1 ≤ times f
     unfolding times
     in-slot s = omega (arith, equal-has (slot p) (p .size) f (s .0) (slot-in p (s .0) (λ n. z (sym (s .1) ∙ n))) (s .1))
 

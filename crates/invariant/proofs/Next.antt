@@ -14,7 +14,7 @@ use Rattle.pool.specs.declared.Pool.{Pool}
 use Rattle.pool.specs.declared.Client.{Client}
 use Rattle.pool.specs.declared.Move.{Move}
 use Rattle.pool.specs.declared.GrantChange.the-variants.{Open}
-use Rattle.invariant.proofs.Reached.{Reached, mapped, Seated, unplaced, leaving}
+use Rattle.invariant.proofs.Reached.{Reached, mapped, InSlot, unplaced, unmapping}
 use Rattle.invariant.proofs.After.{client-same, client-other, slot-kept, slot-here, slot-else, pins-kept, pins-here, pins-else, page-kept, page-else}
 use Rattle.invariant.proofs.Searches.{fresh-means}
 use Rattle.invariant.proofs.Table.{suc-not, mapped-entry, mapped-kept, put-other, put-cases}
@@ -43,7 +43,7 @@ module _ {p : Pool} {c : ℕ} {m : Move} (x : Effect p c m) where
 
   -- frame f is evicted and the mover takes it out
   abbrev pub TakenOut : ℕ → Type 0
-  TakenOut f = (pins p f ≡ evicted) × T (leaving (m .next .stage)) × (m .next .victim ≡ f)
+  TakenOut f = (pins p f ≡ evicted) × T (unmapping (m .next .stage)) × (m .next .victim ≡ f)
 
   pub slot-now : (i : ℕ) → SlotNow i
   unfolding slotsAfter
@@ -76,8 +76,8 @@ module _ {p : Pool} {c : ℕ} {m : Move} (x : Effect p c m) where
 
   module _ (f : ℕ) (z : f ≢ none) where
     -- evicted stays evicted, unless the frame is taken
-    pub dead-next : (referenced p f ≡ false → ⊥) → pins p f ≡ evicted → pins q f ≡ evicted
-    dead-next ref d = go (x .pins)
+    pub evicted-next : (referenced p f ≡ false → ⊥) → pins p f ≡ evicted → pins q f ≡ evicted
+    evicted-next ref d = go (x .pins)
       where
         go : PinsOk p c m → pins q f ≡ evicted
         go (pins-stay e) = pins-kept p c m e f ∙ d
@@ -94,15 +94,15 @@ module _ {p : Pool} {c : ℕ} {m : Move} (x : Effect p c m) where
             by (yes w) (drops-own _ v) = at w v
             by (yes w) (takes-one ref′ _) = absurd (ref (ap (referenced p) w ∙ ref′))
 
-    pub seats-next : pins p f ≢ evicted → Seated p f → Seated q f
-    seats-next l s = go (slot-or-out f (s .0) z (s .1))
+    pub in-slot-next : pins p f ≢ evicted → InSlot p f → InSlot q f
+    in-slot-next l s = go (slot-or-out f (s .0) z (s .1))
       where
-        go : (slot q (s .0) ≡ f) ⊎ TakenOut f → Seated q f
+        go : (slot q (s .0) ≡ f) ⊎ TakenOut f → InSlot q f
         go (inl e) = (s .0, e)
         go (inr e) = absurd (l (e .0))
 
-    pub maps-next : pins p f ≢ evicted → (g : ℕ) → mapped p f ≡ suc g → mapped q f ≡ suc g
-    maps-next l g e = go (x .entries)
+    pub mapped-next : pins p f ≢ evicted → (g : ℕ) → mapped p f ≡ suc g → mapped q f ≡ suc g
+    mapped-next l g e = go (x .entries)
       where
         not-own : k .own ≢ none → f ≢ k .own
         not-own o w = suc-not e (ap (mapped p) w ∙ r .private .own-unmapped c o)

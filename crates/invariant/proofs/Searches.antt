@@ -31,8 +31,8 @@ module _ (p : Pool) (shape : Shape p) where
   pub none-evicted : pins p none ≡ evicted
   none-evicted = pins-past p none (omega (arith, few-frames p shape))
 
-  pub live-named : (f : ℕ) → pins p f ≢ evicted → f ≢ none
-  live-named f live z = live (ap (pins p) z ∙ none-evicted)
+  pub pins-named : (f : ℕ) → pins p f ≢ evicted → f ≢ none
+  pins-named f live z = live (ap (pins p) z ∙ none-evicted)
 
   module _ (g : ℕ) where
     entry-found : entryOf p g ≢ none → (entryOf p g < total p) × (entryPage p (entryOf p g) ≡ g) × (entryFrame p (entryOf p g) ≢ none)

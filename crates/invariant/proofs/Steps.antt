@@ -28,13 +28,13 @@ use Rattle.pool.specs.declared.Counted.{Counted}
 use Rattle.pool.specs.declared.Write.{Write}
 use Rattle.pool.specs.declared.Write.the-variants.{Keep, PutPins, PutFree}
 use Rattle.laws.specs.Choices.{by-test, chosen}
-use Rattle.invariant.proofs.Reached.{Reached, Knows, Leaves, mapped, victimless, filling, hunting}
+use Rattle.invariant.proofs.Reached.{Reached, Knows, WillUnmap, mapped, victimless, filling, examining}
 use Rattle.invariant.proofs.Each.{Each, fin, _also_, each-in}
 use Rattle.invariant.proofs.Searches.{grantOf-found}
 use Rattle.invariant.proofs.Never.{know, finds-some, room}
-use Rattle.invariant.proofs.Flags.{T-false, never, differ, imp-mp, onward, onward-means, plainly, plainly-means, leavesNone, leaves-none, Visits}
+use Rattle.invariant.proofs.Flags.{T-false, never, differ, imp-mp, onward, onward-means, plainly, plainly-means, unmapsNone, unmaps-none, Visits}
 use Rattle.invariant.proofs.Allowed.{allowed, may-begin, may-step, may-release}
-use Rattle.invariant.proofs.Facts.{own-pins, grant-live, entry-gone}
+use Rattle.invariant.proofs.Facts.{own-pins, grant-pinned, entry-gone}
 use Rattle.invariant.proofs.Edges.{Quiet, keep, hand, counts, free, Alike, grants, Edge, on, found1, found18, lost2, lost22, pins2, pins19, gets3}
 use Rattle.invariant.proofs.Edges.{gets21, takes, fills, swaps, gives-up, drops, removes, admits, revives, evicts20, evicts23, begins, releases}
 
@@ -42,9 +42,9 @@ pub around-ok : (s i : ℕ) → 0 < s → around s i < s
 unfolding around
 around-ok s i h = by-test (λ (x : ℕ). x < s) (λ t. ltb-true _ _ t) (λ _. h)
 
-pub no-leaves : (p : Pool) (k : Client) (i : ℕ) → k .stage ≡ i → T (leavesNone i) → (f : ℕ) → Leaves p k f → ⊥
-no-leaves p k i e t f (_, inl l) = leaves-none i t .0 (rw e at l)
-no-leaves p k i e t f (_, inr l) = leaves-none i t .1 (sym e ∙ l .0)
+pub not-unmapping : (p : Pool) (k : Client) (i : ℕ) → k .stage ≡ i → T (unmapsNone i) → (f : ℕ) → WillUnmap p k f → ⊥
+not-unmapping p k i e t f (_, inl l) = unmaps-none i t .0 (rw e at l)
+not-unmapping p k i e t f (_, inr l) = unmaps-none i t .1 (sym e ∙ l .0)
 
 module _ (p : Pool) (c : ℕ) (here : c < clientCount p) (r : Reached p) where
   abbrev k : Client
@@ -56,16 +56,16 @@ module _ (p : Pool) (c : ℕ) (here : c < clientCount p) (r : Reached p) where
   abbrev At : ℕ → Stage → Type 0
   At i f = client p c .stage ≡ i → Edge p c (f p k)
 
-  kn : (i : ℕ) → client p c .stage ≡ i → Knows i p k
-  kn = know p r c
+  known : (i : ℕ) → client p c .stage ≡ i → Knows i p k
+  known = know p r c
 
   same : Alike k k
   same = record { page = refl; own = refl; found = refl; held = refl }
 
   -- the client keeps its victim, and its place where that matters
   stays : (n : Client) (i j : ℕ) (w : Write) → client p c .stage ≡ i → Alike k n → n .victim ≡ k .victim → n .busy ≡ k .busy → n .place < p .size
-      → n .seen ≤ p .size → (T (hunting j) → n .place ≡ k .place) → Quiet p w → freeAfter (p .free) w ≡ p .free → T (onward i j) → T (plainly i j)
-      → ((f : ℕ) → f ≢ none → mapped p f ≢ 0 → Leaves p k f → Leaves p (standing n j) f) → Knows j p (standing n j) → Goes (works n j w)
+      → n .seen ≤ p .size → (T (examining j) → n .place ≡ k .place) → Quiet p w → freeAfter (p .free) w ≡ p .free → T (onward i j) → T (plainly i j)
+      → ((f : ℕ) → f ≢ none → mapped p f ≢ 0 → WillUnmap p k f → WillUnmap p (standing n j) f) → Knows j p (standing n j) → Goes (works n j w)
   stays n i j w e s v b pl sn at q fr t u lv kw =
       let h = plainly-means i j u in
       on n j w (record {
@@ -79,20 +79,20 @@ module _ (p : Pool) (c : ℕ) (here : c < clientCount p) (r : Reached p) where
         knows = kw;
         no-victim = λ x. v ∙ r .mapping .no-victim c (rw e (imp-mp (victimless j) (victimless i) (h .from-victimless) x));
         six-seen = λ w. absurd (h .not-six w);
-        hunts = λ x. inl (v, at x, rw e (imp-mp (hunting j) (hunting i) (h .from-hunting) x));
-        leaves = lv;
+        examines = λ x. inl (v, at x, rw e (imp-mp (examining j) (examining i) (h .from-examining) x));
+        will-unmap = lv;
         fills = rw (e, fr, h .fills-alike) refl;
       })
 
   -- only the stage changes
   plain : (i j : ℕ) (w : Write) → client p c .stage ≡ i → Quiet p w → freeAfter (p .free) w ≡ p .free → T (onward i j) → T (plainly i j)
-      → T (leavesNone i) → Knows j p (standing k j) → Goes (works k j w)
+      → T (unmapsNone i) → Knows j p (standing k j) → Goes (works k j w)
   plain i j w e q fr t u a kw =
-      stays k i j w e same refl refl (r .ranges .place-ok c) (r .ranges .seen-ok c) (λ _. refl) q fr t u (λ f _ _ w. absurd (no-leaves p k i e a f w)) kw
+      stays k i j w e same refl refl (r .ranges .place-ok c) (r .ranges .seen-ok c) (λ _. refl) q fr t u (λ f _ _ w. absurd (not-unmapping p k i e a f w)) kw
 
   -- a sweep looks at slot x next
   sweeps : (i start x n : ℕ) (w : Write) → client p c .stage ≡ i → x < p .size → n < p .size → Quiet p w → freeAfter (p .free) w ≡ p .free
-      → T (onward i 11) → T (not (filling i)) → ((f : ℕ) → Leaves p k f → ⊥) → k .own ≢ none → Goes (works (sweeping k start x n) 11 w)
+      → T (onward i 11) → T (not (filling i)) → ((f : ℕ) → WillUnmap p k f → ⊥) → k .own ≢ none → Goes (works (sweeping k start x n) 11 w)
   sweeps i start x n w e h b q fr t fl lv o =
       on (sweeping k start x n) 11 w (record {
         same = record { page = refl; own = refl; found = refl; held = refl };
@@ -105,8 +105,8 @@ module _ (p : Pool) (c : ℕ) (here : c < clientCount p) (r : Reached p) where
         knows = o;
         no-victim = λ _. refl;
         six-seen = λ w. absurd (differ 11 6 tt w);
-        hunts = never;
-        leaves = λ f _ _ l. absurd (lv f l);
+        examines = never;
+        will-unmap = λ f _ _ l. absurd (lv f l);
         fills = rw (e, fr, T-false (filling i) fl) refl;
       })
 
@@ -137,7 +137,7 @@ module _ (p : Pool) (c : ℕ) (here : c < clientCount p) (r : Reached p) where
   step5 : At 5 (λ p k. stage5 k (p .free))
   unfolding stage5 freeAfter
   step5 e =
-      by-test Goes (λ _. plain 5 10 Keep e keep refl tt tt tt (kn 5 e))
+      by-test Goes (λ _. plain 5 10 Keep e keep refl tt tt tt (known 5 e))
       (λ t. on (withSeen k (p .free)) 6 Keep (record {
         same = record { page = refl; own = refl; found = refl; held = refl };
         quiet = keep;
@@ -146,11 +146,11 @@ module _ (p : Pool) (c : ℕ) (here : c < clientCount p) (r : Reached p) where
         busy-ok = r .ranges .busy-ok c;
         seen-ok = r .ranges .free-ok;
         victim-ok = r .ranges .victim-ok c;
-        knows = kn 5 e;
+        knows = known 5 e;
         no-victim = λ _. r .mapping .no-victim c (rw e tt);
         six-seen = λ _. eqb-false _ _ t;
-        hunts = never;
-        leaves = λ f _ _ w. absurd (no-leaves p k 5 e tt f w);
+        examines = never;
+        will-unmap = λ f _ _ w. absurd (not-unmapping p k 5 e tt f w);
         fills = rw e refl;
       }))
 
@@ -168,20 +168,20 @@ module _ (p : Pool) (c : ℕ) (here : c < clientCount p) (r : Reached p) where
         busy-ok = r .ranges .busy-ok c;
         seen-ok = r .ranges .seen-ok c;
         victim-ok = r .ranges .victim-ok c;
-        knows = kn 6 e;
+        knows = known 6 e;
         no-victim = λ _. r .mapping .no-victim c (rw e tt);
         six-seen = λ w. absurd (differ 7 6 tt w);
-        hunts = never;
-        leaves = λ f _ _ w. absurd (no-leaves p k 6 e tt f w);
+        examines = never;
+        will-unmap = λ f _ _ w. absurd (not-unmapping p k 6 e tt f w);
         fills = rw e (omega arith);
       })))
-      (λ _. plain 6 5 Keep e keep refl tt tt tt (kn 6 e))
+      (λ _. plain 6 5 Keep e keep refl tt tt tt (known 6 e))
 
   step7 : At 7 (λ p k. stage7 k (p .hand) (p .size))
   unfolding stage7 freeAfter
   step7 e =
       stays (withPlace k (p .hand % p .size)) 7 8 Keep e (record { page = refl; own = refl; found = refl; held = refl }) refl refl
-      (mod-lt (p .hand) small) (r .ranges .seen-ok c) never keep refl tt tt (λ f _ _ w. absurd (no-leaves p k 7 e tt f w)) (kn 7 e)
+      (mod-lt (p .hand) small) (r .ranges .seen-ok c) never keep refl tt tt (λ f _ _ w. absurd (not-unmapping p k 7 e tt f w)) (known 7 e)
 
   step8 : At 8 (λ p k. stage8 k (slot p (k .place)) (p .size))
   unfolding stage8 freeAfter
@@ -189,28 +189,28 @@ module _ (p : Pool) (c : ℕ) (here : c < clientCount p) (r : Reached p) where
       by-test Goes (λ t. fills e (eqb-true _ _ t))
       (λ _. stays (withPlace k (around (p .size) (k .place))) 8 8 Keep e (record { page = refl; own = refl; found = refl; held = refl }) refl refl
       (around-ok _ _ small)
-      (r .ranges .seen-ok c) never keep refl tt tt (λ f _ _ w. absurd (no-leaves p k 8 e tt f w)) (kn 8 e))
+      (r .ranges .seen-ok c) never keep refl tt tt (λ f _ _ w. absurd (not-unmapping p k 8 e tt f w)) (known 8 e))
 
   step9 : At 9 (λ p k. stage9 k (p .hand))
   unfolding stage9 freeAfter
-  step9 e = plain 9 18 _ e hand refl tt tt tt (kn 9 e)
+  step9 e = plain 9 18 _ e hand refl tt tt tt (known 9 e)
 
   step10 : At 10 (λ p k. stage10 k (p .hand) (p .size))
   unfolding stage10 freeAfter
-  step10 e = sweeps 10 (p .hand) (p .hand % p .size) 0 Keep e (mod-lt (p .hand) small) small keep refl tt tt (no-leaves p k 10 e tt) (kn 10 e)
+  step10 e = sweeps 10 (p .hand) (p .hand % p .size) 0 Keep e (mod-lt (p .hand) small) small keep refl tt tt (not-unmapping p k 10 e tt) (known 10 e)
 
-  -- the sweep goes on, with no frame behind
+  -- the sweep goes on, with no entry to remove
   next : (i n : ℕ) (w : Write) → client p c .stage ≡ i → n < p .size → Quiet p w → freeAfter (p .free) w ≡ p .free → T (onward i 11)
-      → T (not (filling i)) → T (leavesNone i) → k .own ≢ none → Goes (works (sweeping k (k .start) (around (p .size) (k .place)) n) 11 w)
-  next i n w e h q fr t fl a o = sweeps i (k .start) _ n w e (around-ok _ _ small) h q fr t fl (no-leaves p k i e a) o
+      → T (not (filling i)) → T (unmapsNone i) → k .own ≢ none → Goes (works (sweeping k (k .start) (around (p .size) (k .place)) n) 11 w)
+  next i n w e h q fr t fl a o = sweeps i (k .start) _ n w e (around-ok _ _ small) h q fr t fl (not-unmapping p k i e a) o
 
   visits11 : Visits 11
-  visits11 = record { is-unplaced = tt; no-pin = refl; no-fill = refl; no-leave = tt }
+  visits11 = record { is-unplaced = tt; no-pin = refl; no-fill = refl; no-unmap = tt }
 
   visits12 : Visits 12
-  visits12 = record { is-unplaced = tt; no-pin = refl; no-fill = refl; no-leave = tt }
+  visits12 = record { is-unplaced = tt; no-pin = refl; no-fill = refl; no-unmap = tt }
 
-  visit : (i : ℕ) → client p c .stage ≡ i → T (onward i 11) → T (leavesNone i) → T (not (filling i)) → Visits i → k .own ≢ none → Goes (busyVisit k (p .size))
+  visit : (i : ℕ) → client p c .stage ≡ i → T (onward i 11) → T (unmapsNone i) → T (not (filling i)) → Visits i → k .own ≢ none → Goes (busyVisit k (p .size))
   unfolding busyVisit freeAfter
   visit i e t a fl u o =
       by-test Goes (λ t. gives-up (rw e u) (eqb-true _ _ t))
@@ -219,7 +219,7 @@ module _ (p : Pool) (c : ℕ) (here : c < clientCount p) (r : Reached p) where
   step11 : At 11 (λ p k. stage11 k (slot p (k .place)) (p .size))
   unfolding stage11 freeAfter
   step11 e =
-      by-test Goes (λ _. visit 11 e tt tt tt visits11 (kn 11 e))
+      by-test Goes (λ _. visit 11 e tt tt tt visits11 (known 11 e))
       (λ t. on (withVictim k (slot p (k .place))) 12 Keep (record {
         same = record { page = refl; own = refl; found = refl; held = refl };
         quiet = keep;
@@ -228,18 +228,18 @@ module _ (p : Pool) (c : ℕ) (here : c < clientCount p) (r : Reached p) where
         busy-ok = r .ranges .busy-ok c;
         seen-ok = r .ranges .seen-ok c;
         victim-ok = r .ranges .slot-ok (k .place);
-        knows = (kn 11 e, (eqb-false _ _ t, λ _. (k .place, refl)));
+        knows = (known 11 e, (eqb-false _ _ t, λ _. (k .place, refl)));
         no-victim = never;
         six-seen = λ w. absurd (differ 12 6 tt w);
-        hunts = λ _. inr refl;
-        leaves = λ f _ _ w. absurd (no-leaves p k 11 e tt f w);
+        examines = λ _. inr refl;
+        will-unmap = λ f _ _ w. absurd (not-unmapping p k 11 e tt f w);
         fills = rw e refl;
       }))
 
   step12 : At 12 (λ p k. stage12 k (pins p (k .victim)) (p .size))
   unfolding stage12 freeAfter
   step12 e =
-      let h = kn 12 e in
+      let h = known 12 e in
       by-test Goes (λ t. plain 12 15 Keep e keep refl tt tt tt (h .0, (h .1 .0, eqb-true _ _ t)))
       (λ _. by-test Goes (λ _. plain 12 13 Keep e keep refl tt tt tt h) (λ _. visit 12 e tt tt tt visits12 (h .0)))
 
@@ -248,27 +248,27 @@ module _ (p : Pool) (c : ℕ) (here : c < clientCount p) (r : Reached p) where
 
   step13 : At 13 (λ p k. stage13 k (count p (k .victim)) (p .size))
   unfolding stage13 freeAfter
-  step13 e = by-test Goes (λ _. plain 13 14 _ e (counts lowered) refl tt tt tt (kn 13 e)) (λ _. next 13 0 _ e small (counts lowered) refl tt tt tt (kn 13 e .0))
+  step13 e = by-test Goes (λ _. plain 13 14 _ e (counts lowered) refl tt tt tt (known 13 e)) (λ _. next 13 0 _ e small (counts lowered) refl tt tt tt (known 13 e .0))
 
   step14 : At 14 (λ p k. stage14 k (pins p (k .victim)) (p .size))
   unfolding stage14 freeAfter
-  step14 e = by-test Goes (λ t. drops e (eqb-true _ _ t)) (λ _. next 14 0 Keep e small keep refl tt tt tt (kn 14 e .0))
+  step14 e = by-test Goes (λ t. drops e (eqb-true _ _ t)) (λ _. next 14 0 Keep e small keep refl tt tt tt (known 14 e .0))
 
-  -- 15 goes on where the slot names another frame: nothing is left behind
+  -- 15 goes on where the slot names another frame: no entry is to be removed
   step15 : At 15 (λ p k. stage15 k (slot p (k .place)) (p .size))
   unfolding stage15 freeAfter
   step15 e =
       by-test Goes (λ t. swaps e (eqb-true _ _ t))
-      (λ t. sweeps 15 (k .start) _ 0 Keep e (around-ok _ _ small) small keep refl tt tt (moved (eqb-false _ _ t)) (kn 15 e .0))
+      (λ t. sweeps 15 (k .start) _ 0 Keep e (around-ok _ _ small) small keep refl tt tt (moved (eqb-false _ _ t)) (known 15 e .0))
     where
-      moved : slot p (k .place) ≢ k .victim → (f : ℕ) → Leaves p k f → ⊥
+      moved : slot p (k .place) ≢ k .victim → (f : ℕ) → WillUnmap p k f → ⊥
       moved n f (v, inl l) = rw e at l
       moved n f (v, inr l) = n (l .1 ∙ sym v)
 
   step16 : At 16 (λ p k. stage16 k (p .hand) (p .size))
   unfolding stage16 freeAfter
   step16 e =
-      stays k 16 17 _ e same refl refl (r .ranges .place-ok c) (r .ranges .seen-ok c) never hand refl tt tt (λ f _ _ w. (w .0, inl tt)) (kn 16 e)
+      stays k 16 17 _ e same refl refl (r .ranges .place-ok c) (r .ranges .seen-ok c) never hand refl tt tt (λ f _ _ w. (w .0, inl tt)) (known 16 e)
 
   step17 : At 17 (λ p k. let g = page p (k .victim) in stage17 k g (entryOf p g) (lookup p g))
   unfolding stage17 freeAfter
@@ -282,11 +282,11 @@ module _ (p : Pool) (c : ℕ) (here : c < clientCount p) (r : Reached p) where
         busy-ok = r .ranges .busy-ok c;
         seen-ok = r .ranges .seen-ok c;
         victim-ok = λ z. absurd (z refl);
-        knows = kn 17 e .0;
+        knows = known 17 e .0;
         no-victim = λ _. refl;
         six-seen = λ w. absurd (differ 18 6 tt w);
-        hunts = never;
-        leaves = λ f z n w. absurd (n (ap (mapped p) (sym (w .0)) ∙ entry-gone p r (k .victim) (kn 17 e .1 .0) (eqb-false _ _ t)));
+        examines = never;
+        will-unmap = λ f z n w. absurd (n (ap (mapped p) (sym (w .0)) ∙ entry-gone p r (k .victim) (known 17 e .1 .0) (eqb-false _ _ t)));
         fills = rw e refl;
       }))
 
@@ -294,13 +294,13 @@ module _ (p : Pool) (c : ℕ) (here : c < clientCount p) (r : Reached p) where
   unfolding stage18
   step18 e =
       by-test Goes
-      (λ t. by-test Goes (λ u. absurd (room p r c (kn 18 e .0) (eqb-true _ _ u)))
+      (λ t. by-test Goes (λ u. absurd (room p r c (known 18 e .0) (eqb-true _ _ u)))
       (λ u. gets 18 _ _ _ e tt (admits e (eqb-true _ _ t) (eqb-false _ _ u))))
       (λ t. found18 e (eqb-false _ _ t))
 
   step19 : At 19 (λ p k. stage19 k (pins p (k .found)))
   unfolding stage19 freeAfter
-  step19 e = let h = kn 19 e in by-test Goes (λ t. plain 19 22 Keep e keep refl tt tt tt (h .0, (h .1 .0, eqb-true _ _ t))) (λ t. pins19 e (eqb-false _ _ t))
+  step19 e = let h = known 19 e in by-test Goes (λ t. plain 19 22 Keep e keep refl tt tt tt (h .0, (h .1 .0, eqb-true _ _ t))) (λ t. pins19 e (eqb-false _ _ t))
 
   -- an own frame has pins 1
   evict : (j : ℕ) → k .own ≢ none → Goes (works (withOwn k none) j (PutPins (k .own) evicted)) → Goes (evictOwn k (pins p (k .own)) j)
@@ -309,7 +309,7 @@ module _ (p : Pool) (c : ℕ) (here : c < clientCount p) (r : Reached p) where
 
   step20 : At 20 (λ p k. stage20 k (pins p (k .own)))
   unfolding stage20
-  step20 e = evict 21 (kn 20 e .0 .0) (evicts20 e)
+  step20 e = evict 21 (known 20 e .0 .0) (evicts20 e)
 
   step21 : At 21 (λ p k. stage21 k (p .cap) (count p (k .found)))
   unfolding stage21
@@ -321,7 +321,7 @@ module _ (p : Pool) (c : ℕ) (here : c < clientCount p) (r : Reached p) where
 
   step23 : At 23 (λ p k. stage23 k (pins p (k .own)))
   unfolding stage23
-  step23 e = evict 4 (kn 23 e .0) (evicts23 e)
+  step23 e = evict 4 (known 23 e .0) (evicts23 e)
 
   -- ---- each call
 
@@ -340,7 +340,7 @@ module _ (p : Pool) (c : ℕ) (here : c < clientCount p) (r : Reached p) where
   release-edge g e z =
       let i : ℕ = grantOf p c g in
       let f : grantFrame p c i ≢ none = r .mapping .grant-named c i (grantOf-found p c g z .0) in
-      let two = grant-live p r c i f in
+      let two = grant-pinned p r c i f in
       by-test Goes (λ t. let x : pins p (grantFrame p c i) ≡ evicted = eqb-true _ _ t in let y : ⊥ = omega arith in absurd y) (λ _. releases g e z)
 
 -- a call that nothing turns down is one of a client of the pool, and makes such a move

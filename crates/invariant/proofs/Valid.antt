@@ -11,7 +11,7 @@ use Rattle.pool.specs.Valid.{usesOwn, usesFound, usesVictim, valid}
 use Rattle.pool.specs.declared.Pool.{Pool}
 use Rattle.pool.specs.declared.Client.{Client}
 use Rattle.ranges.specs.Ranges.{Named, ClientRanged, Ranged, valid-from}
-use Rattle.invariant.proofs.Reached.{Reached, Know, Owns, Placed, Live, DeadFound, Seat, DeadVictim, Nothing, _and_, knows}
+use Rattle.invariant.proofs.Reached.{Reached, Know, Owns, Placed, FoundMapped, FoundEvicted, VictimInSlot, VictimEvicted, Nothing, _and_, knows}
 use Rattle.invariant.proofs.Each.{Each, fin, _also_, each-in}
 use Rattle.invariant.proofs.Table.{mapped-lookup}
 
@@ -47,16 +47,16 @@ module _ (p : Pool) (k : Client) where
 
   shows : Each Shows 0 knows
   shows =
-      bare 0 refl refl refl also bare 1 refl refl refl also by-found Live 2 (λ h. h .0) refl refl also by-found Live 3 (λ h. h .0) refl refl also
+      bare 0 refl refl refl also bare 1 refl refl refl also by-found FoundMapped 2 (λ h. h .0) refl refl also by-found FoundMapped 3 (λ h. h .0) refl refl also
       bare 4 refl refl refl also
       by-own Owns 5 (λ h. h) refl refl also by-own Owns 6 (λ h. h) refl refl also by-own Owns 7 (λ h. h) refl refl also by-own Owns 8 (λ h. h) refl refl also
       by-own Placed 9 (λ h. h .0) refl refl also by-own Owns 10 (λ h. h) refl refl also by-own Owns 11 (λ h. h) refl refl also
-      by-sweep (Owns and Seat) 12 (λ h. h .0) (λ h. h .1 .0) refl also by-sweep (Owns and Seat) 13 (λ h. h .0) (λ h. h .1 .0) refl also
-      by-sweep (Owns and Seat) 14 (λ h. h .0) (λ h. h .1 .0) refl also by-sweep (Owns and DeadVictim) 15 (λ h. h .0) (λ h. h .1 .0) refl also
-      by-sweep (Placed and DeadVictim) 16 (λ h. h .0 .0) (λ h. h .1 .0) refl also by-sweep (Placed and DeadVictim) 17 (λ h. h .0 .0) (λ h. h .1 .0) refl also
-      by-own Placed 18 (λ h. h .0) refl refl also by-both (Placed and Live) 19 (λ h. h .0 .0) (λ h. h .1 .0) refl also
-      by-both (Placed and Live) 20 (λ h. h .0 .0) (λ h. h .1 .0) refl also by-found Live 21 (λ h. h .0) refl refl also
-      by-both (Placed and DeadFound) 22 (λ h. h .0 .0) (λ h. h .1 .0) refl also by-own Placed 23 (λ h. h .0) refl refl also fin
+      by-sweep (Owns and VictimInSlot) 12 (λ h. h .0) (λ h. h .1 .0) refl also by-sweep (Owns and VictimInSlot) 13 (λ h. h .0) (λ h. h .1 .0) refl also
+      by-sweep (Owns and VictimInSlot) 14 (λ h. h .0) (λ h. h .1 .0) refl also by-sweep (Owns and VictimEvicted) 15 (λ h. h .0) (λ h. h .1 .0) refl also
+      by-sweep (Placed and VictimEvicted) 16 (λ h. h .0 .0) (λ h. h .1 .0) refl also by-sweep (Placed and VictimEvicted) 17 (λ h. h .0 .0) (λ h. h .1 .0) refl also
+      by-own Placed 18 (λ h. h .0) refl refl also by-both (Placed and FoundMapped) 19 (λ h. h .0 .0) (λ h. h .1 .0) refl also
+      by-both (Placed and FoundMapped) 20 (λ h. h .0 .0) (λ h. h .1 .0) refl also by-found FoundMapped 21 (λ h. h .0) refl refl also
+      by-both (Placed and FoundEvicted) 22 (λ h. h .0 .0) (λ h. h .1 .0) refl also by-own Placed 23 (λ h. h .0) refl refl also fin
 
 -- ---- the ranges
 
