@@ -273,7 +273,7 @@ module _ {p : Pool} {c : ℕ} {q : Sequential} (acting : Acting p c q) where
 
     pub drops-one : k .stage ≡ 14 → k .victim ≢ none → pins p (k .victim) ≡ pinned 0 → InSlot p (k .victim)
         → {m : Move} → outward m ≡ working k 15 Drop → m .write ≡ PutPins (k .victim) evicted → Simulates p c q m
-    drops-one e z unpinned seat {m} o w = by-known (r .mapping .mapped-or-owned f z live)
+    drops-one e z unpinned in-slot {m} o w = by-known (r .mapping .mapped-or-owned f z live)
       where
         f : ℕ
         f = k .victim
@@ -282,14 +282,14 @@ module _ {p : Pool} {c : ℕ} {q : Sequential} (acting : Acting p c q) where
         live n = omega arith
 
         s : ℕ
-        s = seat .0
+        s = in-slot .0
 
         changed : Changed p c m s empty
-        changed = pins-out p c m r f evicted w refl (pins-in p f live) z s (seat .1)
+        changed = pins-out p c m r f evicted w refl (pins-in p f live) z s (in-slot .1)
 
         drop : (g : ℕ) → mapped p f ≡ suc g → Simulates p c q m
         drop g n =
-            let holding : place q s ≡ holds g f = mirror .places s ∙ (ap (seen p) (seat .1) ∙ seen-full p f live n) in
+            let holding : place q s ≡ holds g f = mirror .places s ∙ (ap (seen p) (in-slot .1) ∙ seen-full p f live n) in
             record {
               places = set (q .places) s empty;
               next = record { stage = 15; wants = t .wants; grants = t .grants };
@@ -305,4 +305,4 @@ module _ {p : Pool} {c : ℕ} {q : Sequential} (acting : Acting p c q) where
         by-known (inr (inl d)) =
             let two : pins p f ≡ pinned 1 = rw (d .1) at (own-pins p r (d .0) (λ n. z (sym (d .1) ∙ n))) in
             absurd (omega arith)
-        by-known (inr (inr lone)) = absurd (lone .no-slot s (seat .1))
+        by-known (inr (inr lone)) = absurd (lone .no-slot s (in-slot .1))

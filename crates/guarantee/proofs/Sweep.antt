@@ -12,7 +12,7 @@ use Rattle.pool.specs.Grants.{holds, held}
 use Rattle.pool.specs.Stages.{around}
 use Rattle.pool.specs.declared.Pool.{Pool}
 use Rattle.laws.specs.Scans.{some-yes}
-use Rattle.invariant.proofs.Reached.{grantsOn, claims, claimed, Balance, gone, held as balanced, orphan, Reached}
+use Rattle.invariant.proofs.Reached.{grantsOn, claims, claimed, Balance, unclaimed, counted, orphan, Reached}
 use Rattle.invariant.proofs.Sums.{sum-some, some-one}
 use Rattle.invariant.proofs.Facts.{none-own}
 use Rattle.guarantee.proofs.Solo.{around-is}
@@ -22,18 +22,18 @@ use Rattle.guarantee.proofs.Solo.{around-is}
 module _ (p : Pool) (r : Reached p) where
   pub pins-held : ((c : ℕ) → client p c .stage ≡ 0) → (i : ℕ) → slot p i ≢ none → pinned 1 ≤ pins p (slot p i) → held p (slot p i) ≡ true
   unfolding held holds claimed grantsOn
-  pins-held rest i z h = go (r .counts .balance f z)
+  pins-held rest i z h = go (r .pin-counts .balance f z)
     where
       f : ℕ
       f = slot p i
 
       only-grants : (c : ℕ) → claims p c f ≡ grantsOn p c f
-      only-grants c = rw (rest c, r .counts .owns-none c (rw (rest c) tt)) (omega (arith, none-own f z))
+      only-grants c = rw (rest c, r .pin-counts .owns-none c (rw (rest c) tt)) (omega (arith, none-own f z))
 
       go : Balance p f (pins p f) (claimed p f) → held p f ≡ true
-      go (gone x y) = absurd (omega arith)
+      go (unclaimed x y) = absurd (omega arith)
       go (orphan o) = absurd (o .no-slot i refl)
-      go (balanced x) =
+      go (counted x) =
           let c = sum-some (λ c. claims p c f) (clientCount p) (λ q. omega arith) in
           let g = some-one (λ j. eqb (grantFrame p (c .0) j) f) (client p (c .0) .held) (λ q. c .2 (only-grants (c .0) ∙ q)) in
           some-yes (holds p f) (clientCount p) (c .0) (c .1) (some-yes (λ j. eqb (grantFrame p (c .0) j) f) (client p (c .0) .held) (g .0) (g .1) (g .2))

@@ -30,7 +30,7 @@ use Rattle.invariant.proofs.Effects.{Effect, effect}
 use Rattle.invariant.proofs.Ranges.{ranges-next}
 use Rattle.invariant.proofs.Places.{places-next}
 use Rattle.invariant.proofs.Private.{private-next}
-use Rattle.invariant.proofs.Counts.{counts-next}
+use Rattle.invariant.proofs.PinCounts.{pin-counts-next}
 use Rattle.invariant.proofs.Mapping.{mapping-next}
 use Rattle.invariant.proofs.Evictions.{evictions-next}
 use Rattle.invariant.proofs.Valid.{valid-reached}
@@ -46,7 +46,7 @@ reached-move p c m h r e =
       ranges = ranges-next e x;
       places = places-next x;
       private = private-next x;
-      counts = counts-next p c r e x;
+      pin-counts = pin-counts-next p c r e x;
       mapping = mapping-next p c r e x;
       evictions = evictions-next p c r e x;
     }

@@ -109,11 +109,11 @@ module _ {p : Pool} {c : ℕ} {m : Move} (x : Effect p c m) (s : EvictionsCondit
                 known : Knows 14 p k
                 known = know p r c 14 a
 
-                seat : (i : ℕ) × (slot p i ≡ k .victim)
-                seat = known .1 .1 (λ u. let e : pins p g ≡ evicted = ap (pins p) v ∙ u in let y : ⊥ = omega arith in y)
+                in-slot : (i : ℕ) × (slot p i ≡ k .victim)
+                in-slot = known .1 .1 (λ u. let e : pins p g ≡ evicted = ap (pins p) v ∙ u in let y : ⊥ = omega arith in y)
 
                 stands : slot p (k .place) ≡ f
-                stands = ap (slot p) (sym (r .evictions .victim-place c (seat .0) (rw a tt) (known .1 .0) (seat .1))) ∙ seat .1 ∙ sym (w ∙ v)
+                stands = ap (slot p) (sym (r .evictions .victim-place c (in-slot .0) (rw a tt) (known .1 .0) (in-slot .1))) ∙ in-slot .1 ∙ sym (w ∙ v)
 
                 out : (slot q (k .place) ≡ f) ⊎ TakenOut x f → slot q (m .next .place) ≡ f
                 out (inl u) = ap (slot q) pl ∙ u

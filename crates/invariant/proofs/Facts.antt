@@ -14,7 +14,7 @@ use Rattle.pool.specs.Stages.{raised}
 use Rattle.pool.specs.declared.Pool.{Pool}
 use Rattle.pool.specs.declared.Client.{Client}
 use Rattle.laws.specs.Choices.{by-test}
-use Rattle.invariant.proofs.Reached.{one, mapped, InSlot, grantsOn, claims, claimed, pinsFound, unplaced, examining, Orphan, Balance, gone, held, orphan}
+use Rattle.invariant.proofs.Reached.{one, mapped, InSlot, grantsOn, claims, claimed, pinsFound, unplaced, examining, Orphan, Balance, unclaimed, counted, orphan}
 use Rattle.invariant.proofs.Reached.{Reached}
 use Rattle.invariant.proofs.Flags.{T-true, T-false, and-false, examining-cases}
 use Rattle.invariant.proofs.After.{client-here}
@@ -76,11 +76,11 @@ module _ (p : Pool) (r : Reached p) where
         only d = foreign-claims p d f (r .private .own-unfound c d z) (λ i. r .private .own-ungranted c d i z)
 
     pub own-pins : pins p (client p c .own) ≡ pinned 1
-    own-pins = go (r .counts .balance (client p c .own) z)
+    own-pins = go (r .pin-counts .balance (client p c .own) z)
       where
         go : Balance p (client p c .own) (pins p (client p c .own)) (claimed p (client p c .own)) → pins p (client p c .own) ≡ pinned 1
-        go (gone x y) = omega (arith, own-claimed)
-        go (held x) = omega (arith, own-claimed)
+        go (unclaimed x y) = omega (arith, own-claimed)
+        go (counted x) = omega (arith, own-claimed)
         go (orphan o) = absurd (o .unowned c refl)
 
     -- so it is not evicted
@@ -90,7 +90,7 @@ module _ (p : Pool) (r : Reached p) where
   -- a claimed frame is pinned
   claimed-pinned : (c f : ℕ) → f ≢ none → 1 ≤ claims p c f → pinned 1 ≤ pins p f
   unfolding claimed
-  claimed-pinned c f z h = go (r .counts .balance f z)
+  claimed-pinned c f z h = go (r .pin-counts .balance f z)
     where
       here : c < clientCount p
       here = client-here p (λ k. client p c ≡ k) c refl (λ e. let y : ⊥ = omega (arith, rest-claims p c f z e) in y)
@@ -99,8 +99,8 @@ module _ (p : Pool) (r : Reached p) where
       all = omega (arith, sum-has (λ d. claims p d f) (clientCount p) c here)
 
       go : Balance p f (pins p f) (claimed p f) → pinned 1 ≤ pins p f
-      go (gone x y) = omega (arith, all)
-      go (held x) = omega (arith, all)
+      go (unclaimed x y) = omega (arith, all)
+      go (counted x) = omega (arith, all)
       go (orphan o) = omega (arith, all, orphan-claims p f o)
 
   -- so a held frame is, and the found frame where it is pinned for its client
@@ -138,7 +138,7 @@ module _ (p : Pool) (r : Reached p) where
   pub one-more : (c : ℕ) → c < clientCount p → client p c .stage ≢ 0 → T (not (pinsFound (client p c .stage))) → client p c .found ≢ none
       → pins p (client p c .found) ≢ evicted → pins p (client p c .found) < pinned 128
   unfolding claimed
-  one-more c h s t z live = go (r .counts .balance f z)
+  one-more c h s t z live = go (r .pin-counts .balance f z)
     where
       k : Client
       k = client p c
@@ -156,8 +156,8 @@ module _ (p : Pool) (r : Reached p) where
       all = sum-gap (λ d. claims p d f) (clientCount p) 8 c 1 h (λ d _. claims-least d f z) (omega (arith, mine))
 
       go : Balance p f (pins p f) (claimed p f) → pins p f < pinned 128
-      go (gone x y) = absurd (live x)
-      go (held x) = omega (arith, all, r .shape .clients-high)
+      go (unclaimed x y) = absurd (live x)
+      go (counted x) = omega (arith, all, r .shape .clients-high)
       go (orphan o) = absurd (o .unfound c refl)
 
   -- ---- victims
@@ -180,11 +180,11 @@ module _ (p : Pool) (r : Reached p) where
       two : pins p (client p d .victim) ≡ pinned 1
       two = ap (pins p) e ∙ own-pins c z
 
-      seat : (pins p (client p d .victim) ≢ evicted → InSlot p (client p d .victim)) → ⊥
-      seat s = let w = s (λ x. let n : ⊥ = omega (arith, two) in n) in r .places .unplaced-out c (w .0) u z (w .1 ∙ e)
+      in-slot : (pins p (client p d .victim) ≢ evicted → InSlot p (client p d .victim)) → ⊥
+      in-slot s = let w = s (λ x. let n : ⊥ = omega (arith, two) in n) in r .places .unplaced-out c (w .0) u z (w .1 ∙ e)
 
       go : (client p d .stage ≡ 12) ⊎ ((client p d .stage ≡ 13) ⊎ ((client p d .stage ≡ 14) ⊎ (client p d .stage ≡ 15))) → ⊥
-      go (inl q) = seat (know p r d 12 q .1 .1)
-      go (inr (inl q)) = seat (know p r d 13 q .1 .1)
-      go (inr (inr (inl q))) = seat (know p r d 14 q .1 .1)
+      go (inl q) = in-slot (know p r d 12 q .1 .1)
+      go (inr (inl q)) = in-slot (know p r d 13 q .1 .1)
+      go (inr (inr (inl q))) = in-slot (know p r d 14 q .1 .1)
       go (inr (inr (inr q))) = omega (arith, know p r d 15 q .1 .1, two)

@@ -33,7 +33,7 @@ pub mod Next
 pub mod Ranges
 pub mod Places
 pub mod Private
-pub mod Counts
+pub mod PinCounts
 pub mod Knowing
 pub mod Mapping
 pub mod Evictions

@@ -29,7 +29,7 @@ use Rattle.invariant.proofs.Edges.{Edge, on, found1, found18, lost2, lo
 use Rattle.invariant.proofs.Edges.{removes, admits, revives, evicts20, evicts23, begins, releases}
 use Rattle.invariant.proofs.Effects.{OwnOk, forgot, kept, taken, Opened, of-found, of-own, EntryOk, entries-stay, maps, unmaps, Effect}
 use Rattle.invariant.proofs.Next.{evicted-next, in-slot-next, mapped-next, page-next, by-own, by-mapped, all-grants}
-use Rattle.invariant.proofs.Counts.{orphan-stays, stranded}
+use Rattle.invariant.proofs.PinCounts.{orphan-stays, refused-orphan}
 use Rattle.invariant.proofs.Knowing.{knows-next, learns}
 
 -- ---- what a move has to show of its client
@@ -146,14 +146,14 @@ module _ {p : Pool} {c : ℕ} {m : Move} (x : Effect p c m) where
     resident-in-slot-next : pins q f ≢ evicted → mapped q f ≢ 0 → InSlot q f
     resident-in-slot-next l n = go (ℕ-discrete (mapped p f) 0)
       where
-        seat : (referenced p f ≡ false → ⊥) → InSlot p f → InSlot q f
-        seat a s = in-slot-next x f z (λ d. l (evicted-next x f z a d)) s
+        in-slot : (referenced p f ≡ false → ⊥) → InSlot p f → InSlot q f
+        in-slot a s = in-slot-next x f z (λ d. l (evicted-next x f z a d)) s
 
         go : Dec (mapped p f ≡ 0) → InSlot q f
-        go (yes e) = let w = new-entry e n in seat (by-own x f z c (sym (w .0))) (w .1)
+        go (yes e) = let w = new-entry e n in in-slot (by-own x f z c (sym (w .0))) (w .1)
         go (no e) =
             let a = by-mapped x f z e in
-            seat a (r .mapping .resident-in-slot f z (λ d. l (evicted-next x f z a d)) e)
+            in-slot a (r .mapping .resident-in-slot f z (λ d. l (evicted-next x f z a d)) e)
 
     mapped-or-owned-next : MappingCondition p c m → pins q f ≢ evicted → (mapped q f ≢ 0) ⊎ (((d : ℕ) × (client q d .own ≡ f)) ⊎ Orphan q f)
     mapped-or-owned-next t l = go (ℕ-discrete (m .next .own) f) fresh-or
@@ -285,12 +285,12 @@ module _ (p : Pool) (c : ℕ) (r : Reached p) where
   mapping-condition (lost22 e _) x = keeps-own refl refl (λ _. refl) (λ _. victimless-now 22 e tt)
   mapping-condition (pins2 e _) x = keeps-own refl refl never (λ _. victimless-now 2 e tt)
   mapping-condition (pins19 e _) x = keeps-own refl refl never (λ _. victimless-now 19 e tt)
-  mapping-condition (gets3 e) x = had-no-own (r .counts .owns-none c (rw e tt)) (λ _. refl) (λ _. refl)
-  mapping-condition (gets21 e) x = had-no-own (r .counts .owns-none c (rw e tt)) (λ _. refl) (λ _. refl)
-  mapping-condition (takes e _) x = had-no-own (r .counts .owns-none c (rw e tt)) (λ _. foundless-now 4 e tt) (λ _. victimless-now 4 e tt)
+  mapping-condition (gets3 e) x = had-no-own (r .pin-counts .owns-none c (rw e tt)) (λ _. refl) (λ _. refl)
+  mapping-condition (gets21 e) x = had-no-own (r .pin-counts .owns-none c (rw e tt)) (λ _. refl) (λ _. refl)
+  mapping-condition (takes e _) x = had-no-own (r .pin-counts .owns-none c (rw e tt)) (λ _. foundless-now 4 e tt) (λ _. victimless-now 4 e tt)
   mapping-condition (fills e _) x = keeps-own refl refl (λ _. foundless-now 8 e tt) (λ _. victimless-now 8 e tt)
   mapping-condition (swaps e _) x = keeps-own refl refl (λ _. foundless-now 15 e tt) never
-  mapping-condition (gives-up v _) x = forgets-own refl (λ _. refl) (λ _. refl) (λ z. inr (inr (stranded p c r x (v .is-unplaced) z)))
+  mapping-condition (gives-up v _) x = forgets-own refl (λ _. refl) (λ _. refl) (λ z. inr (inr (refused-orphan p c r x (v .is-unplaced) z)))
   mapping-condition (drops e _) x = keeps-own refl refl (λ _. foundless-now 14 e tt) never
   mapping-condition (removes e _) x = keeps-own refl refl (λ _. foundless-now 17 e tt) (λ _. refl)
   mapping-condition {m} (admits e _ u) x =
@@ -303,7 +303,7 @@ module _ (p : Pool) (c : ℕ) (r : Reached p) where
   mapping-condition {m} (evicts23 e) x =
       forgets-own refl (λ _. foundless-now 23 e tt) (λ _. victimless-now 23 e tt)
       (λ z. inr (inl (pins-here p c m (r .shape) (me .own) evicted refl (r .ranges .own-ok c z))))
-  mapping-condition (begins g e _) x = had-no-own (r .counts .owns-none c (rw e tt)) (λ _. foundless-now 0 e tt) (λ _. victimless-now 0 e tt)
+  mapping-condition (begins g e _) x = had-no-own (r .pin-counts .owns-none c (rw e tt)) (λ _. foundless-now 0 e tt) (λ _. victimless-now 0 e tt)
   mapping-condition (releases g e _) x = keeps-own refl refl (λ _. foundless-now 0 e tt) (λ _. victimless-now 0 e tt)
 
   pub mapping-next : {m : Move} → Edge p c m → Effect p c m → Mapping (apply p c m)

@@ -148,7 +148,7 @@ module _ (p : Pool) (r : Reached p) where
       few = few-frames p (r .shape)
 
       own-none : client p c .own ≡ none
-      own-none = r .counts .owns-none c (rw e tt)
+      own-none = r .pin-counts .owns-none c (rw e tt)
 
       second-none : second c ≡ none
       second-none = second-victim c (r .mapping .no-found c (rw e tt)) ∙ r .mapping .no-victim c (rw e tt)

@@ -83,8 +83,8 @@ pub record Orphan (p : Pool) (f : ℕ) : Type 0 where
 
 -- how a frame's pins, as stored, and the claims on it go together
 pub data Balance (p : Pool) (f q w : ℕ) : Type 0 where
-  gone : q ≡ evicted → w ≡ 0 → Balance p f q w
-  held : q ≡ suc w → Balance p f q w
+  unclaimed : q ≡ evicted → w ≡ 0 → Balance p f q w
+  counted : q ≡ suc w → Balance p f q w
   orphan : Orphan p f → Balance p f q w
 
 -- ---- what a client knows at its stage, whatever the others do
@@ -181,7 +181,7 @@ pub record Private (p : Pool) : Type 0 where
   pub own-ungranted : (c d i : ℕ) → client p c .own ≢ none → grantFrame p d i ≢ client p c .own
 
 -- pins and claims
-pub record Counts (p : Pool) : Type 0 where
+pub record PinCounts (p : Pool) : Type 0 where
   pub owns-none : (c : ℕ) → T (ownless (client p c .stage)) → client p c .own ≡ none
   pub balance : (f : ℕ) → f ≢ none → Balance p f (pins p f) (claimed p f)
 
@@ -215,6 +215,6 @@ pub record Reached (p : Pool) : Type 0 where
   pub ranges : Ranges p
   pub places : Places p
   pub private : Private p
-  pub counts : Counts p
+  pub pin-counts : PinCounts p
   pub mapping : Mapping p
   pub evictions : Evictions p

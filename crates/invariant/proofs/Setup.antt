@@ -16,7 +16,7 @@ use Rattle.pool.specs.declared.Pool.{Pool}
 use Rattle.pool.specs.declared.Client.{Client}
 use Rattle.laws.specs.Choices.{by-test}
 use Rattle.laws.specs.Scans.{both-true}
-use Rattle.invariant.proofs.Reached.{Shape, Reached, gone, one, mapped, claims, claimed, filling}
+use Rattle.invariant.proofs.Reached.{Shape, Reached, unclaimed, one, mapped, claims, claimed, filling}
 use Rattle.invariant.proofs.After.{few-frames, within-in, within-past}
 use Rattle.invariant.proofs.Sums.{sum-zero, sum-full}
 use Rattle.invariant.proofs.Searches.{grantFrame-past}
@@ -123,9 +123,9 @@ module _ (s t c h : ℕ) (ok : numbersOk s t c ≡ true) where
           own-unfound = λ d e z. absurd (z (ap (λ (k : Client). k .own) (rests d)));
           own-ungranted = λ d e i z. absurd (z (ap (λ (k : Client). k .own) (rests d)));
         };
-        counts = record {
+        pin-counts = record {
           owns-none = λ d _. ap (λ (k : Client). k .own) (rests d);
-          balance = λ f z. gone (pins-none f) (sum-zero (λ d. claims p d f) t (λ d _. rest-claims p d f z (rests d)));
+          balance = λ f z. unclaimed (pins-none f) (sum-zero (λ d. claims p d f) t (λ d _. rest-claims p d f z (rests d)));
         };
         mapping = record {
           entries-apart = λ i j z _. absurd (z (entry-none i));
