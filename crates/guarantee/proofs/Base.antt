@@ -14,7 +14,7 @@ use Rattle.pool.specs.declared.Move.{Move}
 use Rattle.pool.specs.declared.Write.the-variants.{PutEntry}
 use Rattle.invariant.proofs.Reached.{Reached}
 use Rattle.invariant.proofs.After.{shape-next, slot-kept, pins-kept, entryPage-else, entryFrame-here, entryFrame-else}
-use Rattle.invariant.proofs.Writes.{silent, untouched, lookup-kept}
+use Rattle.invariant.proofs.Writes.{countersOnly, untouched, lookup-kept}
 use Rattle.invariant.proofs.Searches.{lookup-found, lookup-none}
 
 -- ---- what stays as it was at the begin
@@ -27,7 +27,7 @@ pub record Base (p₀ p : Pool) (g : ℕ) : Type 0 where
 
 -- ---- a write that slots, pins and table do not see
 
-module _ (p : Pool) (c : ℕ) (m : Move) (r : Reached p) (t : T (silent (m .write))) where
+module _ (p : Pool) (c : ℕ) (m : Move) (r : Reached p) (t : T (countersOnly (m .write))) where
   pub slot-still : (i : ℕ) → slot (apply p c m) i ≡ slot p i
   slot-still = slot-kept p c m (untouched _ _ (m .write) t .slots)
 

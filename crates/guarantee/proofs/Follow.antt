@@ -30,7 +30,7 @@ use Rattle.invariant.proofs.After.{pins-in}
 use Rattle.invariant.proofs.Sums.{sum-zero, sum-has}
 use Rattle.invariant.proofs.Searches.{grantOf-found}
 use Rattle.invariant.proofs.Facts.{grant-pinned}
-use Rattle.invariant.proofs.Grants.{grantsOf, keeps, ends, grantsOf-keeps, grantsOf-ends}
+use Rattle.invariant.proofs.Grants.{grantsOf, grants-stay, grant-ends, grantsOf-keeps, grantsOf-ends}
 use Rattle.invariant.proofs.Valid.{valid-reached}
 use Rattle.invariant.proofs.Allowed.{Allowed, allowed, may-begin, may-step, may-release}
 use Rattle.invariant.proofs.Edges.{Edge}
@@ -124,7 +124,7 @@ module _ {p : Pool} {q : Sequential} (r : Reached p) (mirror : Mirrors p q) wher
           rule = begins e;
           weighs = refl;
           mirrors =
-              same-places acting m _ (keeps refl refl)
+              same-places acting m _ (grants-stay refl refl)
               (record {
                 stage = refl;
                 wants = λ _. refl;
@@ -181,7 +181,7 @@ module _ {p : Pool} {q : Sequential} (r : Reached p) (mirror : Mirrors p q) wher
               rule = releases e;
               weighs = refl;
               mirrors =
-                  same-places acting m _ (ends i refl refl (found .0))
+                  same-places acting m _ (grant-ends i refl refl (found .0))
                   (rests s (omega (arith, without-length g (t .grants) some, open-many (mirror .takers c) (rw s refl))) fewer)
                   (pins-put p c m r f (n - 1) refl (pins-in p f (λ w. omega (arith, two)))
                   (inl (ne-eqb (n - 1) evicted (λ w. omega (arith, two)) ∙ sym (ne-eqb n evicted (λ w. omega (arith, two))))));

@@ -22,8 +22,8 @@ use Rattle.invariant.proofs.Searches.{pins-named}
 use Rattle.invariant.proofs.Facts.{own-pins}
 use Rattle.invariant.proofs.Edges.{Edge}
 use Rattle.invariant.proofs.Steps.{call-edge}
-use Rattle.invariant.proofs.Effects.{OwnOk, forgot, kept, taken, effect}
-use Rattle.invariant.proofs.Next.{slot-now, slot-or-out}
+use Rattle.invariant.proofs.Effects.{OwnOk, own-forgotten, own-stays, own-taken, effect}
+use Rattle.invariant.proofs.Next.{slot-now, slot-or-replaced}
 use Rattle.invariant.proofs.Allowed.{allowed, only-step}
 use Rattle.invariant.proofs.Calls.{reached-call}
 use Rattle.guarantee.specs.Runs.{happens, events, At}
@@ -43,9 +43,9 @@ module _ (p : Pool) (r : Reached p) (f : ℕ) (z : f ≢ none) (unowned : (c : �
   not-own c m here w s e = by (effect p c here r w .own)
     where
       by : OwnOk p c m → ⊥
-      by (kept q _) = unowned c (sym q ∙ e)
-      by (forgot q) = z (sym e ∙ q)
-      by (taken q _ _ _) = s q
+      by (own-stays q _) = unowned c (sym q ∙ e)
+      by (own-forgotten q) = z (sym e ∙ q)
+      by (own-taken q _ _ _) = s q
 
   -- then a move puts it into no slot, so it is out if every slot that named it does no more
   out-move : (c : ℕ) (m : Move) → c < clientCount p → Edge p c m → m .next .own ≢ f → ((i : ℕ) → slot p i ≡ f → slot (apply p c m) i ≢ f) → Out (apply p c m) f
@@ -106,7 +106,7 @@ replaced-out p x f r z h =
       where
         -- a frame that leaves its slot is evicted, and an own frame is not
         dead : pins p f ≡ evicted
-        dead = elim (slot-or-out (effect p c here r w) f i z (h .named)) [ inl q ↦ absurd (n q) | inr q ↦ q .0 ]
+        dead = elim (slot-or-replaced (effect p c here r w) f i z (h .named)) [ inl q ↦ absurd (n q) | inr q ↦ q .0 ]
 
         unowned : (d : ℕ) → client p d .own ≢ f
         unowned d e = omega (arith, own-pins p r d (λ q. z (sym e ∙ q)), ap (pins p) e ∙ dead)

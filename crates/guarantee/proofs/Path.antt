@@ -28,7 +28,7 @@ use Rattle.pool.specs.declared.Write.the-variants.{TakeFrame}
 use Rattle.invariant.proofs.Reached.{one, filling, Reached}
 use Rattle.invariant.proofs.After.{slot-kept, pins-else}
 use Rattle.invariant.proofs.Sums.{sum-zero, sum-has}
-use Rattle.invariant.proofs.Writes.{silent, keepsTable, untouched, lookup-kept}
+use Rattle.invariant.proofs.Writes.{countersOnly, keepsTable, untouched, lookup-kept}
 use Rattle.invariant.proofs.Searches.{none-evicted, free-found, Fresh, fresh-means}
 use Rattle.invariant.proofs.Never.{finds-some}
 use Rattle.invariant.proofs.Flags.{T-false}
@@ -104,7 +104,7 @@ module _ (p₀ : Pool) (b g : ℕ) (reached : Reached p₀) (rest : (c : ℕ) �
     k = client p b
 
     -- the next pool is early, late
-    early : {i : ℕ} {m : Move} (j : ℕ) → Early p i → Goes p b m → m .next .stage ≡ j → m .next .page ≡ k .page → T (silent (m .write))
+    early : {i : ℕ} {m : Move} (j : ℕ) → Early p i → Goes p b m → m .next .stage ≡ j → m .next .page ≡ k .page → T (countersOnly (m .write))
         → Early (callOf p (Step b) .pool) j
     early {m = m} j e w s q t =
         record {
@@ -255,7 +255,7 @@ module _ (p₀ : Pool) (b g : ℕ) (reached : Reached p₀) (rest : (c : ℕ) �
         idle c (no q) = rw (o .alone c q) refl
 
     -- the sweep goes on, at m's place and with its busy run
-    sweeps : {i : ℕ} {m : Move} → On p b g i → Goes p b m → T (silent (m .write)) → freeAfter (p .free) (m .write) ≡ 0 → m .next .place < p .size
+    sweeps : {i : ℕ} {m : Move} → On p b g i → Goes p b m → T (countersOnly (m .write)) → freeAfter (p .free) (m .write) ≡ 0 → m .next .place < p .size
         → ((j : ℕ) → j < p .size → Behind (m .next .place) (m .next .busy) (p .size) j → pinned 1 ≤ pins p (slot p j))
         → Swept (callOf p (Step b) .pool)
     unfolding apply

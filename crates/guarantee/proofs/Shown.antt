@@ -12,7 +12,7 @@ use Rattle.pool.specs.declared.Move.{Move}
 use Rattle.pool.specs.declared.Write.the-variants.{PutSlot, PutPins, TakeFrame, PutEntry}
 use Rattle.invariant.proofs.Reached.{Reached, mapped}
 use Rattle.invariant.proofs.After.{slot-kept, slot-here, slot-else, slot-in, pins-kept, pins-here, pins-else}
-use Rattle.invariant.proofs.Writes.{silent, untouched}
+use Rattle.invariant.proofs.Writes.{countersOnly, untouched}
 use Rattle.invariant.proofs.Table.{mapped-none, mapped-kept, put-other, put-new}
 use Rattle.invariant.proofs.Searches.{none-evicted}
 use Rattle.guarantee.specs.Sequential.{Place, empty, holds}
@@ -36,7 +36,7 @@ module _ (p : Pool) (c : ℕ) (m : Move) (r : Reached p) where
   seen-kept a b f = seen-same p q f (ap (λ (x : ℕ). eqb x evicted) (pins-kept p c m a f)) (b f)
 
   -- a write that touches neither slots nor pins nor table
-  pub as-was : T (silent (m .write)) → Kept p c m
+  pub as-was : T (countersOnly (m .write)) → Kept p c m
   as-was t i =
       ap (seen q) (slot-kept p c m (untouched _ _ (m .write) t .slots) i)
       ∙ seen-kept (untouched _ _ (m .write) t .pins)

@@ -24,10 +24,10 @@ use Rattle.pool.specs.declared.GrantChange.the-variants.{Same}
 use Rattle.pool.specs.declared.Write.the-variants.{PutPins, PutEntry}
 use Rattle.invariant.proofs.Reached.{Reached, one, mapped, pinsFound, InSlot, FoundMapped, Placed, Orphan}
 use Rattle.invariant.proofs.After.{client-same, client-other, pins-in}
-use Rattle.invariant.proofs.Writes.{silent}
+use Rattle.invariant.proofs.Writes.{countersOnly}
 use Rattle.invariant.proofs.Sums.{sum-zero}
 use Rattle.invariant.proofs.Facts.{own-pins, grant-pinned}
-use Rattle.invariant.proofs.Grants.{grantsOf, Granting, keeps, opens, grantsOf-other, grantsOf-keeps, grantsOf-opens}
+use Rattle.invariant.proofs.Grants.{grantsOf, GrantsOk, grants-stay, grant-opens, grantsOf-other, grantsOf-keeps, grantsOf-opens}
 use Rattle.invariant.proofs.Table.{suc-not, some-suc}
 use Rattle.invariant.proofs.Searches.{pins-named}
 use Rattle.guarantee.specs.Sequential.{Place, empty, holds, Taker, Sequential, place, resting, taker, member, Absent, Unused, adding, admitting}
@@ -78,7 +78,7 @@ module _ {p : Pool} {c : ℕ} {q : Sequential} (acting : Acting p c q) where
   taken = mirror .takers c
 
   -- the pools after a move are alike if the places and the acting client are
-  module _ (m : Move) (next : Taker) (how : Granting p c m) (new : Taken (m .next) (grantsOf (apply p c m) c) next) where
+  module _ (m : Move) (next : Taker) (how : GrantsOk p c m) (new : Taken (m .next) (grantsOf (apply p c m) c) next) where
     takers-now : (d : ℕ) → Taken (client (apply p c m) d) (grantsOf (apply p c m) d) (getD (set (q .takers) c next) d (resting []))
     takers-now d = go (ℕ-discrete d c)
       where
@@ -113,8 +113,8 @@ module _ {p : Pool} {c : ℕ} {q : Sequential} (acting : Acting p c q) where
     same-held : m .next .held ≡ k .held
     same-held = ap (λ (x : Outward). x .held) o
 
-    keeping : Granting p c m
-    keeping = keeps (ap (λ (x : Outward). x .grants) o) same-held
+    keeping : GrantsOk p c m
+    keeping = grants-stay (ap (λ (x : Outward). x .grants) o) same-held
 
     works-on : k .stage ≢ 0 → Stays k (m .next) (grantsOf p c) (grantsOf (apply p c m) c) j
     works-on busy =
@@ -130,8 +130,8 @@ module _ {p : Pool} {c : ℕ} {q : Sequential} (acting : Acting p c q) where
     more-held : m .next .held ≡ k .held + 1
     more-held = ap (λ (x : Outward). x .held) o
 
-    opening : Granting p c m
-    opening = opens (k .page) f (ap (λ (x : Outward). x .grants) o) more-held room
+    opening : GrantsOk p c m
+    opening = grant-opens (k .page) f (ap (λ (x : Outward). x .grants) o) more-held room
 
     gets : Gets k (m .next) (grantsOf p c) (grantsOf (apply p c m) c)
     gets =
@@ -171,7 +171,7 @@ module _ {p : Pool} {c : ℕ} {q : Sequential} (acting : Acting p c q) where
         }
 
     pub answers-one : (i : ℕ) (u : Counted) → k .stage ≡ i → T (answering i) → pinsFound i ≡ true → gained u ≡ 0 → lost u ≡ 0 → FoundMapped p k → k .held < 8
-        → {m : Move} → outward m ≡ gotten k (k .found) u → T (silent (m .write)) → Simulates p c q m
+        → {m : Move} → outward m ≡ gotten k (k .found) u → T (countersOnly (m .write)) → Simulates p c q m
     answers-one i u e h pi no-gain no-loss know room {m} o s =
         let live : pins p (k .found) ≢ evicted = λ z. omega (arith, found-has-pin p r c (rw e pi)) in
         record {
@@ -225,7 +225,7 @@ module _ {p : Pool} {c : ℕ} {q : Sequential} (acting : Acting p c q) where
         unused : Unused q (k .own)
         unused g at = let v = shows r mirror at in suc-not (v .entry) (ap (mapped p) (v .frame) ∙ unmapped)
 
-    pub refuses-one : (i : ℕ) → k .stage ≡ i → pinsFound i ≡ false → {m : Move} → outward m ≡ denied k → T (silent (m .write)) → Simulates p c q m
+    pub refuses-one : (i : ℕ) → k .stage ≡ i → pinsFound i ≡ false → {m : Move} → outward m ≡ denied k → T (countersOnly (m .write)) → Simulates p c q m
     refuses-one i e pi {m} o s =
         record {
           places = q .places;
@@ -233,7 +233,7 @@ module _ {p : Pool} {c : ℕ} {q : Sequential} (acting : Acting p c q) where
           rule = rw (ap (λ (x : Outward). x .answer) o) refuses;
           weighs = rw (ap (λ (x : Outward). x .counted) o) refl;
           mirrors =
-              same-places m _ (keeps grants held)
+              same-places m _ (grants-stay grants held)
               (rests (ap (λ (x : Outward). x .stage) o) (open-many taken pk ∙ sym held)
               (λ g. open-grants taken pk g ∙ sym (grantsOf-keeps p c m (r .shape) here few grants held g))) (as-was p c m r s);
         }

@@ -21,9 +21,9 @@ use Rattle.invariant.proofs.Reached.{Reached, Knows}
 use Rattle.invariant.proofs.Searches.{lookup-found, unused-found, free-found, fresh-means, none-evicted}
 use Rattle.invariant.proofs.Table.{mapped-lookup}
 use Rattle.invariant.proofs.Never.{know}
-use Rattle.invariant.proofs.Edges.{Edge, on, found1, found18, lost2, lost22, pins2, pins19, gets3, gets21, takes, fills, swaps, gives-up, drops}
+use Rattle.invariant.proofs.Edges.{Edge, moves-on, found1, found18, forgets2, forgets22, pins2, pins19, gets3, gets21, takes, fills, replaces, refuses, drops}
 use Rattle.invariant.proofs.Edges.{removes, admits, revives, evicts20, evicts23, begins, releases}
-use Rattle.invariant.proofs.Effects.{quiet-silent}
+use Rattle.invariant.proofs.Effects.{counters-test}
 use Rattle.guarantee.specs.Sequential.{Sequential}
 use Rattle.guarantee.proofs.Takers.{working, outward, quiet, quiet-means, onward-quiet}
 use Rattle.guarantee.proofs.Shown.{Kept, as-was, pins-put, taken-frame, slot-put, entry-gone}
@@ -50,14 +50,14 @@ module _ {p : Pool} {c : ℕ} {q : Sequential} (acting : Acting p c q) (busy : c
   evicts i j e t z = passes i j e refl t (pins-put p c _ r (k .own) evicted refl (r .ranges .own-ok c z) (inr (r .private .own-unmapped c z)))
 
   pub simulated : {m : Move} → Edge p c m → Simulates p c q m
-  simulated {m} (on n j w h) =
+  simulated {m} (moves-on n j w h) =
       quietly acting busy (k .stage) j refl
       (λ i. record { answer = Working j; counted = Nothing; grants = Same; stage = j; page = h .same .page i; held = h .same .held i })
-      (onward-quiet (h .stages)) (as-was p c m r (quiet-silent (h .quiet)))
+      (onward-quiet (h .stages)) (as-was p c m r (counters-test (h .counters-only)))
   simulated {m} (found1 e _) = passes 1 2 e refl tt (as-was p c m r tt)
   simulated {m} (found18 e _) = passes 18 19 e refl tt (as-was p c m r tt)
-  simulated {m} (lost2 e _) = passes 2 4 e refl tt (as-was p c m r tt)
-  simulated {m} (lost22 e _) = passes 22 23 e refl tt (as-was p c m r tt)
+  simulated {m} (forgets2 e _) = passes 2 4 e refl tt (as-was p c m r tt)
+  simulated {m} (forgets22 e _) = passes 22 23 e refl tt (as-was p c m r tt)
   simulated (pins2 e l) = adds-one acting busy 2 3 e tt refl refl (known 2 e) l refl refl
   simulated (pins19 e l) = adds-one acting busy 19 20 e tt refl refl (known 19 e .1) l refl refl
   simulated (gets3 e) = answers-one acting busy 3 Hit e tt refl refl refl (known 3 e) room refl tt
@@ -68,10 +68,10 @@ module _ {p : Pool} {c : ℕ} {q : Sequential} (acting : Acting p c q) (busy : c
   simulated (fills e s) =
       passes 8 9 e refl tt
       (slot-put p c _ r (k .place) (k .own) refl (r .ranges .place-ok c) (r .private .own-unmapped c (known 8 e)) (ap (pins p) s ∙ none-evicted p (r .shape)))
-  simulated (swaps e s) =
+  simulated (replaces e s) =
       passes 15 16 e refl tt
       (slot-put p c _ r (k .place) (k .own) refl (r .ranges .place-ok c) (r .private .own-unmapped c (known 15 e .0)) (ap (pins p) s ∙ known 15 e .1 .1))
-  simulated (gives-up v _) = refuses-one acting busy (k .stage) refl (v .no-pin) refl tt
+  simulated (refuses v _) = refuses-one acting busy (k .stage) refl (v .no-pin) refl tt
   simulated (drops e h) = drops-one acting busy e (known 14 e .1 .0) h (known 14 e .1 .1 (λ z. omega arith)) refl refl
   simulated (removes e h) =
       let g : ℕ = page p (k .victim) in

@@ -18,7 +18,7 @@ use Rattle.pool.specs.declared.Counted.the-variants.{Refusal}
 use Rattle.pool.specs.declared.GrantChange.{GrantChange}
 use Rattle.pool.specs.declared.GrantChange.the-variants.{Same, Open}
 use Rattle.invariant.proofs.Reached.{one, pinsFound}
-use Rattle.invariant.proofs.Flags.{and-parts, at-most, alike, alike-same, Onward}
+use Rattle.invariant.proofs.Flags.{and-parts, at-most, iff, iff-same, Onward}
 use Rattle.guarantee.specs.Sequential.{Taker, resting, adding, dropping}
 use Rattle.guarantee.proofs.Mirror.{times, Taken, open-many, open-grants}
 
@@ -48,7 +48,7 @@ denied k = record { answer = Refused 15; counted = Refusal; grants = Same; stage
 -- ---- the steps that move no page and add no grant
 
 abbrev pub quiet : ℕ → ℕ → Bool
-quiet i j = not (adding i j || dropping i j) && (leb 1 j && (leb j 23 && alike (pinsFound j) (pinsFound i)))
+quiet i j = not (adding i j || dropping i j) && (leb 1 j && (leb j 23 && iff (pinsFound j) (pinsFound i)))
 
 pub record Quiet (i j : ℕ) : Type 0 where
   pub still : T (not (adding i j || dropping i j))
@@ -61,7 +61,7 @@ quiet-means i j h =
     let a = and-parts (not (adding i j || dropping i j)) _ h in
     let b = and-parts (leb 1 j) _ (a .1) in
     let d = and-parts (leb j 23) _ (b .1) in
-    record { still = a .0; low = at-most 1 j (b .0); high = at-most j 23 (d .0); pins-alike = alike-same (pinsFound j) (pinsFound i) (d .1) }
+    record { still = a .0; low = at-most 1 j (b .0); high = at-most j 23 (d .0); pins-alike = iff-same (pinsFound j) (pinsFound i) (d .1) }
 
 pub onward-quiet : {i j : ℕ} → Onward i j → Quiet i j
 onward-quiet h = record { still = h .plain-step; low = h .starts; high = h .stage-ok; pins-alike = h .pins-alike }

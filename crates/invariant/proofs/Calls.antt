@@ -59,7 +59,7 @@ did p c m = record { answer = m .answer; counted = m .counted; pool = apply p c 
 
 module _ (p : Pool) (x : Call) where
   pub never-stuck : Reached p → refusal p x ≡ 0 → refusalOf (moveOf p x .answer) ≢ 8
-  never-stuck r e = let w = call-edge p x r e in differ (refusalOf (moveOf p x .answer)) 8 (effect p (caller x) (w .0) r (w .1) .sound)
+  never-stuck r e = let w = call-edge p x r e in differ (refusalOf (moveOf p x .answer)) 8 (effect p (caller x) (w .0) r (w .1) .not-stuck)
 
   reached-next : Reached p → refusal p x ≡ 0 → Reached (apply p (caller x) (moveOf p x))
   reached-next r e = let w = call-edge p x r e in reached-move p (caller x) (moveOf p x) (w .0) r (w .1)

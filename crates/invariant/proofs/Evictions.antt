@@ -24,10 +24,10 @@ use Rattle.invariant.proofs.Never.{know}
 use Rattle.invariant.proofs.Flags.{T-not, never, differ, unmapsNone, examining-unplaced}
 use Rattle.invariant.proofs.Steps.{not-unmapping}
 use Rattle.invariant.proofs.Facts.{own-not-evicted, own-not-victim}
-use Rattle.invariant.proofs.Edges.{Examines, Edge, on, found1, found18, lost2, lost22, pins2, pins19, gets3, gets21, takes, fills, swaps, gives-up, drops}
+use Rattle.invariant.proofs.Edges.{Examines, Edge, moves-on, found1, found18, forgets2, forgets22, pins2, pins19, gets3, gets21, takes, fills, replaces, refuses, drops}
 use Rattle.invariant.proofs.Edges.{removes, admits, revives, evicts20, evicts23, begins, releases}
-use Rattle.invariant.proofs.Effects.{PinChange, adds, lowers, drops-victim, drops-own, takes-one, PinsOk, pins-stay, pins-put, unseen, Effect}
-use Rattle.invariant.proofs.Next.{SlotNow, TakenOut, slot-now, slot-or-out}
+use Rattle.invariant.proofs.Effects.{PinChange, adds, lowers, drops-victim, drops-own, takes-one, PinsOk, pins-stay, pins-put, counters-untouched, Effect}
+use Rattle.invariant.proofs.Next.{SlotNow, Replaced, slot-now, slot-or-replaced}
 use Rattle.invariant.proofs.Mapping.{new-entry}
 
 -- how many slots are empty
@@ -104,7 +104,7 @@ module _ {p : Pool} {c : ℕ} {m : Move} (x : Effect p c m) (s : EvictionsCondit
             by (yes w) (lowers l v) = absurd (let u = now w in let y : ⊥ = omega arith in y)
             by (yes w) (takes-one _ v) = absurd (let u = now w in let y : ⊥ = omega arith in y)
             by (yes w) (drops-own v _) = absurd (n (ap (mapped p) (w ∙ v) ∙ r .private .own-unmapped c (λ u. z (w ∙ v ∙ u))))
-            by (yes w) (drops-victim v one-pin _ a st vi pl) = inr (vi ∙ sym (w ∙ v), inr (st, out (slot-or-out x f (k .place) z stands)))
+            by (yes w) (drops-victim v one-pin _ a st vi pl) = inr (vi ∙ sym (w ∙ v), inr (st, out (slot-or-replaced x f (k .place) z stands)))
               where
                 known : Knows 14 p k
                 known = know p r c 14 a
@@ -115,7 +115,7 @@ module _ {p : Pool} {c : ℕ} {m : Move} (x : Effect p c m) (s : EvictionsCondit
                 stands : slot p (k .place) ≡ f
                 stands = ap (slot p) (sym (r .evictions .victim-place c (in-slot .0) (rw a tt) (known .1 .0) (in-slot .1))) ∙ in-slot .1 ∙ sym (w ∙ v)
 
-                out : (slot q (k .place) ≡ f) ⊎ TakenOut x f → slot q (m .next .place) ≡ f
+                out : (slot q (k .place) ≡ f) ⊎ Replaced x f → slot q (m .next .place) ≡ f
                 out (inl u) = ap (slot q) pl ∙ u
                 out (inr u) = absurd (let e : pins p g ≡ evicted = ap (pins p) (sym w) ∙ u .0 in let y : ⊥ = omega arith in y)
 
@@ -130,9 +130,9 @@ module _ {p : Pool} {c : ℕ} {m : Move} (x : Effect p c m) (s : EvictionsCondit
                 → T (unmapping (client p (w .0) .stage)) ⊎ ((client p (w .0) .stage ≡ 15) × (slot p (client p (w .0) .place) ≡ f))
                 → (d : ℕ) × WillUnmap q (client q d) f
             still e (inl l) = (w .0, rw e (w .1 .0, inl l))
-            still e (inr l) = go (slot-or-out x f (client p (w .0) .place) z (l .1))
+            still e (inr l) = go (slot-or-replaced x f (client p (w .0) .place) z (l .1))
               where
-                go : (slot q (client p (w .0) .place) ≡ f) ⊎ TakenOut x f → (d : ℕ) × WillUnmap q (client q d) f
+                go : (slot q (client p (w .0) .place) ≡ f) ⊎ Replaced x f → (d : ℕ) × WillUnmap q (client q d) f
                 go (inl u) = (w .0, rw e (w .1 .0, inr (l .0, u)))
                 go (inr u) = (c, rw at-c (u .2, inl (u .1)))
 
@@ -200,24 +200,24 @@ module _ (p : Pool) (c : ℕ) (r : Reached p) where
 
   evictions-condition : {m : Move} → Edge p c m → Effect p c m → EvictionsCondition p c m
   unfolding slotsAfter freeAfter
-  evictions-condition {m} (on n j w h) x =
+  evictions-condition {m} (moves-on n j w h) x =
       record {
-        empties = let f = h .fills in omega (arith, same-empty m (unseen _ _ (h .quiet) .slots));
+        empties = let f = h .fills in omega (arith, same-empty m (counters-untouched _ _ (h .counters-only) .slots));
         six-seen = h .six-seen;
         examines = h .examines;
         will-unmap = λ f z a _ l. shifted (h .will-unmap f z a l);
       }
     where
       at : (i : ℕ) → slot (apply p c m) i ≡ slot p i
-      at = slot-kept p c m (unseen _ _ (h .quiet) .slots)
+      at = slot-kept p c m (counters-untouched _ _ (h .counters-only) .slots)
 
       shifted : {f : ℕ} → WillUnmap p (m .next) f → WillUnmap (apply p c m) (m .next) f
       shifted (v, inl l) = (v, inl l)
       shifted (v, inr l) = (v, inr (l .0, at (n .place) ∙ l .1))
   evictions-condition (found1 e _) x = unexamined 1 e refl refl refl tt tt tt
   evictions-condition (found18 e _) x = unexamined 18 e refl refl refl tt tt tt
-  evictions-condition (lost2 e _) x = unexamined 2 e refl refl refl tt tt tt
-  evictions-condition (lost22 e _) x = unexamined 22 e refl refl refl tt tt tt
+  evictions-condition (forgets2 e _) x = unexamined 2 e refl refl refl tt tt tt
+  evictions-condition (forgets22 e _) x = unexamined 22 e refl refl refl tt tt tt
   evictions-condition (pins2 e _) x = unexamined 2 e refl refl refl tt tt tt
   evictions-condition (pins19 e _) x = unexamined 19 e refl refl refl tt tt tt
   evictions-condition (gets3 e) x = unexamined 3 e refl refl refl tt tt tt
@@ -230,7 +230,7 @@ module _ (p : Pool) (c : ℕ) (r : Reached p) where
         examines = never;
         will-unmap = λ f _ _ _ w. absurd (not-unmapping p me 8 e tt f w);
       }
-  evictions-condition {m} (swaps e h) x =
+  evictions-condition {m} (replaces e h) x =
       let z : slot p (me .place) ≢ none = λ w. known 15 e .1 .0 (sym h ∙ w) in
       record {
         empties = rw e (omega (arith, placing m 0 refl (known 15 e .0) (one-not _ _ z)));
@@ -238,7 +238,7 @@ module _ (p : Pool) (c : ℕ) (r : Reached p) where
         examines = never;
         will-unmap = λ f _ _ _ w. (w .0, inl tt);
       }
-  evictions-condition (gives-up v _) x = unexamined (me .stage) refl refl refl (v .no-fill) tt tt (v .no-unmap)
+  evictions-condition (refuses v _) x = unexamined (me .stage) refl refl refl (v .no-fill) tt tt (v .no-unmap)
   evictions-condition (drops e _) x =
       same-slots 14 e refl refl refl tt (λ _. inl (refl, refl, rw e tt)) (λ f _ _ _ w. absurd (not-unmapping p me 14 e tt f w))
   evictions-condition {m} (removes e h) x =

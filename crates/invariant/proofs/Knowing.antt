@@ -17,9 +17,9 @@ use Rattle.invariant.proofs.Each.{Each, fin, _also_, each-at}
 use Rattle.invariant.proofs.Table.{mapped-kept, lookup-mapped}
 use Rattle.invariant.proofs.Never.{know}
 use Rattle.invariant.proofs.Facts.{own-not-evicted}
-use Rattle.invariant.proofs.Edges.{Quiet, Edge, on, found1, found18, lost2, lost22, pins2, pins19, gets3, gets21, takes, fills, swaps, gives-up, drops}
+use Rattle.invariant.proofs.Edges.{CountersOnly, Edge, moves-on, found1, found18, forgets2, forgets22, pins2, pins19, gets3, gets21, takes, fills, replaces, refuses, drops}
 use Rattle.invariant.proofs.Edges.{removes, admits, revives, evicts20, evicts23, begins, releases}
-use Rattle.invariant.proofs.Effects.{unseen, Effect}
+use Rattle.invariant.proofs.Effects.{counters-untouched, Effect}
 use Rattle.invariant.proofs.Next.{evicted-next, in-slot-next, mapped-next, by-own, by-found, by-victim}
 
 -- ---- what a pool q keeps of a frame of p
@@ -105,13 +105,13 @@ module _ {p : Pool} {c : ℕ} {m : Move} (x : Effect p c m) where
 
 -- ---- each kind of move
 
--- a quiet write leaves every frame steady
-module _ (p : Pool) (c : ℕ) (r : Reached p) (m : Move) (w : Quiet p (m .write)) where
-  quiet-steady : (f : ℕ) → FrameStable p (apply p c m) f
-  quiet-steady f =
-      let a : (f : ℕ) → pins (apply p c m) f ≡ pins p f = pins-kept p c m (unseen _ _ w .pins) in
-      let b : mapped (apply p c m) f ≡ mapped p f = mapped-kept p c m (unseen _ _ w .entry-pages) (unseen _ _ w .entry-frames) f in
-      let d : (i : ℕ) → slot (apply p c m) i ≡ slot p i = slot-kept p c m (unseen _ _ w .slots) in
+-- a write of counters alone leaves every frame stable
+module _ (p : Pool) (c : ℕ) (r : Reached p) (m : Move) (w : CountersOnly p (m .write)) where
+  counters-stable : (f : ℕ) → FrameStable p (apply p c m) f
+  counters-stable f =
+      let a : (f : ℕ) → pins (apply p c m) f ≡ pins p f = pins-kept p c m (counters-untouched _ _ w .pins) in
+      let b : mapped (apply p c m) f ≡ mapped p f = mapped-kept p c m (counters-untouched _ _ w .entry-pages) (counters-untouched _ _ w .entry-frames) f in
+      let d : (i : ℕ) → slot (apply p c m) i ≡ slot p i = slot-kept p c m (counters-untouched _ _ w .slots) in
       record { stays-evicted = λ e. a f ∙ e; stays-mapped = λ _ g e. b ∙ e; stays-in-slot = λ _ s. (s .0, d (s .0) ∙ s .1) }
 
 module _ (p : Pool) (c : ℕ) (r : Reached p) where
@@ -132,28 +132,28 @@ module _ (p : Pool) (c : ℕ) (r : Reached p) where
 
   pub learns : {m : Move} → Edge p c m → Effect p c m → Knows (m .next .stage) (apply p c m) (m .next)
   unfolding slotsAfter pinsAfter entryPagesAfter entryFramesAfter
-  learns {m} (on n j w h) x =
+  learns {m} (moves-on n j w h) x =
       stable p (apply p c m) j (m .next)
       (record {
-        own = λ _. quiet-steady p c r m (h .quiet) (n .own);
+        own = λ _. counters-stable p c r m (h .counters-only) (n .own);
         own-not-evicted = λ z e. own-not-evicted p r c (λ y. z (h .same .own ∙ y)) (ap (pins p) (sym (h .same .own)) ∙ e);
-        found = λ _. quiet-steady p c r m (h .quiet) (n .found);
-        victim = λ _. quiet-steady p c r m (h .quiet) (n .victim);
+        found = λ _. counters-stable p c r m (h .counters-only) (n .found);
+        victim = λ _. counters-stable p c r m (h .counters-only) (n .victim);
       })
       (h .knows)
   learns {m} (found1 e z) x = looked m refl refl z
   learns {m} (found18 e z) x = (knows-next x c 18 e, looked m refl refl z)
-  learns (lost2 e _) x = tt
-  learns {m} (lost22 e _) x = knows-next x c 22 e .0
+  learns (forgets2 e _) x = tt
+  learns {m} (forgets22 e _) x = knows-next x c 22 e .0
   learns {m} (pins2 e l) x = pinned-now m x (known 2 e) l
   learns {m} (pins19 e l) x = (knows-next x c 19 e .0, pinned-now m x (known 19 e .1) l)
   learns (gets3 e) x = tt
   learns (gets21 e) x = tt
   learns (takes e z) x = z
   learns {m} (fills e _) x = (known 8 e, (k .place, slot-here p c m (r .shape) (k .place) (k .own) refl (r .ranges .place-ok c)))
-  learns {m} (swaps e _) x =
+  learns {m} (replaces e _) x =
       ((known 15 e .0, (k .place, slot-here p c m (r .shape) (k .place) (k .own) refl (r .ranges .place-ok c))), knows-next x c 15 e .1)
-  learns (gives-up _ _) x = tt
+  learns (refuses _ _) x = tt
   learns {m} (drops e _) x = let h = known 14 e in (h .0, (h .1 .0, pins-here p c m (r .shape) (k .victim) evicted refl (r .ranges .victim-ok c (h .1 .0))))
   learns {m} (removes e _) x = knows-next x c 17 e .0
   learns (admits e _ _) x = tt

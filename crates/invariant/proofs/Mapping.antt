@@ -25,9 +25,9 @@ use Rattle.invariant.proofs.Table.{put-apart, put-new, put-gone, put-ca
 use Rattle.invariant.proofs.Never.{know}
 use Rattle.invariant.proofs.Facts.{grant-pinned}
 use Rattle.invariant.proofs.Flags.{never, imp-mp}
-use Rattle.invariant.proofs.Edges.{Edge, on, found1, found18, lost2, lost22, pins2, pins19, gets3, gets21, takes, fills, swaps, gives-up, drops}
+use Rattle.invariant.proofs.Edges.{Edge, moves-on, found1, found18, forgets2, forgets22, pins2, pins19, gets3, gets21, takes, fills, replaces, refuses, drops}
 use Rattle.invariant.proofs.Edges.{removes, admits, revives, evicts20, evicts23, begins, releases}
-use Rattle.invariant.proofs.Effects.{OwnOk, forgot, kept, taken, Opened, of-found, of-own, EntryOk, entries-stay, maps, unmaps, Effect}
+use Rattle.invariant.proofs.Effects.{OwnOk, own-forgotten, own-stays, own-taken, Opened, of-found, of-own, EntryOk, entries-stay, maps, unmaps, Effect}
 use Rattle.invariant.proofs.Next.{evicted-next, in-slot-next, mapped-next, page-next, by-own, by-mapped, all-grants}
 use Rattle.invariant.proofs.PinCounts.{orphan-stays, refused-orphan}
 use Rattle.invariant.proofs.Knowing.{knows-next, learns}
@@ -223,9 +223,9 @@ module _ {p : Pool} {c : ℕ} {m : Move} (x : Effect p c m) where
       (λ d _ z. page-next x (client p d .own) z (by-own x (client p d .own) z d refl) ∙ r .mapping .own-page d z) (mine (x .own))
     where
       mine : OwnOk p c m → m .next .own ≢ none → page q (m .next .own) ≡ m .next .page
-      mine (forgot e) z = absurd (z e)
-      mine (taken _ h _ w) z = page-here p c m (r .shape) (m .next .own) (m .next .page) (rw w refl) h
-      mine (kept e _) z =
+      mine (own-forgotten e) z = absurd (z e)
+      mine (own-taken _ h _ w) z = page-here p c m (r .shape) (m .next .own) (m .next .page) (rw w refl) h
+      mine (own-stays e _) z =
           let o : k .own ≢ none = λ y. z (e ∙ y) in
           ap (page q) e ∙ page-next x (k .own) o (by-own x (k .own) o c refl) ∙ r .mapping .own-page c o ∙ sym (t .wants o e)
 
@@ -276,21 +276,21 @@ module _ (p : Pool) (c : ℕ) (r : Reached p) where
 
   mapping-condition : {m : Move} → Edge p c m → Effect p c m → MappingCondition p c m
   unfolding pinsAfter
-  mapping-condition (on n j w h) x =
+  mapping-condition (moves-on n j w h) x =
       keeps-own (h .same .own) (h .same .page)
       (λ t. h .same .found ∙ r .mapping .no-found c (imp-mp (foundless j) (foundless (me .stage)) (h .stages .from-foundless) t)) (h .no-victim)
   mapping-condition (found1 e _) x = keeps-own refl refl never (λ _. victimless-now 1 e tt)
   mapping-condition (found18 e _) x = keeps-own refl refl never (λ _. victimless-now 18 e tt)
-  mapping-condition (lost2 e _) x = keeps-own refl refl (λ _. refl) (λ _. victimless-now 2 e tt)
-  mapping-condition (lost22 e _) x = keeps-own refl refl (λ _. refl) (λ _. victimless-now 22 e tt)
+  mapping-condition (forgets2 e _) x = keeps-own refl refl (λ _. refl) (λ _. victimless-now 2 e tt)
+  mapping-condition (forgets22 e _) x = keeps-own refl refl (λ _. refl) (λ _. victimless-now 22 e tt)
   mapping-condition (pins2 e _) x = keeps-own refl refl never (λ _. victimless-now 2 e tt)
   mapping-condition (pins19 e _) x = keeps-own refl refl never (λ _. victimless-now 19 e tt)
   mapping-condition (gets3 e) x = had-no-own (r .pin-counts .owns-none c (rw e tt)) (λ _. refl) (λ _. refl)
   mapping-condition (gets21 e) x = had-no-own (r .pin-counts .owns-none c (rw e tt)) (λ _. refl) (λ _. refl)
   mapping-condition (takes e _) x = had-no-own (r .pin-counts .owns-none c (rw e tt)) (λ _. foundless-now 4 e tt) (λ _. victimless-now 4 e tt)
   mapping-condition (fills e _) x = keeps-own refl refl (λ _. foundless-now 8 e tt) (λ _. victimless-now 8 e tt)
-  mapping-condition (swaps e _) x = keeps-own refl refl (λ _. foundless-now 15 e tt) never
-  mapping-condition (gives-up v _) x = forgets-own refl (λ _. refl) (λ _. refl) (λ z. inr (inr (refused-orphan p c r x (v .is-unplaced) z)))
+  mapping-condition (replaces e _) x = keeps-own refl refl (λ _. foundless-now 15 e tt) never
+  mapping-condition (refuses v _) x = forgets-own refl (λ _. refl) (λ _. refl) (λ z. inr (inr (refused-orphan p c r x (v .is-unplaced) z)))
   mapping-condition (drops e _) x = keeps-own refl refl (λ _. foundless-now 14 e tt) never
   mapping-condition (removes e _) x = keeps-own refl refl (λ _. foundless-now 17 e tt) (λ _. refl)
   mapping-condition {m} (admits e _ u) x =

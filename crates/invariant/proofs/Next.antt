@@ -18,7 +18,7 @@ use Rattle.invariant.proofs.Reached.{Reached, mapped, InSlot, unplaced,
 use Rattle.invariant.proofs.After.{client-same, client-other, slot-kept, slot-here, slot-else, pins-kept, pins-here, pins-else, page-kept, page-else}
 use Rattle.invariant.proofs.Searches.{fresh-means}
 use Rattle.invariant.proofs.Table.{suc-not, mapped-entry, mapped-kept, put-other, put-cases}
-use Rattle.invariant.proofs.Grants.{grantPage-other, grantFrame-other, Comes, old, new, past, comes}
+use Rattle.invariant.proofs.Grants.{grantPage-other, grantFrame-other, GrantFrom, old, new, past, grant-from}
 use Rattle.invariant.proofs.Effects.{Vacant, SlotOk, slots-stay, puts, PinChange, adds, lowers, drops-victim, drops-own, takes-one, PinsOk, pins-stay}
 use Rattle.invariant.proofs.Effects.{pins-put, EntryOk, entries-stay, maps, unmaps, PageOk, pages-stay, paged, Effect}
 
@@ -41,9 +41,9 @@ module _ {p : Pool} {c : ℕ} {m : Move} (x : Effect p c m) where
   abbrev pub SlotNow : ℕ → Type 0
   SlotNow i = (slot q i ≡ slot p i) ⊎ ((slot q i ≡ k .own) × T (unplaced (k .stage)) × T (not (unplaced (m .next .stage))) × (k .own ≢ none))
 
-  -- frame f is evicted and the mover takes it out
-  abbrev pub TakenOut : ℕ → Type 0
-  TakenOut f = (pins p f ≡ evicted) × T (unmapping (m .next .stage)) × (m .next .victim ≡ f)
+  -- frame f is evicted and the mover replaces it in its slot
+  abbrev pub Replaced : ℕ → Type 0
+  Replaced f = (pins p f ≡ evicted) × T (unmapping (m .next .stage)) × (m .next .victim ≡ f)
 
   pub slot-now : (i : ℕ) → SlotNow i
   unfolding slotsAfter
@@ -57,15 +57,15 @@ module _ {p : Pool} {c : ℕ} {m : Move} (x : Effect p c m) where
           by (yes w) = inr (ap (slot q) w ∙ slot-here p c m (r .shape) j (k .own) (rw e refl) h, u, v, z)
           by (no w) = inl (slot-else p c m j (k .own) (rw e refl) i w)
 
-  pub slot-or-out : (f i : ℕ) → f ≢ none → slot p i ≡ f → (slot q i ≡ f) ⊎ TakenOut f
+  pub slot-or-replaced : (f i : ℕ) → f ≢ none → slot p i ≡ f → (slot q i ≡ f) ⊎ Replaced f
   unfolding slotsAfter
-  slot-or-out f i z s = go (x .slot)
+  slot-or-replaced f i z s = go (x .slot)
     where
-      go : SlotOk p c m → (slot q i ≡ f) ⊎ TakenOut f
+      go : SlotOk p c m → (slot q i ≡ f) ⊎ Replaced f
       go (slots-stay e) = inl (slot-kept p c m e i ∙ s)
       go (puts j e h _ _ _ v) = by (ℕ-discrete i j) v
         where
-          by : Dec (i ≡ j) → Vacant p c m j → (slot q i ≡ f) ⊎ TakenOut f
+          by : Dec (i ≡ j) → Vacant p c m j → (slot q i ≡ f) ⊎ Replaced f
           by (no w) _ = inl (slot-else p c m j (k .own) (rw e refl) i w ∙ s)
           by (yes w) (inl o) = absurd (z (sym s ∙ ap (slot p) w ∙ o))
           by (yes w) (inr o) =
@@ -95,9 +95,9 @@ module _ {p : Pool} {c : ℕ} {m : Move} (x : Effect p c m) where
             by (yes w) (takes-one ref′ _) = absurd (ref (ap (referenced p) w ∙ ref′))
 
     pub in-slot-next : pins p f ≢ evicted → InSlot p f → InSlot q f
-    in-slot-next l s = go (slot-or-out f (s .0) z (s .1))
+    in-slot-next l s = go (slot-or-replaced f (s .0) z (s .1))
       where
-        go : (slot q (s .0) ≡ f) ⊎ TakenOut f → InSlot q f
+        go : (slot q (s .0) ≡ f) ⊎ Replaced f → InSlot q f
         go (inl e) = (s .0, e)
         go (inr e) = absurd (l (e .0))
 
@@ -157,14 +157,14 @@ module _ {p : Pool} {c : ℕ} {m : Move} (x : Effect p c m) where
       few : (d : ℕ) → client p d .held ≤ 8
       few = r .ranges .held-ok
 
-      mine : Comes p c m (r .shape) here few i → i < m .next .held → P (grantPage q c i) (grantFrame q c i)
+      mine : GrantFrom p c m (r .shape) here few i → i < m .next .held → P (grantPage q c i) (grantFrame q c i)
       mine (old j l a b) _ = rw (a, b) (olds c j l)
       mine (new g f e a b) _ = rw (a, b) (opened g f e)
       mine (past l) u = absurd (let y : ⊥ = omega arith in y)
 
       go : Dec (d ≡ c) → P (grantPage q d i) (grantFrame q d i)
       go (yes e) =
-          rw e (mine (comes p c m (r .shape) here few (x .grants) i)
+          rw e (mine (grant-from p c m (r .shape) here few (x .grants) i)
           (let u : client q c .held ≡ m .next .held = ap (λ (n : Client). n .held) (client-same p c m (r .shape) here) in
           let v : client q d .held ≡ client q c .held = ap (λ (n : ℕ). client q n .held) e in omega arith))
       go (no e) =

@@ -27,9 +27,9 @@ use Rattle.invariant.proofs.Grants.{grantsOn-none, grantsOn-other, gran
 use Rattle.invariant.proofs.Never.{know}
 use Rattle.invariant.proofs.Facts.{none-own, foreign-claims, orphan-claims, own-pins, grant-pinned}
 use Rattle.invariant.proofs.Flags.{T-false, never, differ, imp-mp}
-use Rattle.invariant.proofs.Edges.{Edge, on, found1, found18, lost2, lost22, pins2, pins19, gets3, gets21, takes, fills, swaps, gives-up, drops}
+use Rattle.invariant.proofs.Edges.{Edge, moves-on, found1, found18, forgets2, forgets22, pins2, pins19, gets3, gets21, takes, fills, replaces, refuses, drops}
 use Rattle.invariant.proofs.Edges.{removes, admits, revives, evicts20, evicts23, begins, releases}
-use Rattle.invariant.proofs.Effects.{no-open, unseen, Effect}
+use Rattle.invariant.proofs.Effects.{no-open, counters-untouched, Effect}
 use Rattle.invariant.proofs.Next.{slot-now, all-grants}
 use Rattle.invariant.proofs.Private.{PrivateFrame, private-unmapped, private-unfound, private-ungranted}
 
@@ -253,14 +253,14 @@ module _ (p : Pool) (c : ℕ) (r : Reached p) where
 
   pin-counts-condition : {m : Move} → Edge p c m → (x : Effect p c m) → PinCountsCondition x
   unfolding pinsAfter claimed
-  pin-counts-condition (on n j w h) x =
+  pin-counts-condition (moves-on n j w h) x =
       same-claims x (λ t. h .same .own ∙ r .pin-counts .owns-none c (imp-mp (ownless j) (ownless (me .stage)) (h .stages .from-ownless) t))
-      (unseen _ _ (h .quiet) .pins) refl (h .same .held)
+      (counters-untouched _ _ (h .counters-only) .pins) refl (h .same .held)
       (λ f. rw (h .stages .pins-alike, h .same .found, h .same .own) refl)
   pin-counts-condition (found1 e _) x = same-claims x (λ _. r .pin-counts .owns-none c (rw e tt)) refl refl refl (λ f. rw e refl)
   pin-counts-condition (found18 e _) x = same-claims x never refl refl refl (λ f. rw e refl)
-  pin-counts-condition (lost2 e _) x = same-claims x (λ _. r .pin-counts .owns-none c (rw e tt)) refl refl refl (λ f. rw e refl)
-  pin-counts-condition (lost22 e _) x = same-claims x never refl refl refl (λ f. rw e refl)
+  pin-counts-condition (forgets2 e _) x = same-claims x (λ _. r .pin-counts .owns-none c (rw e tt)) refl refl refl (λ f. rw e refl)
+  pin-counts-condition (forgets22 e _) x = same-claims x never refl refl refl (λ f. rw e refl)
   pin-counts-condition (pins2 e l) x = pins-found x 2 e tt refl (λ _. r .pin-counts .owns-none c (rw e tt)) refl refl refl refl refl (known 2 e .0) l
   pin-counts-condition (pins19 e l) x = pins-found x 19 e tt refl never refl refl refl refl refl (known 19 e .1 .0) l
   pin-counts-condition (gets3 e) x =
@@ -282,8 +282,8 @@ module _ (p : Pool) (c : ℕ) (r : Reached p) where
       none-of : (d : ℕ) → claims p d (freeFrame p) ≡ 0
       none-of d = foreign-claims p d (freeFrame p) (fresh .no-found d) (fresh .no-grant d) ∙ one-not _ _ (fresh .no-own d)
   pin-counts-condition (fills e _) x = same-claims x never refl refl refl (λ f. rw e refl)
-  pin-counts-condition (swaps e _) x = same-claims x never refl refl refl (λ f. rw e refl)
-  pin-counts-condition {m} (gives-up v _) x = record { owns = λ _. refl; change = λ f z. go f z (ℕ-discrete (me .own) f) }
+  pin-counts-condition (replaces e _) x = same-claims x never refl refl refl (λ f. rw e refl)
+  pin-counts-condition {m} (refuses v _) x = record { owns = λ _. refl; change = λ f z. go f z (ℕ-discrete (me .own) f) }
     where
       go : (f : ℕ) → f ≢ none → Dec (me .own ≡ f) → Change p (apply p c m) f (pins p f) (pins (apply p c m) f) (claims p c f) (claims (apply p c m) c f)
       go f z (yes h) =

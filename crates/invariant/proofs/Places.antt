@@ -14,7 +14,7 @@ use Rattle.invariant.proofs.After.{client-same, client-other, all-clien
 use Rattle.invariant.proofs.Apart.{apart-put, apart-same}
 use Rattle.invariant.proofs.Searches.{fresh-means}
 use Rattle.invariant.proofs.Flags.{T-not, imp-mp}
-use Rattle.invariant.proofs.Effects.{OwnOk, forgot, kept, taken, SlotOk, slots-stay, puts, Effect}
+use Rattle.invariant.proofs.Effects.{OwnOk, own-forgotten, own-stays, own-taken, SlotOk, slots-stay, puts, Effect}
 use Rattle.invariant.proofs.Next.{SlotNow, slot-now}
 
 module _ {p : Pool} {c : ℕ} {m : Move} (x : Effect p c m) where
@@ -35,9 +35,9 @@ module _ {p : Pool} {c : ℕ} {m : Move} (x : Effect p c m) where
   own-new d o z = go (x .own)
     where
       go : OwnOk p c m → client p d .own ≢ m .next .own
-      go (forgot e) = absurd (z e)
-      go (kept e _) = λ h. o (r .places .owns-apart d c (λ n. z (sym h ∙ n)) (h ∙ e))
-      go (taken _ _ e _) = fresh-means p (m .next .own) z e .no-own d
+      go (own-forgotten e) = absurd (z e)
+      go (own-stays e _) = λ h. o (r .places .owns-apart d c (λ n. z (sym h ∙ n)) (h ∙ e))
+      go (own-taken _ _ e _) = fresh-means p (m .next .own) z e .no-own d
 
   owns-next : Apart (λ d. client q d .own) none
   owns-next =
@@ -74,10 +74,10 @@ module _ {p : Pool} {c : ℕ} {m : Move} (x : Effect p c m) where
         where
           by : OwnOk p c m → SlotNow x i → slot q i ≢ m .next .own
           by _ (inr e) = absurd (T-not (unplaced (m .next .stage)) (e .2) t)
-          by (forgot n) (inl e) = absurd (z n)
-          by (kept n u) (inl e) =
+          by (own-forgotten n) (inl e) = absurd (z n)
+          by (own-stays n u) (inl e) =
               λ h. r .places .unplaced-out c i (imp-mp (unplaced (m .next .stage)) (unplaced (k .stage)) u t) (λ w. z (n ∙ w)) (sym e ∙ h ∙ n)
-          by (taken _ _ n _) (inl e) = λ h. fresh-means p (m .next .own) z n .no-slot i (sym e ∙ h)
+          by (own-taken _ _ n _) (inl e) = λ h. fresh-means p (m .next .own) z n .no-slot i (sym e ∙ h)
 
   pub places-next : Places q
   places-next = record { slots-apart = slots-next; owns-apart = owns-next; unplaced-out = out-next }

@@ -12,7 +12,7 @@ use Rattle.invariant.proofs.Reached.{Reached, Private, mapped}
 use Rattle.invariant.proofs.After.{all-clients}
 use Rattle.invariant.proofs.Searches.{fresh-means, grant-in}
 use Rattle.invariant.proofs.Table.{mapped-zero}
-use Rattle.invariant.proofs.Effects.{OwnOk, forgot, kept, taken, FoundOk, found-stays, lost, looked, Opened, of-found, of-own, Effect}
+use Rattle.invariant.proofs.Effects.{OwnOk, own-forgotten, own-stays, own-taken, FoundOk, found-stays, found-forgotten, found-looked-up, Opened, of-found, of-own, Effect}
 use Rattle.invariant.proofs.Next.{unmapped-next, all-grants}
 
 -- no entry, no found frame and no grant names it, and it is not the own frame that the mover, whose next record is n, gives away
@@ -42,8 +42,8 @@ module _ {p : Pool} {c : ℕ} {m : Move} (x : Effect p c m) where
       where
         mine : FoundOk p c m → m .next .found ≢ f
         mine (found-stays e) = λ w. s .unfound c (sym e ∙ w)
-        mine (lost e) = λ w. z (sym w ∙ e)
-        mine (looked _ n) = λ w. n (ap (mapped p) w ∙ s .unmapped)
+        mine (found-forgotten e) = λ w. z (sym w ∙ e)
+        mine (found-looked-up _ n) = λ w. n (ap (mapped p) w ∙ s .unmapped)
 
     pub private-ungranted : (d i : ℕ) → grantFrame q d i ≢ f
     private-ungranted d i w =
@@ -66,8 +66,8 @@ module _ {p : Pool} {c : ℕ} {m : Move} (x : Effect p c m) where
           }
 
       mine : OwnOk p c m → m .next .own ≢ none → PrivateFrame p c (m .next) (m .next .own)
-      mine (forgot e) z = absurd (z e)
-      mine (kept e _) z =
+      mine (own-forgotten e) z = absurd (z e)
+      mine (own-stays e _) z =
           let o : client p c .own ≢ none = λ w. z (e ∙ w) in
           record {
             unmapped = ap (mapped p) e ∙ r .private .own-unmapped c o;
@@ -75,7 +75,7 @@ module _ {p : Pool} {c : ℕ} {m : Move} (x : Effect p c m) where
             ungranted = λ d i w. r .private .own-ungranted c d i o (w ∙ e);
             not-forgotten = λ w. absurd (z w);
           }
-      mine (taken _ _ e _) z =
+      mine (own-taken _ _ e _) z =
           let f = fresh-means p (m .next .own) z e in
           record { unmapped = mapped-zero p (m .next .own) (f .no-entry); unfound = f .no-found; ungranted = f .no-grant; not-forgotten = λ _. f .no-own c }
 

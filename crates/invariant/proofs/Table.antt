@@ -83,26 +83,26 @@ module _ (p : Pool) (c : ℕ) (m : Move) where
   q = apply p c m
 
   -- place i has the entry that it had, or has and had another frame than f
-  abbrev Alike : ℕ → ℕ → Type 0
-  Alike f i = ((entryFrame q i ≡ entryFrame p i) × (entryPage q i ≡ entryPage p i)) ⊎ ((entryFrame p i ≢ f) × (entryFrame q i ≢ f))
+  abbrev SameEntry : ℕ → ℕ → Type 0
+  SameEntry f i = ((entryFrame q i ≡ entryFrame p i) × (entryPage q i ≡ entryPage p i)) ⊎ ((entryFrame p i ≢ f) × (entryFrame q i ≢ f))
 
-  mapped-alike : (f : ℕ) → ((i : ℕ) → Alike f i) → mapped q f ≡ mapped p f
+  mapped-same : (f : ℕ) → ((i : ℕ) → SameEntry f i) → mapped q f ≡ mapped p f
   unfolding mapped apply
-  mapped-alike f h =
+  mapped-same f h =
       scan-same (λ i. eqb (entryFrame q i) f) (λ i. eqb (entryFrame p i) f) (λ i. suc (entryPage q i)) (λ i. suc (entryPage p i)) 0 0 (total p)
       (λ i _. tests i (h i)) (λ i _ t. pages i (eqb-true _ _ t) (h i))
     where
-      tests : (i : ℕ) → Alike f i → eqb (entryFrame q i) f ≡ eqb (entryFrame p i) f
+      tests : (i : ℕ) → SameEntry f i → eqb (entryFrame q i) f ≡ eqb (entryFrame p i) f
       tests i (inl e) = ap (λ (x : ℕ). eqb x f) (e .0)
       tests i (inr e) = ne-eqb _ _ (e .1) ∙ sym (ne-eqb _ _ (e .0))
 
-      pages : (i : ℕ) → entryFrame p i ≡ f → Alike f i → suc (entryPage q i) ≡ suc (entryPage p i)
+      pages : (i : ℕ) → entryFrame p i ≡ f → SameEntry f i → suc (entryPage q i) ≡ suc (entryPage p i)
       pages i w (inl e) = ap suc (e .1)
       pages i w (inr e) = absurd (e .0 w)
 
   pub mapped-kept : EntryPagesStay p (m .write) → EntryFramesStay p (m .write)
       → (f : ℕ) → mapped q f ≡ mapped p f
-  mapped-kept a b f = mapped-alike f (λ i. inl (entryFrame-kept p c m b i, entryPage-kept p c m a i))
+  mapped-kept a b f = mapped-same f (λ i. inl (entryFrame-kept p c m b i, entryPage-kept p c m a i))
 
   -- one entry is put: at place j, page g and frame f
   module _ (shape : Shape p) (j g f : ℕ) (e : m .write ≡ PutEntry j g f) (here : j < total p) where
@@ -124,9 +124,9 @@ module _ (p : Pool) (c : ℕ) (m : Move) where
 
     -- the frames that are neither the one put nor the one replaced keep their entries
     pub put-other : (x : ℕ) → x ≢ f → x ≢ entryFrame p j → mapped q x ≡ mapped p x
-    put-other x a b = mapped-alike x (λ i. go i (ℕ-discrete i j))
+    put-other x a b = mapped-same x (λ i. go i (ℕ-discrete i j))
       where
-        go : (i : ℕ) → Dec (i ≡ j) → Alike x i
+        go : (i : ℕ) → Dec (i ≡ j) → SameEntry x i
         go i (no w) = inl (else-frame i w, else-page i w)
         go i (yes w) = inr (λ r. b (sym r ∙ ap (entryFrame p) w), λ r. a (sym r ∙ ap (entryFrame q) w ∙ put-frame))
 
