@@ -1,5 +1,5 @@
 -- What stays as it was at a begin while its client runs alone and has written nothing that shows: slots, look-up, and the pins of the frames in slots.
--- Every silent write leaves them, and emptying an entry leaves an absent page absent. Assumes nothing.
+-- Every write of counters alone leaves them, and emptying an entry leaves an absent page absent. Assumes nothing.
 use mathlib.Core.Path.{_≡_, sym, ap, subst, _∙_}
 use mathlib.Core.Logic.{_≢_}
 use mathlib.Core.List.{[]}
@@ -58,7 +58,7 @@ emptied p c i x m e r g a = elim (ℕ-discrete (lookup q g) none) [ yes n ↦ n 
     by : lookup q g ≢ none → Dec (entryOf q g ≡ i) → ⊥
     by z (yes n) =
         let f = lookup-found q (shape-next p c m (r .shape)) g z in
-        z (sym (f .entry-frame) ∙ (ap (entryFrame q) n ∙ entryFrame-here p c m (r .shape) i none frames (subst (λ (y : ℕ). y < total p) n (f .place))))
+        z (sym (f .entry-frame) ∙ (ap (entryFrame q) n ∙ entryFrame-here p c m (r .shape) i none frames (subst (λ (y : ℕ). y < total p) n (f .inside))))
     by z (no n) =
         let f = lookup-found q (shape-next p c m (r .shape)) g z in
         lookup-none p (r .shape) g a (entryOf q g)

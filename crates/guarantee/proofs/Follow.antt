@@ -35,7 +35,7 @@ use Rattle.invariant.proofs.Valid.{valid-reached}
 use Rattle.invariant.proofs.Allowed.{Allowed, allowed, may-begin, may-step, may-release}
 use Rattle.invariant.proofs.Edges.{Edge}
 use Rattle.invariant.proofs.Steps.{call-edge}
-use Rattle.invariant.proofs.Calls.{did, call-moves, call-turned}
+use Rattle.invariant.proofs.Calls.{outcomeOf, call-moves, call-turned}
 use Rattle.guarantee.specs.Sequential.{Taker, Sequential, taker, member, without, turnedBy, Rule, turns, begins, releases, steps}
 use Rattle.guarantee.proofs.Turned.{moved}
 use Rattle.guarantee.proofs.Mirror.{times, not-member, is-member, without-times, without-length, Mirrors, open-many, open-grants}
@@ -155,7 +155,7 @@ module _ {p : Pool} {q : Sequential} (r : Reached p) (mirror : Mirrors p q) wher
         n = pins p f
 
         Ends : Move → Type 0
-        Ends m = Followed q (Release c g) (did p c m)
+        Ends m = Followed q (Release c g) (outcomeOf p c m)
 
         m : Move
         m = completes g (holding k (k .held - 1)) (End i (k .held - 1)) (PutPins f (n - 1))

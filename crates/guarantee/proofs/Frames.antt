@@ -12,7 +12,7 @@ use Rattle.pool.specs.declared.Pool.{Pool}
 use Rattle.pool.specs.declared.Client.{Client}
 use Rattle.invariant.proofs.Reached.{Reached, mapped, pinsFound, Knows, FoundMapped}
 use Rattle.laws.specs.Scans.{some-true}
-use Rattle.invariant.proofs.Never.{know}
+use Rattle.invariant.proofs.NeverFails.{know}
 use Rattle.invariant.proofs.Facts.{grant-pinned, found-pinned}
 use Rattle.invariant.proofs.Table.{mapped-lookup}
 use Rattle.guarantee.specs.Claims.{HeldPinned}
@@ -40,7 +40,7 @@ module _ (p : Pool) (r : Reached p) where
   -- a page has one frame
   pub same-frame : (f h g : ℕ) → f ≢ none → h ≢ none → mapped p f ≡ suc g → mapped p h ≡ suc g → f ≡ h
   same-frame f h g a b x y =
-      let frame-of = mapped-lookup p (r .shape) (r .mapping .pages-apart) in
+      let frame-of = mapped-lookup p (r .shape) (r .mapping .pages-distinct) in
       sym (frame-of f g a x .1) ∙ frame-of h g b y .1
 
   module _ (c : ℕ) (e : pinsFound (client p c .stage) ≡ true) where

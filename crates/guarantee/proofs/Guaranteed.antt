@@ -12,7 +12,7 @@ use Rattle.pool.specs.declared.Pool.{Pool}
 use Rattle.invariant.proofs.Reached.{Reached}
 use Rattle.invariant.proofs.After.{client-here}
 use Rattle.invariant.proofs.Valid.{valid-reached}
-use Rattle.invariant.proofs.Never.{finds}
+use Rattle.invariant.proofs.NeverFails.{finds}
 use Rattle.guarantee.specs.Claims.{Claim-point3, Claim-answers, Guarantee}
 use Rattle.guarantee.proofs.Along.{throughout}
 use Rattle.guarantee.proofs.Copies.{one-copies, helds-pinned, no-held-evicted}

@@ -20,7 +20,7 @@ use Rattle.pool.specs.declared.Call.the-variants.{Begin, Step, Release}
 use Rattle.pool.specs.declared.Answer.the-variants.{Refused}
 use Rattle.laws.specs.Choices.{by-test}
 use Rattle.invariant.proofs.Reached.{Knows, Reached}
-use Rattle.invariant.proofs.Flags.{and-parts}
+use Rattle.invariant.proofs.StageTests.{and-parts}
 use Rattle.invariant.proofs.Calls.{never-stuck, call-moves, call-turned, refusal-not-8}
 use Rattle.guarantee.specs.Runs.{Event, events, At}
 use Rattle.guarantee.specs.Claims.{Listed}

@@ -102,7 +102,7 @@ replaced-out p x f r z h =
     out here w n =
         out-move p r f z unowned c m here w
         (not-own p r f z unowned c m here w (λ s. let y : _≡_ {A = ℕ} 15 4 = sym (h .step-of .1) ∙ s in omega arith))
-        (λ j s e. n (ap (slot (apply p c m)) (sym (r .places .slots-apart j i (λ q. z (sym s ∙ q)) (s ∙ sym (h .named)))) ∙ e))
+        (λ j s e. n (ap (slot (apply p c m)) (sym (r .places .slots-distinct j i (λ q. z (sym s ∙ q)) (s ∙ sym (h .named)))) ∙ e))
       where
         -- a frame that leaves its slot is evicted, and an own frame is not
         dead : pins p f ≡ evicted

@@ -18,7 +18,7 @@ use Rattle.pool.specs.declared.Move.{Move}
 use Rattle.pool.specs.declared.Call.{Call}
 use Rattle.pool.specs.declared.Call.the-variants.{Begin, Step, Release}
 use Rattle.invariant.proofs.Reached.{pinsFound, Reached}
-use Rattle.invariant.proofs.Flags.{T-false, and-parts}
+use Rattle.invariant.proofs.StageTests.{T-false, and-parts}
 use Rattle.invariant.proofs.Allowed.{may-begin, may-release}
 use Rattle.invariant.proofs.Calls.{reached-call}
 use Rattle.guarantee.specs.Runs.{Event, happens, events, At, Begins, GrantedTo}

@@ -35,11 +35,11 @@ module _ {p : Pool} {q : Sequential} (r : Reached p) (mirror : Mirrors p q) wher
       to h =
           let v = shows h in
           let s : ℕ = slot p (h .0) in
-          let e : lookup p g ≡ s = mapped-lookup p (r .shape) (r .mapping .pages-apart) s g (pins-named p (r .shape) s (v .live)) (v .entry) .1 in
+          let e : lookup p g ≡ s = mapped-lookup p (r .shape) (r .mapping .pages-distinct) s g (pins-named p (r .shape) s (v .live)) (v .entry) .1 in
           (rw (e, ne-eqb (pins p s) evicted (v .live)) refl, e ∙ v .frame)
 
       back : (not (eqb (pins p (lookup p g)) evicted) ≡ true) × (lookup p g ≡ f) → Keeps q g f
       back (h, e) =
           let live : pins p (lookup p g) ≢ evicted = eqb-false _ _ (not-true _ h) in
           let z = pins-named p (r .shape) (lookup p g) live in
-          rw e at (there z live (lookup-mapped p (r .shape) (r .mapping .entries-apart) g z))
+          rw e at (there z live (lookup-mapped p (r .shape) (r .mapping .entries-distinct) g z))

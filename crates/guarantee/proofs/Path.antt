@@ -29,9 +29,9 @@ use Rattle.invariant.proofs.Reached.{one, filling, Reached}
 use Rattle.invariant.proofs.After.{slot-kept, pins-else}
 use Rattle.invariant.proofs.Sums.{sum-zero, sum-has}
 use Rattle.invariant.proofs.Writes.{countersOnly, keepsTable, untouched, lookup-kept}
-use Rattle.invariant.proofs.Searches.{none-evicted, free-found, Fresh, fresh-means}
-use Rattle.invariant.proofs.Never.{finds-some}
-use Rattle.invariant.proofs.Flags.{T-false}
+use Rattle.invariant.proofs.Searches.{none-evicted, free-found, Unreferenced, unreferenced-means}
+use Rattle.invariant.proofs.NeverFails.{finds-some}
+use Rattle.invariant.proofs.StageTests.{T-false}
 use Rattle.invariant.proofs.Steps.{around-ok}
 use Rattle.guarantee.specs.Claims.{AllHeld}
 use Rattle.guarantee.proofs.SoloSteps.{On, Goes, answer-is, on-next, go1, go1-found, go2, go3, go4, go5, go5-none, go6, go7, go8, go8-on, go9, go10}
@@ -152,7 +152,7 @@ module _ (p₀ : Pool) (b g : ℕ) (reached : Reached p₀) (rest : (c : ℕ) �
         let w = go4 p b g o in
         let m : Move = works (withOwn k (freeFrame p)) 5 (TakeFrame (freeFrame p) (k .page) (pinned 1) 1) in
         let z : freeFrame p ≢ none = finds-some p (o .reached) b (o .here) (o .stage) in
-        let fresh : Fresh p (freeFrame p) = fresh-means p (freeFrame p) z (free-found p (o .reached .shape) z .1) in
+        let fresh : Unreferenced p (freeFrame p) = unreferenced-means p (freeFrame p) z (free-found p (o .reached .shape) z .1) in
         goes-on 5 (answer-is w) (at5 (record {
           on = on-next w 5 o refl refl;
           base = next-is o w (λ q _. Base p₀ q g) (record {

@@ -13,7 +13,7 @@ use Rattle.pool.specs.declared.Pool.{Pool}
 use Rattle.pool.specs.declared.Call.{Call}
 use Rattle.pool.specs.declared.Answer.the-variants.{Done}
 use Rattle.invariant.proofs.Reached.{Reached}
-use Rattle.invariant.proofs.Setup.{pins-none, rests}
+use Rattle.invariant.proofs.Setup.{setup-evicted, setup-rests}
 use Rattle.invariant.proofs.Calls.{reached-call}
 use Rattle.guarantee.specs.Sequential.{Sequential, empty, resting, start}
 use Rattle.guarantee.specs.Claims.{Follows, ends, goes}
@@ -44,10 +44,10 @@ view-start s t c h ok = λ i. record { places = all-same _ s empty vacant i; tak
     p = fresh s t c h
 
     vacant : (i : ℕ) → seen p (slot p i) ≡ empty
-    vacant i = seen-evicted p (slot p i) (pins-none s t c h ok (slot p i))
+    vacant i = seen-evicted p (slot p i) (setup-evicted s t c h ok (slot p i))
 
     idle : (d : ℕ) → viewTaker (client p d) (downFrom (grantPage p d) (client p d .held)) ≡ resting []
-    idle d = rw (rests s t c h ok d) refl
+    idle d = rw (setup-rests s t c h ok d) refl
 
 -- at a setup that is done the sequential pool that has just started mirrors the pool
 pub mirrors-start : (s t c h : ℕ) → setupOf s t c h .answer ≡ Done s → Mirrors (setupOf s t c h .pool) (start s t)

@@ -73,7 +73,7 @@ module _ (p : Pool) (c : ℕ) (m : Move) (r : Reached p) where
         record {
           inside = slot-in p j (λ n. z (sym at ∙ n));
           there = ap (seen q) (pins-slot j ∙ at) ∙ seen-evicted q f (pins-here p c m (r .shape) f x (rw e refl) low ∙ out);
-          others = λ i n. ap (seen q) (pins-slot i) ∙ pins-other (slot p i) (λ w. n (r .places .slots-apart i j (λ v. z (sym w ∙ v)) (w ∙ sym at)));
+          others = λ i n. ap (seen q) (pins-slot i) ∙ pins-other (slot p i) (λ w. n (r .places .slots-distinct i j (λ v. z (sym w ∙ v)) (w ∙ sym at)));
         }
 
   -- a frame that stands in no slot is taken
@@ -130,7 +130,7 @@ module _ (p : Pool) (c : ℕ) (m : Move) (r : Reached p) where
         record {
           inside = slot-in p s (λ v. z (sym at ∙ v));
           there =
-              let now = put-new p c m (r .shape) j g f e low (r .mapping .entries-apart) (λ _ i _. mapped-none p f z n i) z in
+              let now = put-new p c m (r .shape) j g f e low (r .mapping .entries-distinct) (λ _ i _. mapped-none p f z n i) z in
               ap (seen q) (entry-slot s ∙ at) ∙ seen-full q f (λ w. live (sym (entry-pins f) ∙ w)) now;
-          others = λ i v. ap (seen q) (entry-slot i) ∙ entry-other (slot p i) (λ w. v (r .places .slots-apart i s (λ x. z (sym w ∙ x)) (w ∙ sym at)));
+          others = λ i v. ap (seen q) (entry-slot i) ∙ entry-other (slot p i) (λ w. v (r .places .slots-distinct i s (λ x. z (sym w ∙ x)) (w ∙ sym at)));
         }

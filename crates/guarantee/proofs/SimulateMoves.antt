@@ -18,9 +18,9 @@ use Rattle.pool.specs.declared.Counted.the-variants.{Nothing, Hit, Join, Admitt
 use Rattle.pool.specs.declared.GrantChange.the-variants.{Same}
 use Rattle.pool.specs.declared.Write.the-variants.{PutPins}
 use Rattle.invariant.proofs.Reached.{Reached, Knows}
-use Rattle.invariant.proofs.Searches.{lookup-found, unused-found, free-found, fresh-means, none-evicted}
+use Rattle.invariant.proofs.Searches.{lookup-found, unused-found, free-found, unreferenced-means, none-evicted}
 use Rattle.invariant.proofs.Table.{mapped-lookup}
-use Rattle.invariant.proofs.Never.{know}
+use Rattle.invariant.proofs.NeverFails.{know}
 use Rattle.invariant.proofs.Edges.{Edge, moves-on, found1, found18, forgets2, forgets22, pins2, pins19, gets3, gets21, takes, fills, replaces, refuses, drops}
 use Rattle.invariant.proofs.Edges.{removes, admits, revives, evicts20, evicts23, begins, releases}
 use Rattle.invariant.proofs.Effects.{counters-test}
@@ -64,7 +64,7 @@ module _ {p : Pool} {c : ℕ} {q : Sequential} (acting : Acting p c q) (busy : c
   simulated (gets21 e) = answers-one acting busy 21 Join e tt refl refl refl (known 21 e) room refl tt
   simulated (takes e z) =
       passes 4 5 e refl tt
-      (taken-frame p c _ r (freeFrame p) (k .page) (pinned 1) 1 refl (fresh-means p (freeFrame p) z (free-found p (r .shape) z .1) .no-slot))
+      (taken-frame p c _ r (freeFrame p) (k .page) (pinned 1) 1 refl (unreferenced-means p (freeFrame p) z (free-found p (r .shape) z .1) .no-slot))
   simulated (fills e s) =
       passes 8 9 e refl tt
       (slot-put p c _ r (k .place) (k .own) refl (r .ranges .place-ok c) (r .private .own-unmapped c (known 8 e)) (ap (pins p) s ∙ none-evicted p (r .shape)))
@@ -76,17 +76,17 @@ module _ {p : Pool} {c : ℕ} {q : Sequential} (acting : Acting p c q) (busy : c
   simulated (removes e h) =
       let g : ℕ = page p (k .victim) in
       let f = lookup-found p (r .shape) g (λ z. known 17 e .1 .0 (sym h ∙ z)) in
-      passes 17 18 e refl tt (entry-gone p c _ r (entryOf p g) g none refl (f .place) (ap (pins p) (f .entry-frame ∙ h) ∙ known 17 e .1 .1) refl)
+      passes 17 18 e refl tt (entry-gone p c _ r (entryOf p g) g none refl (f .inside) (ap (pins p) (f .entry-frame ∙ h) ∙ known 17 e .1 .1) refl)
   simulated (admits e l u) =
       let free = unused-found p (r .shape) u in
       admits-one acting busy 18 Admitted e tt refl refl refl (known 18 e) room
-      (λ f z n. absurd (z (sym (mapped-lookup p (r .shape) (r .mapping .pages-apart) f (k .page) z n .1) ∙ l)))
+      (λ f z n. absurd (z (sym (mapped-lookup p (r .shape) (r .mapping .pages-distinct) f (k .page) z n .1) ∙ l)))
       (unusedEntry p) (free .0) (ap (pins p) (free .1) ∙ none-evicted p (r .shape)) refl refl
   simulated (revives e l) =
       let f = lookup-found p (r .shape) (k .page) (λ z. known 22 e .1 .0 (sym l ∙ z)) in
       admits-one acting busy 22 Revived e tt refl refl refl (known 22 e .0) room
-      (λ f z n. ap (pins p) (sym (mapped-lookup p (r .shape) (r .mapping .pages-apart) f (k .page) z n .1) ∙ l) ∙ known 22 e .1 .1)
-      (entryOf p (k .page)) (f .place) (ap (pins p) (f .entry-frame ∙ l) ∙ known 22 e .1 .1) refl refl
+      (λ f z n. ap (pins p) (sym (mapped-lookup p (r .shape) (r .mapping .pages-distinct) f (k .page) z n .1) ∙ l) ∙ known 22 e .1 .1)
+      (entryOf p (k .page)) (f .inside) (ap (pins p) (f .entry-frame ∙ l) ∙ known 22 e .1 .1) refl refl
   simulated (evicts20 e) = evicts 20 21 e tt (known 20 e .0 .0)
   simulated (evicts23 e) = evicts 23 4 e tt (known 23 e .0)
   simulated (begins _ e _) = absurd (busy e)

@@ -210,7 +210,7 @@ adm1 p b g n sz on a f =
 module _ (p : Pool) (r : Reached p) (rest : (c : ℕ) → client p c .stage ≡ 0) where
   -- nothing evicted is in the table
   pub found-not-evicted : (g : ℕ) → lookup p g ≢ none → pins p (lookup p g) ≢ evicted
-  found-not-evicted g z d = go (r .evictions .evicted-mapped (lookup p g) z (suc-not (lookup-mapped p (r .shape) (r .mapping .entries-apart) g z)) d)
+  found-not-evicted g z d = go (r .evictions .evicted-mapped (lookup p g) z (suc-not (lookup-mapped p (r .shape) (r .mapping .entries-distinct) g z)) d)
     where
       go : (c : ℕ) × WillUnmap p (client p c) (lookup p g) → ⊥
       go (c, (_, inl h)) = rw (rest c) at h

@@ -32,7 +32,7 @@ use Rattle.invariant.proofs.Reached.{Reached}
 use Rattle.invariant.proofs.After.{client-same, client-other}
 use Rattle.invariant.proofs.Valid.{valid-reached}
 use Rattle.invariant.proofs.Allowed.{Allowed, allowed, may-begin}
-use Rattle.invariant.proofs.Calls.{did, never-stuck, call-moves, reached-call}
+use Rattle.invariant.proofs.Calls.{outcomeOf, never-stuck, call-moves, reached-call}
 use Rattle.guarantee.proofs.Turned.{same-answer, same-pool, same-stage, other-answer, Went, down, by-move, went}
 
 -- a step of a working client is not turned down
@@ -52,7 +52,7 @@ pub record On (p : Pool) (b g i : ℕ) : Type 0 where
 
 -- its step is the move m
 pub record Goes (p : Pool) (b : ℕ) (m : Move) : Type 0 where
-  pub is : callOf p (Step b) ≡ did p b m
+  pub is : callOf p (Step b) ≡ outcomeOf p b m
 
 module _ {p : Pool} {b g i : ℕ} (on : On p b g (suc i)) where
   stage-is : stageMove p (client p b) ≡ getD stages (suc i) noStage p (client p b)
@@ -66,7 +66,7 @@ module _ {p : Pool} {b g i : ℕ} (on : On p b g (suc i)) where
   goes : {m : Move} → getD stages (suc i) noStage p (client p b) ≡ m → Goes p b m
   unfolding moveOf caller
   goes {m} e =
-      record { is = call-moves p (Step b) (on .reached) allows ∙ ap (did p b) (stage-is ∙ e) }
+      record { is = call-moves p (Step b) (on .reached) allows ∙ ap (outcomeOf p b) (stage-is ∙ e) }
 
   -- a stuck branch is not taken
   past : (n v : ℕ) {m : Move} → getD stages (suc i) noStage p (client p b) ≡ choose (eqb n v) (stuck (client p b)) m

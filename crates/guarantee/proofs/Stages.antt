@@ -19,7 +19,7 @@ use Rattle.pool.specs.declared.Write.{Write}
 use Rattle.pool.specs.declared.Answer.the-variants.{Working, Granted}
 use Rattle.pool.specs.declared.Counted.{Counted}
 use Rattle.laws.specs.Choices.{by-test}
-use Rattle.invariant.proofs.Flags.{and-parts}
+use Rattle.invariant.proofs.StageTests.{and-parts}
 use Rattle.invariant.proofs.Each.{Each, fin, _also_, each-at}
 
 -- ---- the edges between the stages

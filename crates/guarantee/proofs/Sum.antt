@@ -19,13 +19,13 @@ use Rattle.pool.specs.declared.Call.{Call}
 use Rattle.pool.specs.declared.Counted.{Counted}
 use Rattle.pool.specs.declared.Counted.the-variants.{Nothing, Hit, Join, Admitted, Revived, Drop, Refusal}
 use Rattle.laws.specs.Choices.{by-test, chosen, passed}
-use Rattle.invariant.proofs.Reached.{Reached, Apart, one, sumTo, mapped}
+use Rattle.invariant.proofs.Reached.{Reached, Distinct, one, sumTo, mapped}
 use Rattle.invariant.proofs.After.{few-frames, slot-in, pins-in, entry-in}
 use Rattle.invariant.proofs.Sums.{sum-same}
 use Rattle.invariant.proofs.Searches.{pins-named}
 use Rattle.invariant.proofs.Table.{mapped-entry, mapped-is}
 use Rattle.invariant.proofs.Calls.{reached-call}
-use Rattle.invariant.proofs.Pigeon.{below, equal, below-all, equal-has, equal-none, equal-least}
+use Rattle.invariant.proofs.Pigeonhole.{below, equal, below-all, equal-has, equal-none, equal-at-most}
 use Rattle.guarantee.specs.Runs.{Event, events}
 use Rattle.guarantee.specs.Sequential.{Sequential, place}
 use Rattle.guarantee.specs.Claims.{tallyOf, Below, Claim-sum}
@@ -54,7 +54,7 @@ module _ (P : ℕ → Bool) (g : ℕ → ℕ) (n b : ℕ) (few : b ≤ none) (lo
       go true a e = record { has = a; is = e }
       go false a e = absurd (omega arith)
 
-  same-count : Apart g none → ((f : ℕ) → P f ≡ true → (i : ℕ) × (i < n) × (g i ≡ f)) → sumTo (λ f. one (P f)) b ≡ sumTo (λ i. one (P (g i))) n
+  same-count : Distinct g none → ((f : ℕ) → P f ≡ true → (i : ℕ) × (i < n) × (g i ≡ f)) → sumTo (λ f. one (P f)) b ≡ sumTo (λ i. one (P (g i))) n
   unfolding below
   same-count apart stands =
       sum-same (equal picked n) _ b (λ f h. once f h (P f) refl)
@@ -67,7 +67,7 @@ module _ (P : ℕ → Bool) (g : ℕ → ℕ) (n b : ℕ) (few : b ≤ none) (lo
           omega (
             arith,
             equal-has picked n f (s .0) (s .1) at,
-            equal-least picked n f
+            equal-at-most picked n f
                 (λ i j _ _ x y. let u = pick i f h x in let v = pick j f h y in apart i j (λ w. omega (arith, u .is)) (u .is ∙ sym (v .is))),
           )
       once f h false e =
@@ -93,8 +93,8 @@ unfolding residents
 residents-kept p q r mirror =
     how-many _ (total p)
     ∙ (sum-same (λ i. one (P (entryFrame p i))) _ (total p) (λ i _. entry-full i (eqb (pins p (entryFrame p i)) evicted) refl)
-    ∙ (sym (counted (entryFrame p) (total p) (r .mapping .entries-apart) in-entry)
-    ∙ (counted (slot p) (p .size) (r .places .slots-apart) in-slot
+    ∙ (sym (counted (entryFrame p) (total p) (r .mapping .entries-distinct) in-entry)
+    ∙ (counted (slot p) (p .size) (r .places .slots-distinct) in-slot
     ∙ sym shown)))
   where
     P : ℕ → Bool
@@ -106,7 +106,7 @@ residents-kept p q r mirror =
     entered : (f : ℕ) → P f ≡ true → mapped p f ≢ 0
     entered f h e = true≢false (sym h ∙ ap occupied (seen-unmapped p f e))
 
-    counted : (g : ℕ → ℕ) (n : ℕ) → Apart g none → ((f : ℕ) → P f ≡ true → (i : ℕ) × (i < n) × (g i ≡ f))
+    counted : (g : ℕ → ℕ) (n : ℕ) → Distinct g none → ((f : ℕ) → P f ≡ true → (i : ℕ) × (i < n) × (g i ≡ f))
         → sumTo (λ f. one (P f)) (total p) ≡ sumTo (λ i. one (P (g i))) n
     counted g n = same-count P g n (total p) (omega (arith, few-frames p (r .shape))) (λ f h. pins-in p f (live f h))
 
@@ -126,7 +126,7 @@ residents-kept p q r mirror =
     entry-full i true e = ap full (sym (seen-evicted p (entryFrame p i) (eqb-true _ _ e)))
     entry-full i false e =
         let l : pins p (entryFrame p i) ≢ evicted = eqb-false _ _ e in
-        ap full (sym (seen-full p (entryFrame p i) l (mapped-is p (entryFrame p i) (r .mapping .entries-apart) (pins-named p (r .shape) _ l) i refl)))
+        ap full (sym (seen-full p (entryFrame p i) l (mapped-is p (entryFrame p i) (r .mapping .entries-distinct) (pins-named p (r .shape) _ l) i refl)))
 
     shown : kept (q .places) ≡ sumTo (λ i. one (P (slot p i))) (p .size)
     shown = kept-sum (q .places) ∙ (ap (sumTo (λ i. full (place q i))) (mirror .size) ∙ sum-same _ _ (p .size) (λ i _. ap full (mirror .places i)))

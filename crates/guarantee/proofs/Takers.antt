@@ -18,7 +18,7 @@ use Rattle.pool.specs.declared.Counted.the-variants.{Refusal}
 use Rattle.pool.specs.declared.GrantChange.{GrantChange}
 use Rattle.pool.specs.declared.GrantChange.the-variants.{Same, Open}
 use Rattle.invariant.proofs.Reached.{one, pinsFound}
-use Rattle.invariant.proofs.Flags.{and-parts, at-most, iff, iff-same, Onward}
+use Rattle.invariant.proofs.StageTests.{and-parts, at-most, iff, iff-same, Onward}
 use Rattle.guarantee.specs.Sequential.{Taker, resting, adding, dropping}
 use Rattle.guarantee.proofs.Mirror.{times, Taken, open-many, open-grants}
 

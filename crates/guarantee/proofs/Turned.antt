@@ -23,9 +23,9 @@ use Rattle.pool.specs.declared.Answer.{Answer}
 use Rattle.pool.specs.declared.Answer.the-variants.{Done, Working, Granted, Refused}
 use Rattle.laws.specs.Choices.{by-test}
 use Rattle.laws.specs.Scans.{both-true}
-use Rattle.invariant.proofs.Flags.{differ}
+use Rattle.invariant.proofs.StageTests.{differ}
 use Rattle.invariant.proofs.Allowed.{refusal-low}
-use Rattle.invariant.proofs.Calls.{did}
+use Rattle.invariant.proofs.Calls.{outcomeOf}
 use Rattle.guarantee.specs.Claims.{Claim-turned, Claim-refused}
 use Rattle.guarantee.proofs.Stages.{Fits, goes, grants, refuses, sticks, fits}
 
@@ -62,7 +62,7 @@ same-stage e = ap (λ (k : Client). k .stage) e
 -- ---- a call is turned down, or is one move
 
 abbrev pub moved : Pool → Call → Outcome
-moved p x = did p (caller x) (moveOf p x)
+moved p x = outcomeOf p (caller x) (moveOf p x)
 
 -- by a check before its action, or by 8 after it
 abbrev Down : Pool → Call → ℕ → Type 0

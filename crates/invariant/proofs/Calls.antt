@@ -22,7 +22,7 @@ use Rattle.laws.specs.Choices.{by-test, chosen, passed}
 use Rattle.laws.specs.Scans.{both-yes}
 use Rattle.invariant.proofs.Reached.{Reached}
 use Rattle.invariant.proofs.After.{shape-next}
-use Rattle.invariant.proofs.Flags.{differ}
+use Rattle.invariant.proofs.StageTests.{differ}
 use Rattle.invariant.proofs.Allowed.{refusal-at}
 use Rattle.invariant.proofs.Edges.{Edge}
 use Rattle.invariant.proofs.Steps.{call-edge}
@@ -54,8 +54,8 @@ reached-move p c m h r e =
 -- ---- a call
 
 -- what a call leaves that is the move m of client c
-abbrev pub did : Pool → ℕ → Move → Outcome
-did p c m = record { answer = m .answer; counted = m .counted; pool = apply p c m }
+abbrev pub outcomeOf : Pool → ℕ → Move → Outcome
+outcomeOf p c m = record { answer = m .answer; counted = m .counted; pool = apply p c m }
 
 module _ (p : Pool) (x : Call) where
   pub never-stuck : Reached p → refusal p x ≡ 0 → refusalOf (moveOf p x .answer) ≢ 8
@@ -65,7 +65,7 @@ module _ (p : Pool) (x : Call) where
   reached-next r e = let w = call-edge p x r e in reached-move p (caller x) (moveOf p x) (w .0) r (w .1)
 
   -- a call that is not turned down makes its move
-  pub call-moves : Reached p → refusal p x ≡ 0 → callOf p x ≡ did p (caller x) (moveOf p x)
+  pub call-moves : Reached p → refusal p x ≡ 0 → callOf p x ≡ outcomeOf p (caller x) (moveOf p x)
   unfolding callOf finished
   call-moves r e =
       chosen _ _ _ (eq-eqb _ _ e) ∙

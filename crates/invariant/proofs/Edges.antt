@@ -23,7 +23,7 @@ use Rattle.pool.specs.declared.GrantChange.the-variants.{Open, End}
 use Rattle.pool.specs.declared.Write.{Write}
 use Rattle.pool.specs.declared.Write.the-variants.{Keep, PutSlot, PutPins, PutCount, TakeFrame, PutEntry, PutHand, PutFree}
 use Rattle.invariant.proofs.Reached.{one, mapped, victimless, filling, examining, Knows, WillUnmap}
-use Rattle.invariant.proofs.Flags.{Onward, MayRefuse}
+use Rattle.invariant.proofs.StageTests.{Onward, MayRefuse}
 
 -- a write of counters alone: the slots, the frames' pages and pins, and the table do not see it
 pub data CountersOnly (p : Pool) : Write → Type 0 where

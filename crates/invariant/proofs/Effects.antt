@@ -29,8 +29,8 @@ use Rattle.invariant.proofs.Reached.{Reached, mapped, InSlot, Knows, un
 use Rattle.invariant.proofs.Searches.{lookup-found, lookup-none, unused-found, grantOf-found, free-found}
 use Rattle.invariant.proofs.Table.{suc-not, lookup-mapped}
 use Rattle.invariant.proofs.Grants.{GrantsOk, grants-stay, grant-opens, grant-ends}
-use Rattle.invariant.proofs.Never.{know}
-use Rattle.invariant.proofs.Flags.{differ, imp}
+use Rattle.invariant.proofs.NeverFails.{know}
+use Rattle.invariant.proofs.StageTests.{differ, imp}
 use Rattle.invariant.proofs.Facts.{raised-ok, grant-pinned, found-pinned, one-more}
 use Rattle.invariant.proofs.Edges.{CountersOnly, keep, hand, counts, free, Edge, moves-on, grants, found1, found18, forgets2, forgets22, pins2, pins19, gets3, gets21}
 use Rattle.invariant.proofs.Edges.{takes, fills, replaces, refuses, drops, removes, admits, revives, evicts20, evicts23, begins, releases}
@@ -239,7 +239,7 @@ module _ (p : Pool) (c : ℕ) (here : c < clientCount p) (r : Reached p) where
   looking g z =
       let f = lookup-found p (r .shape) g z in (
         subst (λ (x : ℕ). x < total p) (f .entry-frame) (r .ranges .entry-ok (entryOf p g) (λ w. z (sym (f .entry-frame) ∙ w))),
-        suc-not (lookup-mapped p (r .shape) (r .mapping .entries-apart) g z),
+        suc-not (lookup-mapped p (r .shape) (r .mapping .entries-distinct) g z),
       )
 
   -- one more pin for the found frame
@@ -330,7 +330,7 @@ module _ (p : Pool) (c : ℕ) (here : c < clientCount p) (r : Reached p) where
   effect (removes e h) =
       let z = known 17 e .1 .0 in
       let f = lookup-found p (r .shape) (page p (me .victim)) (λ w. z (sym h ∙ w)) in
-      entering tt _ _ none refl (unmaps _ _ refl (f .place) (f .entry-frame ∙ h) (known 17 e .1 .1)) (own-stays refl tt) (found-stays refl) (grants-stay refl refl)
+      entering tt _ _ none refl (unmaps _ _ refl (f .inside) (f .entry-frame ∙ h) (known 17 e .1 .1)) (own-stays refl tt) (found-stays refl) (grants-stay refl refl)
       (λ _ _ x. no-open x)
   effect (admits e l u) =
       let f = unused-found p (r .shape) u in
@@ -340,9 +340,9 @@ module _ (p : Pool) (c : ℕ) (here : c < clientCount p) (r : Reached p) where
       let z = known 22 e .1 .0 in
       let f = lookup-found p (r .shape) (me .page) (λ w. z (sym l ∙ w)) in
       let n : entryFrame p (entryOf p (me .page)) ≡ me .found = f .entry-frame ∙ l in
-      gets-own 22 _ Revived e tt (f .place) (known 22 e .0 .0)
-      (maps _ refl (f .place) (known 22 e .0 .0) refl (known 22 e .0 .1) (inr (ap (pins p) n ∙ known 22 e .1 .1))
-      (λ j q y w. q (r .mapping .pages-apart j (entryOf p (me .page)) y (λ x. z (sym n ∙ x)) (w ∙ sym (f .entry-page)))))
+      gets-own 22 _ Revived e tt (f .inside) (known 22 e .0 .0)
+      (maps _ refl (f .inside) (known 22 e .0 .0) refl (known 22 e .0 .1) (inr (ap (pins p) n ∙ known 22 e .1 .1))
+      (λ j q y w. q (r .mapping .pages-distinct j (entryOf p (me .page)) y (λ x. z (sym n ∙ x)) (w ∙ sym (f .entry-page)))))
   effect (evicts20 e) = evicts-own 21 (known 20 e .0 .0)
   effect (evicts23 e) = evicts-own 4 (known 23 e .0)
   effect (begins g e h) = client-only tt keep (own-stays refl tt) (found-stays refl) refl refl

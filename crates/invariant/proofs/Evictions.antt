@@ -19,9 +19,9 @@ use Rattle.invariant.proofs.After.{SlotsStay, SlotsPut, client-same, cl
 use Rattle.invariant.proofs.After.{pins-else}
 use Rattle.invariant.proofs.Sums.{one-not, sum-same, sum-put}
 use Rattle.invariant.proofs.Searches.{lookup-found}
-use Rattle.invariant.proofs.Table.{put-gone}
-use Rattle.invariant.proofs.Never.{know}
-use Rattle.invariant.proofs.Flags.{T-not, never, differ, unmapsNone, examining-unplaced}
+use Rattle.invariant.proofs.Table.{put-replaced}
+use Rattle.invariant.proofs.NeverFails.{know}
+use Rattle.invariant.proofs.StageTests.{T-not, never, differ, unmapsNone, examining-unplaced}
 use Rattle.invariant.proofs.Steps.{not-unmapping}
 use Rattle.invariant.proofs.Facts.{own-not-evicted, own-not-victim}
 use Rattle.invariant.proofs.Edges.{Examines, Edge, moves-on, found1, found18, forgets2, forgets22, pins2, pins19, gets3, gets21, takes, fills, replaces, refuses, drops}
@@ -84,7 +84,7 @@ module _ {p : Pool} {c : ℕ} {m : Move} (x : Effect p c m) (s : EvictionsCondit
         where
           go : Examines p k (m .next) → i ≡ m .next .place
           go (inl w) = r .evictions .victim-place c i (w .2) (λ n. z (w .0 ∙ n)) (sym e ∙ h ∙ w .0) ∙ sym (w .1)
-          go (inr w) = r .places .slots-apart i (m .next .place) (λ n. z (sym h ∙ e ∙ n)) (sym e ∙ h ∙ w)
+          go (inr w) = r .places .slots-distinct i (m .next .place) (λ n. z (sym h ∙ e ∙ n)) (sym e ∙ h ∙ w)
 
   -- a frame that is evicted now, and was mapped to: it was evicted, or the mover will remove its entry
   module _ (f : ℕ) (z : f ≢ none) (n : mapped p f ≢ 0) (d : pins q f ≡ evicted) where
@@ -259,7 +259,7 @@ module _ (p : Pool) (c : ℕ) (r : Reached p) where
       gone : mapped (apply p c m) (me .victim) ≡ 0
       gone =
           ap (mapped (apply p c m)) (sym there) ∙
-          put-gone p c m (r .shape) i g none refl (lookup-found p (r .shape) g (λ w. z (sym h ∙ w)) .place) (r .mapping .entries-apart)
+          put-replaced p c m (r .shape) i g none refl (lookup-found p (r .shape) g (λ w. z (sym h ∙ w)) .inside) (r .mapping .entries-distinct)
           (λ w. absurd (w refl)) (λ w. z (sym there ∙ w)) (λ w. z (sym there ∙ w))
   evictions-condition (admits e _ _) x = unexamined 18 e refl refl refl tt tt tt
   evictions-condition (revives e _) x = unexamined 22 e refl refl refl tt tt tt

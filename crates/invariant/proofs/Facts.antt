@@ -16,13 +16,13 @@ use Rattle.pool.specs.declared.Client.{Client}
 use Rattle.laws.specs.Choices.{by-test}
 use Rattle.invariant.proofs.Reached.{one, mapped, InSlot, grantsOn, claims, claimed, pinsFound, unplaced, examining, Orphan, Balance, unclaimed, counted, orphan}
 use Rattle.invariant.proofs.Reached.{Reached}
-use Rattle.invariant.proofs.Flags.{T-true, T-false, and-false, examining-cases}
+use Rattle.invariant.proofs.StageTests.{T-true, T-false, and-false, examining-cases}
 use Rattle.invariant.proofs.After.{client-here}
-use Rattle.invariant.proofs.Sums.{one-is, one-not, one-least, sum-zero, sum-one, sum-has, sum-gap, sum-least}
+use Rattle.invariant.proofs.Sums.{one-is, one-not, one-at-most, sum-zero, sum-one, sum-has, sum-gap, sum-at-most}
 use Rattle.invariant.proofs.Searches.{grantFrame-past, grant-in}
 use Rattle.invariant.proofs.Table.{some-suc, mapped-lookup}
 use Rattle.invariant.proofs.Grants.{grantsOn-none}
-use Rattle.invariant.proofs.Never.{know}
+use Rattle.invariant.proofs.NeverFails.{know}
 
 -- a raised count
 pub raised-ok : (cap n : ℕ) → n ≤ cap → raised cap n ≤ cap
@@ -66,7 +66,7 @@ module _ (p : Pool) (r : Reached p) where
     own-claimed : claimed p (client p c .own) ≡ 1
     unfolding claimed
     own-claimed =
-        sum-one (λ d. claims p d f) (clientCount p) c own-here (λ d _ q. only d ∙ one-not _ _ (λ w. q (sym (r .places .owns-apart c d z (sym w))))) ∙
+        sum-one (λ d. claims p d f) (clientCount p) c own-here (λ d _ q. only d ∙ one-not _ _ (λ w. q (sym (r .places .owns-distinct c d z (sym w))))) ∙
         (only c ∙ one-is f)
       where
         f : ℕ
@@ -113,13 +113,13 @@ module _ (p : Pool) (r : Reached p) where
 
   -- ---- how many claims there are
 
-  grants-least : (c f : ℕ) → grantsOn p c f ≤ client p c .held
+  grants-at-most : (c f : ℕ) → grantsOn p c f ≤ client p c .held
   unfolding grantsOn
-  grants-least c f = omega (arith, sum-least (λ i. one (eqb (grantFrame p c i) f)) (client p c .held) 1 (λ i _. one-least (eqb (grantFrame p c i) f)))
+  grants-at-most c f = omega (arith, sum-at-most (λ i. one (eqb (grantFrame p c i) f)) (client p c .held) 1 (λ i _. one-at-most (eqb (grantFrame p c i) f)))
 
   -- a client with an own frame claims no other way
-  claims-least : (c f : ℕ) → f ≢ none → claims p c f ≤ 8
-  claims-least c f z = go (ℕ-discrete (client p c .own) f) (ℕ-discrete (client p c .stage) 0)
+  claims-at-most : (c f : ℕ) → f ≢ none → claims p c f ≤ 8
+  claims-at-most c f z = go (ℕ-discrete (client p c .own) f) (ℕ-discrete (client p c .stage) 0)
     where
       k : Client
       k = client p c
@@ -128,11 +128,11 @@ module _ (p : Pool) (r : Reached p) where
       go (yes e) _ =
           let o : k .own ≢ none = λ w. z (sym e ∙ w) in
           let only = foreign-claims p c f (λ w. r .private .own-unfound c c o (w ∙ sym e)) (λ i w. r .private .own-ungranted c c i o (w ∙ sym e)) in
-          omega (arith, one-least (eqb (k .own) f))
+          omega (arith, one-at-most (eqb (k .own) f))
       go (no e) (yes s) =
-          omega (arith, one-not _ _ e, ap (λ (x : ℕ). one (pinsFound x && eqb (k .found) f)) s, grants-least c f, r .ranges .held-ok c)
+          omega (arith, one-not _ _ e, ap (λ (x : ℕ). one (pinsFound x && eqb (k .found) f)) s, grants-at-most c f, r .ranges .held-ok c)
       go (no e) (no s) =
-          omega (arith, one-not _ _ e, one-least (pinsFound (k .stage) && eqb (k .found) f), grants-least c f, r .ranges .working-held c s)
+          omega (arith, one-not _ _ e, one-at-most (pinsFound (k .stage) && eqb (k .found) f), grants-at-most c f, r .ranges .working-held c s)
 
   -- one more pin on the found frame is within the range
   pub one-more : (c : ℕ) → c < clientCount p → client p c .stage ≢ 0 → T (not (pinsFound (client p c .stage))) → client p c .found ≢ none
@@ -150,10 +150,10 @@ module _ (p : Pool) (r : Reached p) where
       other w = r .private .own-unfound c c (λ n. z (sym w ∙ n)) (sym w)
 
       mine : claims p c f ≤ 7
-      mine = rw (T-false (pinsFound (k .stage)) t) (omega (arith, one-not _ _ other, grants-least c f, r .ranges .working-held c s))
+      mine = rw (T-false (pinsFound (k .stage)) t) (omega (arith, one-not _ _ other, grants-at-most c f, r .ranges .working-held c s))
 
       all : claimed p f + 1 ≤ 8 * clientCount p
-      all = sum-gap (λ d. claims p d f) (clientCount p) 8 c 1 h (λ d _. claims-least d f z) (omega (arith, mine))
+      all = sum-gap (λ d. claims p d f) (clientCount p) 8 c 1 h (λ d _. claims-at-most d f z) (omega (arith, mine))
 
       go : Balance p f (pins p f) (claimed p f) → pins p f < pinned 128
       go (unclaimed x y) = absurd (live x)
@@ -163,13 +163,13 @@ module _ (p : Pool) (r : Reached p) where
   -- ---- victims
 
   -- an entry that stage 17 does not find is gone
-  pub entry-gone : (v : ℕ) → v ≢ none → lookup p (page p v) ≢ v → mapped p v ≡ 0
-  entry-gone v z n =
+  pub lookup-unmapped : (v : ℕ) → v ≢ none → lookup p (page p v) ≢ v → mapped p v ≡ 0
+  lookup-unmapped v z n =
       elim (ℕ-discrete (mapped p v) 0) [
         | yes e ↦ e
         | no w ↦
             let s = some-suc (mapped p v) w in
-            absurd (n (ap (lookup p) (r .mapping .mapped-page v (s .0) z (s .1)) ∙ mapped-lookup p (r .shape) (r .mapping .pages-apart) v (s .0) z (s .1) .1))
+            absurd (n (ap (lookup p) (r .mapping .mapped-page v (s .0) z (s .1)) ∙ mapped-lookup p (r .shape) (r .mapping .pages-distinct) v (s .0) z (s .1) .1))
       ]
 
   -- an own frame that has no slot yet is no victim that a client examines
@@ -181,7 +181,7 @@ module _ (p : Pool) (r : Reached p) where
       two = ap (pins p) e ∙ own-pins c z
 
       in-slot : (pins p (client p d .victim) ≢ evicted → InSlot p (client p d .victim)) → ⊥
-      in-slot s = let w = s (λ x. let n : ⊥ = omega (arith, two) in n) in r .places .unplaced-out c (w .0) u z (w .1 ∙ e)
+      in-slot s = let w = s (λ x. let n : ⊥ = omega (arith, two) in n) in r .places .unplaced-no-slot c (w .0) u z (w .1 ∙ e)
 
       go : (client p d .stage ≡ 12) ⊎ ((client p d .stage ≡ 13) ⊎ ((client p d .stage ≡ 14) ⊎ (client p d .stage ≡ 15))) → ⊥
       go (inl q) = in-slot (know p r d 12 q .1 .1)

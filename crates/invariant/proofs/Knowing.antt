@@ -15,7 +15,7 @@ use Rattle.invariant.proofs.Reached.{Reached, mapped, InSlot, Know, Own
 use Rattle.invariant.proofs.After.{EntryPagesStay, EntryFramesStay, slot-kept, slot-here, pins-kept, pins-here}
 use Rattle.invariant.proofs.Each.{Each, fin, _also_, each-at}
 use Rattle.invariant.proofs.Table.{mapped-kept, lookup-mapped}
-use Rattle.invariant.proofs.Never.{know}
+use Rattle.invariant.proofs.NeverFails.{know}
 use Rattle.invariant.proofs.Facts.{own-not-evicted}
 use Rattle.invariant.proofs.Edges.{CountersOnly, Edge, moves-on, found1, found18, forgets2, forgets22, pins2, pins19, gets3, gets21, takes, fills, replaces, refuses, drops}
 use Rattle.invariant.proofs.Edges.{removes, admits, revives, evicts20, evicts23, begins, releases}
@@ -124,7 +124,7 @@ module _ (p : Pool) (c : ℕ) (r : Reached p) where
   -- the frame that a look-up found is the page's
   looked : (m : Move) → EntryPagesStay p (m .write) → EntryFramesStay p (m .write) → (z : lookup p (k .page) ≢ none)
       → (lookup p (k .page) ≢ none) × (pins (apply p c m) (lookup p (k .page)) ≢ evicted → mapped (apply p c m) (lookup p (k .page)) ≡ suc (k .page))
-  looked m a b z = (z, λ _. mapped-kept p c m a b _ ∙ lookup-mapped p (r .shape) (r .mapping .entries-apart) (k .page) z)
+  looked m a b z = (z, λ _. mapped-kept p c m a b _ ∙ lookup-mapped p (r .shape) (r .mapping .entries-distinct) (k .page) z)
 
   -- the found frame, not evicted, is still the page's
   pinned-now : (m : Move) → Effect p c m → FoundMapped p k → pins p (k .found) ≢ evicted → FoundMapped (apply p c m) k

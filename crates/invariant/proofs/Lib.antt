@@ -11,18 +11,18 @@ pub mod Reached
 -- tools: how the pool reads after a write; numbers that stay apart; sums and the pigeonhole; facts of every stage; tests on stage numbers
 pub mod After
 pub mod Writes
-pub mod Apart
+pub mod Distinct
 pub mod Sums
-pub mod Pigeon
+pub mod Pigeonhole
 pub mod Each
-pub mod Flags
+pub mod StageTests
 -- what the pool's searches find, its table by frame, its grants after a move, what a call has passed
 pub mod Searches
 pub mod Table
 pub mod Grants
 pub mod Allowed
 -- what follows from the clauses: a search never fails, pins and claims of one frame
-pub mod Never
+pub mod NeverFails
 pub mod Facts
 -- the moves, what they do, and what that leaves
 pub mod Edges

@@ -16,15 +16,15 @@ use Rattle.pool.specs.declared.Pool.{Pool}
 use Rattle.pool.specs.declared.Client.{Client}
 use Rattle.pool.specs.declared.Move.{Move}
 use Rattle.pool.specs.declared.Write.the-variants.{PutEntry}
-use Rattle.invariant.proofs.Reached.{Reached, Apart, Mapping, mapped, InSlot, Knows, Orphan, foundless, victimless}
+use Rattle.invariant.proofs.Reached.{Reached, Distinct, Mapping, mapped, InSlot, Knows, Orphan, foundless, victimless}
 use Rattle.invariant.proofs.After.{client-same, client-other, all-clients, pins-kept, pins-here, page-here, entryPage-kept, entryFrame-kept}
-use Rattle.invariant.proofs.Apart.{apart-used, apart-same}
-use Rattle.invariant.proofs.Searches.{Fresh, fresh-means, grant-in, lookup-found, unused-found}
+use Rattle.invariant.proofs.Distinct.{distinct-used, distinct-same}
+use Rattle.invariant.proofs.Searches.{Unreferenced, unreferenced-means, grant-in, lookup-found, unused-found}
 use Rattle.invariant.proofs.Table.{suc-not, some-suc, mapped-none, mapped-zero, mapped-kept, put-frame, put-page, else-frame, else-page, put-other}
-use Rattle.invariant.proofs.Table.{put-apart, put-new, put-gone, put-cases}
-use Rattle.invariant.proofs.Never.{know}
+use Rattle.invariant.proofs.Table.{put-distinct, put-new, put-replaced, put-unmapped}
+use Rattle.invariant.proofs.NeverFails.{know}
 use Rattle.invariant.proofs.Facts.{grant-pinned}
-use Rattle.invariant.proofs.Flags.{never, imp-mp}
+use Rattle.invariant.proofs.StageTests.{never, imp-mp}
 use Rattle.invariant.proofs.Edges.{Edge, moves-on, found1, found18, forgets2, forgets22, pins2, pins19, gets3, gets21, takes, fills, replaces, refuses, drops}
 use Rattle.invariant.proofs.Edges.{removes, admits, revives, evicts20, evicts23, begins, releases}
 use Rattle.invariant.proofs.Effects.{OwnOk, own-forgotten, own-stays, own-taken, Opened, of-found, of-own, EntryOk, entries-stay, maps, unmaps, Effect}
@@ -68,15 +68,15 @@ module _ {p : Pool} {c : ℕ} {m : Move} (x : Effect p c m) where
 
   own-mapped : (i g f : ℕ) → f ≡ k .own → f ≢ none → m .write ≡ PutEntry i g f → i < total p → mapped q f ≡ suc g
   own-mapped i g f e z w h =
-      put-new p c m (r .shape) i g f w h (r .mapping .entries-apart) (λ _ j _ y. own-only (λ n. z (e ∙ n)) j (y ∙ e)) z
+      put-new p c m (r .shape) i g f w h (r .mapping .entries-distinct) (λ _ j _ y. own-only (λ n. z (e ∙ n)) j (y ∙ e)) z
 
-  entries-next : Apart (entryFrame q) none
+  entries-next : Distinct (entryFrame q) none
   entries-next = go (x .entries)
     where
-      go : EntryOk p c m → Apart (entryFrame q) none
-      go (entries-stay _ w) = apart-same (entryFrame p) (entryFrame q) none (r .mapping .entries-apart) (entryFrame-kept p c m w)
-      go (maps i w h z _ _ _ _) = put-apart p c m (r .shape) i (k .page) (k .own) w h (r .mapping .entries-apart) (λ _ j _. own-only z j)
-      go (unmaps i g w h _ _) = put-apart p c m (r .shape) i g none w h (r .mapping .entries-apart) (λ z. absurd (z refl))
+      go : EntryOk p c m → Distinct (entryFrame q) none
+      go (entries-stay _ w) = distinct-same (entryFrame p) (entryFrame q) none (r .mapping .entries-distinct) (entryFrame-kept p c m w)
+      go (maps i w h z _ _ _ _) = put-distinct p c m (r .shape) i (k .page) (k .own) w h (r .mapping .entries-distinct) (λ _ j _. own-only z j)
+      go (unmaps i g w h _ _) = put-distinct p c m (r .shape) i g none w h (r .mapping .entries-distinct) (λ z. absurd (z refl))
 
   pages-next : (i j : ℕ) → entryFrame q i ≢ none → entryFrame q j ≢ none → entryPage q i ≡ entryPage q j → i ≡ j
   pages-next = go (x .entries)
@@ -85,7 +85,7 @@ module _ {p : Pool} {c : ℕ} {m : Move} (x : Effect p c m) where
       put : (n g f : ℕ) → m .write ≡ PutEntry n g f → n < total p → (f ≢ none → (i : ℕ) → i ≢ n → entryFrame p i ≢ none → entryPage p i ≢ g)
           → (i j : ℕ) → entryFrame q i ≢ none → entryFrame q j ≢ none → entryPage q i ≡ entryPage q j → i ≡ j
       put n g f w h new =
-          apart-used (λ i. entryFrame p i ≢ none) (λ i. entryFrame q i ≢ none) (entryPage p) (entryPage q) n (r .mapping .pages-apart)
+          distinct-used (λ i. entryFrame p i ≢ none) (λ i. entryFrame q i ≢ none) (entryPage p) (entryPage q) n (r .mapping .pages-distinct)
           (λ i o z y. z (else-frame p c m (r .shape) n g f w h i o ∙ y)) (else-page p c m (r .shape) n g f w h)
           (λ z i o y e. new (λ v. z (put-frame p c m (r .shape) n g f w h ∙ v)) i o y (e ∙ put-page p c m (r .shape) n g f w h))
 
@@ -93,7 +93,7 @@ module _ {p : Pool} {c : ℕ} {m : Move} (x : Effect p c m) where
       go (entries-stay v w) =
           let s : (i : ℕ) → entryFrame q i ≡ entryFrame p i = entryFrame-kept p c m w in
           let t : (i : ℕ) → entryPage q i ≡ entryPage p i = entryPage-kept p c m v in
-          λ i j a b e. r .mapping .pages-apart i j (λ n. a (s i ∙ n)) (λ n. b (s j ∙ n)) (sym (t i) ∙ e ∙ t j)
+          λ i j a b e. r .mapping .pages-distinct i j (λ n. a (s i ∙ n)) (λ n. b (s j ∙ n)) (sym (t i) ∙ e ∙ t j)
       go (maps n w h _ _ _ _ o) = put n (k .page) (k .own) w h (λ _. o)
       go (unmaps n g w h _ _) = put n g none w h (λ z. absurd (z refl))
 
@@ -109,8 +109,8 @@ module _ {p : Pool} {c : ℕ} {m : Move} (x : Effect p c m) where
           where
             by : Dec (f ≡ k .own) → (f ≡ k .own) × InSlot p f × (mapped q f ≡ suc (k .page)) × (pins q f ≡ pins p f)
             by (yes v) = (v, (s .0, s .1 ∙ sym v), ap (mapped q) v ∙ own-mapped i (k .page) (k .own) refl o w h, pins-kept p c m (rw w refl) f)
-            by (no v) = absurd (n (put-cases p c m (r .shape) i (k .page) (k .own) w h f z e v))
-        go (unmaps i g w h _ _) = absurd (n (put-cases p c m (r .shape) i g none w h f z e z))
+            by (no v) = absurd (n (put-unmapped p c m (r .shape) i (k .page) (k .own) w h f z e v))
+        go (unmaps i g w h _ _) = absurd (n (put-unmapped p c m (r .shape) i g none w h f z e z))
 
     -- an entry that was there and is there is as it was
     entry-same : mapped p f ≢ 0 → mapped q f ≢ 0 → mapped q f ≡ mapped p f
@@ -126,21 +126,21 @@ module _ {p : Pool} {c : ℕ} {m : Move} (x : Effect p c m) where
             by : Dec (f ≡ entryFrame p i) → mapped q f ≡ mapped p f
             by (no v) = put-other p c m (r .shape) i (k .page) (k .own) w h f not-own v
             by (yes v) =
-                absurd (n (ap (mapped q) v ∙ put-gone p c m (r .shape) i (k .page) (k .own) w h (r .mapping .entries-apart) (λ _ j _. own-only o j)
+                absurd (n (ap (mapped q) v ∙ put-replaced p c m (r .shape) i (k .page) (k .own) w h (r .mapping .entries-distinct) (λ _ j _. own-only o j)
                 (λ y. z (v ∙ y)) (λ y. not-own (v ∙ y))))
         go (unmaps i g w h _ _) = by (ℕ-discrete f (entryFrame p i))
           where
             by : Dec (f ≡ entryFrame p i) → mapped q f ≡ mapped p f
             by (no v) = put-other p c m (r .shape) i g none w h f z v
             by (yes v) =
-                absurd (n (ap (mapped q) v ∙ put-gone p c m (r .shape) i g none w h (r .mapping .entries-apart) (λ y. absurd (y refl))
+                absurd (n (ap (mapped q) v ∙ put-replaced p c m (r .shape) i g none w h (r .mapping .entries-distinct) (λ y. absurd (y refl))
                 (λ y. z (v ∙ y)) (λ y. z (v ∙ y))))
 
-    fresh-or : Fresh p f ⊎ (referenced p f ≡ false → ⊥)
-    fresh-or = go (referenced p f) refl
+    unreferenced-or : Unreferenced p f ⊎ (referenced p f ≡ false → ⊥)
+    unreferenced-or = go (referenced p f) refl
       where
-        go : (t : Bool) → referenced p f ≡ t → Fresh p f ⊎ (referenced p f ≡ false → ⊥)
-        go false e = inl (fresh-means p f z e)
+        go : (t : Bool) → referenced p f ≡ t → Unreferenced p f ⊎ (referenced p f ≡ false → ⊥)
+        go false e = inl (unreferenced-means p f z e)
         go true e = inr (λ w. true≢false (sym e ∙ w))
 
     resident-in-slot-next : pins q f ≢ evicted → mapped q f ≢ 0 → InSlot q f
@@ -156,7 +156,7 @@ module _ {p : Pool} {c : ℕ} {m : Move} (x : Effect p c m) where
             in-slot a (r .mapping .resident-in-slot f z (λ d. l (evicted-next x f z a d)) e)
 
     mapped-or-owned-next : MappingCondition p c m → pins q f ≢ evicted → (mapped q f ≢ 0) ⊎ (((d : ℕ) × (client q d .own ≡ f)) ⊎ Orphan q f)
-    mapped-or-owned-next t l = go (ℕ-discrete (m .next .own) f) fresh-or
+    mapped-or-owned-next t l = go (ℕ-discrete (m .next .own) f) unreferenced-or
       where
         Goal : Type 0
         Goal = (mapped q f ≢ 0) ⊎ (((d : ℕ) × (client q d .own ≡ f)) ⊎ Orphan q f)
@@ -177,7 +177,7 @@ module _ {p : Pool} {c : ℕ} {m : Move} (x : Effect p c m) where
                 let o : client p c .own ≡ f = ap (λ (n : ℕ). client p n .own) (sym u) ∙ d .1 in
                 ended (subst (λ (f : ℕ). (mapped q f ≢ 0) ⊎ ((pins q f ≡ evicted) ⊎ Orphan q f)) o (t .own-end (λ y. z (sym o ∙ y)) (λ y. n (y ∙ o))))
 
-        go : Dec (m .next .own ≡ f) → Fresh p f ⊎ (referenced p f ≡ false → ⊥) → Goal
+        go : Dec (m .next .own ≡ f) → Unreferenced p f ⊎ (referenced p f ≡ false → ⊥) → Goal
         go (yes e) _ = inr (inl (c, ap (λ (n : Client). n .own) (client-same p c m (r .shape) here) ∙ e))
         go (no e) (inl w) =
             inr (inr (orphan-stays x f z
@@ -232,8 +232,8 @@ module _ {p : Pool} {c : ℕ} {m : Move} (x : Effect p c m) where
   mapping-of : Edge p c m → MappingCondition p c m → Mapping q
   mapping-of e t =
       record {
-        entries-apart = entries-next;
-        pages-apart = pages-next;
+        entries-distinct = entries-next;
+        pages-distinct = pages-next;
         grant-mapped = grant-mapped-next;
         grant-named = grant-named-next;
         knowing = all-clients p c m (r .shape) (λ _ n. Knows (n .stage) q n) here (λ d _. knows-next x d (client p d .stage) refl)
@@ -297,7 +297,7 @@ module _ (p : Pool) (c : ℕ) (r : Reached p) where
       forgets-own refl (λ _. refl) (λ _. refl) (λ z. inl (suc-not (own-mapped x _ _ (me .own) refl z refl (unused-found p (r .shape) u .0))))
   mapping-condition {m} (revives e l) x =
       forgets-own refl (λ _. refl) (λ _. refl)
-      (λ z. inl (suc-not (own-mapped x _ _ (me .own) refl z refl (lookup-found p (r .shape) (me .page) (λ w. known 22 e .1 .0 (sym l ∙ w)) .place))))
+      (λ z. inl (suc-not (own-mapped x _ _ (me .own) refl z refl (lookup-found p (r .shape) (me .page) (λ w. known 22 e .1 .0 (sym l ∙ w)) .inside))))
   mapping-condition {m} (evicts20 e) x =
       forgets-own refl never (λ _. victimless-now 20 e tt) (λ z. inr (inl (pins-here p c m (r .shape) (me .own) evicted refl (r .ranges .own-ok c z))))
   mapping-condition {m} (evicts23 e) x =

@@ -16,8 +16,8 @@ use Rattle.pool.specs.declared.Move.{Move}
 use Rattle.pool.specs.declared.GrantChange.the-variants.{Open}
 use Rattle.invariant.proofs.Reached.{Reached, mapped, InSlot, unplaced, unmapping}
 use Rattle.invariant.proofs.After.{client-same, client-other, slot-kept, slot-here, slot-else, pins-kept, pins-here, pins-else, page-kept, page-else}
-use Rattle.invariant.proofs.Searches.{fresh-means}
-use Rattle.invariant.proofs.Table.{suc-not, mapped-entry, mapped-kept, put-other, put-cases}
+use Rattle.invariant.proofs.Searches.{unreferenced-means}
+use Rattle.invariant.proofs.Table.{suc-not, mapped-entry, mapped-kept, put-other, put-unmapped}
 use Rattle.invariant.proofs.Grants.{grantPage-other, grantFrame-other, GrantFrom, old, new, past, grant-from}
 use Rattle.invariant.proofs.Effects.{Vacant, SlotOk, slots-stay, puts, PinChange, adds, lowers, drops-victim, drops-own, takes-one, PinsOk, pins-stay}
 use Rattle.invariant.proofs.Effects.{pins-put, EntryOk, entries-stay, maps, unmaps, PageOk, pages-stay, paged, Effect}
@@ -122,8 +122,8 @@ module _ {p : Pool} {c : ℕ} {m : Move} (x : Effect p c m) where
       where
         go : EntryOk p c m → mapped q f ≡ 0
         go (entries-stay a b) = mapped-kept p c m a b f ∙ e
-        go (maps i w h _ n _ _ _) = put-cases p c m (r .shape) i (k .page) (k .own) w h f z e (λ y. o n (sym y))
-        go (unmaps i a w h _ _) = put-cases p c m (r .shape) i a none w h f z e z
+        go (maps i w h _ n _ _ _) = put-unmapped p c m (r .shape) i (k .page) (k .own) w h f z e (λ y. o n (sym y))
+        go (unmaps i a w h _ _) = put-unmapped p c m (r .shape) i a none w h f z e z
 
     -- a frame's page changes only where it is taken
     pub page-next : (referenced p f ≡ false → ⊥) → page q f ≡ page p f
@@ -137,16 +137,16 @@ module _ {p : Pool} {c : ℕ} {m : Move} (x : Effect p c m) where
 
   module _ (f : ℕ) (z : f ≢ none) where
     pub by-own : (d : ℕ) → client p d .own ≡ f → referenced p f ≡ false → ⊥
-    by-own d e n = fresh-means p f z n .no-own d e
+    by-own d e n = unreferenced-means p f z n .no-own d e
 
     pub by-found : (d : ℕ) → client p d .found ≡ f → referenced p f ≡ false → ⊥
-    by-found d e n = fresh-means p f z n .no-found d e
+    by-found d e n = unreferenced-means p f z n .no-found d e
 
     pub by-victim : (d : ℕ) → client p d .victim ≡ f → referenced p f ≡ false → ⊥
-    by-victim d e n = fresh-means p f z n .no-victim d e
+    by-victim d e n = unreferenced-means p f z n .no-victim d e
 
     pub by-mapped : mapped p f ≢ 0 → referenced p f ≡ false → ⊥
-    by-mapped w n = let e = mapped-entry p f w in fresh-means p f z n .no-entry (e .0) (e .1)
+    by-mapped w n = let e = mapped-entry p f w in unreferenced-means p f z n .no-entry (e .0) (e .1)
 
   -- ---- grants: each was there, or is the one opened
 

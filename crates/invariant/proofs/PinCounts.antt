@@ -21,12 +21,12 @@ use Rattle.invariant.proofs.Reached.{Reached, PinCounts, Knows, one, gr
 use Rattle.invariant.proofs.Reached.{orphan}
 use Rattle.invariant.proofs.After.{PinsStay, PinsPut, client-same, client-other, all-clients, slot-kept, pins-kept, pins-here, pins-else}
 use Rattle.invariant.proofs.Sums.{one-is, one-not, sum-zero, sum-put, sum-has}
-use Rattle.invariant.proofs.Searches.{Fresh, fresh-means, free-found, grantOf-found, grant-in}
+use Rattle.invariant.proofs.Searches.{Unreferenced, unreferenced-means, free-found, grantOf-found, grant-in}
 use Rattle.invariant.proofs.Table.{mapped-kept}
 use Rattle.invariant.proofs.Grants.{grantsOn-none, grantsOn-other, grantsOn-keeps, grantsOn-opens, grantsOn-ends}
-use Rattle.invariant.proofs.Never.{know}
+use Rattle.invariant.proofs.NeverFails.{know}
 use Rattle.invariant.proofs.Facts.{none-own, foreign-claims, orphan-claims, own-pins, grant-pinned}
-use Rattle.invariant.proofs.Flags.{T-false, never, differ, imp-mp}
+use Rattle.invariant.proofs.StageTests.{T-false, never, differ, imp-mp}
 use Rattle.invariant.proofs.Edges.{Edge, moves-on, found1, found18, forgets2, forgets22, pins2, pins19, gets3, gets21, takes, fills, replaces, refuses, drops}
 use Rattle.invariant.proofs.Edges.{removes, admits, revives, evicts20, evicts23, begins, releases}
 use Rattle.invariant.proofs.Effects.{no-open, counters-untouched, Effect}
@@ -243,9 +243,9 @@ module _ (p : Pool) (c : ℕ) (r : Reached p) where
   refused-orphan x u z =
       let m : Move = refused15 me in
       record {
-        no-slot = λ i w. r .places .unplaced-out c i u z (sym (slot-kept p c m refl i) ∙ w);
+        no-slot = λ i w. r .places .unplaced-no-slot c i u z (sym (slot-kept p c m refl i) ∙ w);
         unmapped = mapped-kept p c m refl refl (me .own) ∙ r .private .own-unmapped c z;
-        unowned = all-clients p c m (r .shape) (λ _ n. n .own ≢ me .own) (x .here) (λ d o w. o (sym (r .places .owns-apart c d z (sym w)))) (λ w. z (sym w));
+        unowned = all-clients p c m (r .shape) (λ _ n. n .own ≢ me .own) (x .here) (λ d o w. o (sym (r .places .owns-distinct c d z (sym w)))) (λ w. z (sym w));
         unfound = all-clients p c m (r .shape) (λ _ n. n .found ≢ me .own) (x .here) (λ d _. r .private .own-unfound c d z) (λ w. z (sym w));
         ungranted = λ d i w. all-grants x (λ _ f. f ≢ me .own) (λ d i _. r .private .own-ungranted c d i z) (λ g f e. no-open e) d i
             (grant-in (apply p c m) d i (λ n. z (sym w ∙ n))) w;
@@ -276,8 +276,8 @@ module _ (p : Pool) (c : ℕ) (r : Reached p) where
       free : (freeFrame p < total p) × (referenced p (freeFrame p) ≡ false)
       free = free-found p (r .shape) z
 
-      fresh : Fresh p (freeFrame p)
-      fresh = fresh-means p (freeFrame p) z (free .1)
+      fresh : Unreferenced p (freeFrame p)
+      fresh = unreferenced-means p (freeFrame p) z (free .1)
 
       none-of : (d : ℕ) → claims p d (freeFrame p) ≡ 0
       none-of d = foreign-claims p d (freeFrame p) (fresh .no-found d) (fresh .no-grant d) ∙ one-not _ _ (fresh .no-own d)

@@ -10,7 +10,7 @@ use Rattle.pool.specs.declared.Client.{Client}
 use Rattle.pool.specs.declared.Move.{Move}
 use Rattle.invariant.proofs.Reached.{Reached, Private, mapped}
 use Rattle.invariant.proofs.After.{all-clients}
-use Rattle.invariant.proofs.Searches.{fresh-means, grant-in}
+use Rattle.invariant.proofs.Searches.{unreferenced-means, grant-in}
 use Rattle.invariant.proofs.Table.{mapped-zero}
 use Rattle.invariant.proofs.Effects.{OwnOk, own-forgotten, own-stays, own-taken, FoundOk, found-stays, found-forgotten, found-looked-up, Opened, of-found, of-own, Effect}
 use Rattle.invariant.proofs.Next.{unmapped-next, all-grants}
@@ -62,7 +62,7 @@ module _ {p : Pool} {c : ℕ} {m : Move} (x : Effect p c m) where
             unmapped = r .private .own-unmapped d z;
             unfound = λ e. r .private .own-unfound d e z;
             ungranted = λ e i. r .private .own-ungranted d e i z;
-            not-forgotten = λ _ w. o (r .places .owns-apart d c z (sym w));
+            not-forgotten = λ _ w. o (r .places .owns-distinct d c z (sym w));
           }
 
       mine : OwnOk p c m → m .next .own ≢ none → PrivateFrame p c (m .next) (m .next .own)
@@ -76,7 +76,7 @@ module _ {p : Pool} {c : ℕ} {m : Move} (x : Effect p c m) where
             not-forgotten = λ w. absurd (z w);
           }
       mine (own-taken _ _ e _) z =
-          let f = fresh-means p (m .next .own) z e in
+          let f = unreferenced-means p (m .next .own) z e in
           record { unmapped = mapped-zero p (m .next .own) (f .no-entry); unfound = f .no-found; ungranted = f .no-grant; not-forgotten = λ _. f .no-own c }
 
   pub private-next : Private q

@@ -17,7 +17,7 @@ use Rattle.invariant.proofs.After.{all-clients, pins-kept, pins-here, p
 use Rattle.invariant.proofs.After.{entryFrame-kept}
 use Rattle.invariant.proofs.Searches.{grant-in}
 use Rattle.invariant.proofs.Table.{put-frame, else-frame}
-use Rattle.invariant.proofs.Flags.{differ, at-most}
+use Rattle.invariant.proofs.StageTests.{differ, at-most}
 use Rattle.invariant.proofs.Edges.{Edge, moves-on, found1, found18, forgets2, forgets22, pins2, pins19, gets3, gets21, takes, fills, replaces, refuses, drops}
 use Rattle.invariant.proofs.Edges.{removes, admits, revives, evicts20, evicts23, begins, releases}
 use Rattle.invariant.proofs.Effects.{CountOk, counts-stay, counts-put, OwnOk, own-forgotten, own-stays, own-taken, PinChange, adds, lowers, drops-victim, drops-own}

@@ -23,10 +23,10 @@ sumTo g zero = 0
 sumTo g (suc n) = sumTo g n + g n
 
 -- no two places have the same number, the neutral one z aside
-abbrev pub Apart : (ℕ → ℕ) → ℕ → Type 0
-Apart g z = (i j : ℕ) → g i ≢ z → g i ≡ g j → i ≡ j
+abbrev pub Distinct : (ℕ → ℕ) → ℕ → Type 0
+Distinct g z = (i j : ℕ) → g i ≢ z → g i ≡ g j → i ≡ j
 
--- The table by frame: one more than the page that is mapped to a frame, 0 where none is. No frame is in two entries (`entries-apart`).
+-- The table by frame: one more than the page that is mapped to a frame, 0 where none is. No frame is in two entries (`entries-distinct`).
 unfoldable pub mapped : Pool → ℕ → ℕ
 mapped p f = scan (λ i. eqb (entryFrame p i) f) (λ i. suc (entryPage p i)) 0 0 (total p)
 
@@ -170,9 +170,9 @@ pub record Ranges (p : Pool) : Type 0 where
 
 -- where frames stand
 pub record Places (p : Pool) : Type 0 where
-  pub slots-apart : Apart (slot p) none
-  pub owns-apart : Apart (λ c. client p c .own) none
-  pub unplaced-out : (c i : ℕ) → T (unplaced (client p c .stage)) → client p c .own ≢ none → slot p i ≢ client p c .own
+  pub slots-distinct : Distinct (slot p) none
+  pub owns-distinct : Distinct (λ c. client p c .own) none
+  pub unplaced-no-slot : (c i : ℕ) → T (unplaced (client p c .stage)) → client p c .own ≢ none → slot p i ≢ client p c .own
 
 -- the own frame is in no entry and nobody else's
 pub record Private (p : Pool) : Type 0 where
@@ -187,8 +187,8 @@ pub record PinCounts (p : Pool) : Type 0 where
 
 -- the table, and what each client knows
 pub record Mapping (p : Pool) : Type 0 where
-  pub entries-apart : Apart (entryFrame p) none
-  pub pages-apart : (i j : ℕ) → entryFrame p i ≢ none → entryFrame p j ≢ none → entryPage p i ≡ entryPage p j → i ≡ j
+  pub entries-distinct : Distinct (entryFrame p) none
+  pub pages-distinct : (i j : ℕ) → entryFrame p i ≢ none → entryFrame p j ≢ none → entryPage p i ≡ entryPage p j → i ≡ j
   pub grant-mapped : (c i : ℕ) → grantFrame p c i ≢ none → mapped p (grantFrame p c i) ≡ suc (grantPage p c i)
   pub grant-named : (c i : ℕ) → i < client p c .held → grantFrame p c i ≢ none
   pub knowing : (c : ℕ) → Knows (client p c .stage) p (client p c)

@@ -1,5 +1,5 @@
 -- Every call that is not turned down in a reached pool makes one of the moves of `Edges`: one lemma for each of the 23 stages, a case for each branch
--- of its definition. A branch that would be stuck is shut by a clause: a frame and an unused entry are there (`Never`), free is not 0 at 6, an own
+-- of its definition. A branch that would be stuck is shut by a clause: a frame and an unused entry are there (`NeverFails`), free is not 0 at 6, an own
 -- frame has pins 1, a working client has room for a grant. Assumes nothing.
 use mathlib.Core.Path.{_≡_, refl, sym, ap, _∙_}
 use mathlib.Core.Logic.{_≢_, inl, inr}
@@ -31,10 +31,10 @@ use Rattle.laws.specs.Choices.{by-test, chosen}
 use Rattle.invariant.proofs.Reached.{Reached, Knows, WillUnmap, mapped, victimless, filling, examining}
 use Rattle.invariant.proofs.Each.{Each, fin, _also_, each-in}
 use Rattle.invariant.proofs.Searches.{grantOf-found}
-use Rattle.invariant.proofs.Never.{know, finds-some, room}
-use Rattle.invariant.proofs.Flags.{T-false, never, differ, imp-mp, onward, onward-means, keepsVictim, keeps-victim-means, unmapsNone, unmaps-none, MayRefuse}
+use Rattle.invariant.proofs.NeverFails.{know, finds-some, finds-unused}
+use Rattle.invariant.proofs.StageTests.{T-false, never, differ, imp-mp, onward, onward-means, keepsVictim, keeps-victim-means, unmapsNone, unmaps-none, MayRefuse}
 use Rattle.invariant.proofs.Allowed.{allowed, may-begin, may-step, may-release}
-use Rattle.invariant.proofs.Facts.{own-pins, grant-pinned, entry-gone}
+use Rattle.invariant.proofs.Facts.{own-pins, grant-pinned, lookup-unmapped}
 use Rattle.invariant.proofs.Edges.{CountersOnly, keep, hand, counts, free, SameFrames, grants, Edge, moves-on, found1, found18, forgets2, forgets22, pins2, pins19, gets3}
 use Rattle.invariant.proofs.Edges.{gets21, takes, fills, replaces, refuses, drops, removes, admits, revives, evicts20, evicts23, begins, releases}
 
@@ -286,7 +286,7 @@ module _ (p : Pool) (c : ℕ) (here : c < clientCount p) (r : Reached p) where
         no-victim = λ _. refl;
         six-seen = λ w. absurd (differ 18 6 tt w);
         examines = never;
-        will-unmap = λ f z n w. absurd (n (ap (mapped p) (sym (w .0)) ∙ entry-gone p r (k .victim) (known 17 e .1 .0) (eqb-false _ _ t)));
+        will-unmap = λ f z n w. absurd (n (ap (mapped p) (sym (w .0)) ∙ lookup-unmapped p r (k .victim) (known 17 e .1 .0) (eqb-false _ _ t)));
         fills = rw e refl;
       }))
 
@@ -294,7 +294,7 @@ module _ (p : Pool) (c : ℕ) (here : c < clientCount p) (r : Reached p) where
   unfolding stage18
   step18 e =
       by-test IsEdge
-      (λ t. by-test IsEdge (λ u. absurd (room p r c (known 18 e .0) (eqb-true _ _ u)))
+      (λ t. by-test IsEdge (λ u. absurd (finds-unused p r c (known 18 e .0) (eqb-true _ _ u)))
       (λ u. gets 18 _ _ _ e tt (admits e (eqb-true _ _ t) (eqb-false _ _ u))))
       (λ t. found18 e (eqb-false _ _ t))
 

@@ -16,10 +16,10 @@ use Rattle.pool.specs.declared.Move.{Move}
 use Rattle.pool.specs.declared.Write.the-variants.{PutEntry}
 use Rattle.laws.specs.Choices.{scan-ind}
 use Rattle.laws.specs.Scans.{scan-none, scan-same, scan-only}
-use Rattle.invariant.proofs.Reached.{Apart, mapped, Shape}
+use Rattle.invariant.proofs.Reached.{Distinct, mapped, Shape}
 use Rattle.invariant.proofs.After.{EntryPagesStay, EntryFramesStay, entry-in, entryPage-kept, entryFrame-kept, entryPage-here, entryPage-else}
 use Rattle.invariant.proofs.After.{entryFrame-here, entryFrame-else}
-use Rattle.invariant.proofs.Apart.{apart-put}
+use Rattle.invariant.proofs.Distinct.{distinct-put}
 use Rattle.invariant.proofs.Searches.{lookup-found, lookup-is}
 
 -- one more than a number is not 0
@@ -50,7 +50,7 @@ module _ (p : Pool) (f : ℕ) where
   pub mapped-zero : ((i : ℕ) → entryFrame p i ≢ f) → mapped p f ≡ 0
   mapped-zero h = elim (ℕ-discrete (mapped p f) 0) [ yes e ↦ e | no n ↦ (let r = mapped-entry n in absurd (h (r .0) (r .1))) ]
 
-  pub mapped-is : Apart (entryFrame p) none → f ≢ none → (i : ℕ) → entryFrame p i ≡ f → mapped p f ≡ suc (entryPage p i)
+  pub mapped-is : Distinct (entryFrame p) none → f ≢ none → (i : ℕ) → entryFrame p i ≡ f → mapped p f ≡ suc (entryPage p i)
   unfolding mapped
   mapped-is apart z i e =
       scan-only (λ i. eqb (entryFrame p i) f) (λ i. suc (entryPage p i)) 0 0 (total p) i (omega arith)
@@ -60,7 +60,7 @@ module _ (p : Pool) (f : ℕ) where
 -- ---- the look-up
 
 module _ (p : Pool) (shape : Shape p) where
-  pub lookup-mapped : Apart (entryFrame p) none → (g : ℕ) → lookup p g ≢ none → mapped p (lookup p g) ≡ suc g
+  pub lookup-mapped : Distinct (entryFrame p) none → (g : ℕ) → lookup p g ≢ none → mapped p (lookup p g) ≡ suc g
   lookup-mapped apart g z =
       let f = lookup-found p shape g z in
       mapped-is p (lookup p g) apart z (entryOf p g) (f .entry-frame) ∙ ap suc (f .entry-page)
@@ -131,25 +131,25 @@ module _ (p : Pool) (c : ℕ) (m : Move) where
         go i (yes w) = inr (λ r. b (sym r ∙ ap (entryFrame p) w), λ r. a (sym r ∙ ap (entryFrame q) w ∙ put-frame))
 
     -- the frame put is in no other entry
-    module _ (apart : Apart (entryFrame p) none) (only : f ≢ none → (i : ℕ) → i ≢ j → entryFrame p i ≢ f) where
-      pub put-apart : Apart (entryFrame q) none
-      put-apart =
-          apart-put (entryFrame p) (entryFrame q) none apart j else-frame (λ z i o w. only (λ n. z (put-frame ∙ n)) i o (w ∙ put-frame))
+    module _ (apart : Distinct (entryFrame p) none) (only : f ≢ none → (i : ℕ) → i ≢ j → entryFrame p i ≢ f) where
+      pub put-distinct : Distinct (entryFrame q) none
+      put-distinct =
+          distinct-put (entryFrame p) (entryFrame q) none apart j else-frame (λ z i o w. only (λ n. z (put-frame ∙ n)) i o (w ∙ put-frame))
 
       pub put-new : f ≢ none → mapped q f ≡ suc g
-      put-new z = mapped-is q f put-apart z j put-frame ∙ ap suc put-page
+      put-new z = mapped-is q f put-distinct z j put-frame ∙ ap suc put-page
 
       -- the frame that stood at the place is in no entry now
-      pub put-gone : entryFrame p j ≢ none → entryFrame p j ≢ f → mapped q (entryFrame p j) ≡ 0
-      put-gone z w = mapped-zero q (entryFrame p j) (λ i. go i (ℕ-discrete i j))
+      pub put-replaced : entryFrame p j ≢ none → entryFrame p j ≢ f → mapped q (entryFrame p j) ≡ 0
+      put-replaced z w = mapped-zero q (entryFrame p j) (λ i. go i (ℕ-discrete i j))
         where
           go : (i : ℕ) → Dec (i ≡ j) → entryFrame q i ≢ entryFrame p j
           go i (yes x) r = w (sym r ∙ ap (entryFrame q) x ∙ put-frame)
           go i (no x) r = x (sym (apart j i z (sym r ∙ else-frame i x)))
 
     -- an entry that a frame has now it had before, or it is the one put
-    pub put-cases : (x : ℕ) → x ≢ none → mapped p x ≡ 0 → x ≢ f → mapped q x ≡ 0
-    put-cases x z n w = mapped-zero q x (λ i. go i (ℕ-discrete i j))
+    pub put-unmapped : (x : ℕ) → x ≢ none → mapped p x ≡ 0 → x ≢ f → mapped q x ≡ 0
+    put-unmapped x z n w = mapped-zero q x (λ i. go i (ℕ-discrete i j))
       where
         go : (i : ℕ) → Dec (i ≡ j) → entryFrame q i ≢ x
         go i (yes y) r = w (sym r ∙ ap (entryFrame q) y ∙ put-frame)

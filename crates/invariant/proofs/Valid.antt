@@ -65,7 +65,7 @@ module _ (p : Pool) (r : Reached p) where
   granted-frame : (c i : ℕ) → i < client p c .held → grantFrame p c i ≡ lookup p (grantPage p c i)
   granted-frame c i h =
       let n = r .mapping .grant-named c i h in
-      sym (mapped-lookup p (r .shape) (r .mapping .pages-apart) (grantFrame p c i) (grantPage p c i) n (r .mapping .grant-mapped c i n) .1)
+      sym (mapped-lookup p (r .shape) (r .mapping .pages-distinct) (grantFrame p c i) (grantPage p c i) n (r .mapping .grant-mapped c i n) .1)
 
   client-ranged : (c : ℕ) → ClientRanged p c
   client-ranged c =
@@ -96,7 +96,7 @@ module _ (p : Pool) (r : Reached p) where
         pins = λ f _. r .ranges .pins-ok f;
         count = λ f _. r .ranges .count-ok f;
         entry = λ i _. r .ranges .entry-ok i;
-        apart = λ i j _ _. r .mapping .pages-apart i j;
+        apart = λ i j _ _. r .mapping .pages-distinct i j;
         client = λ c _. client-ranged c;
       }
 
