@@ -23,7 +23,7 @@ use Rattle.invariant.proofs.Allowed.{allowed, only-step}
 use Rattle.invariant.proofs.Calls.{reached-call}
 use Rattle.guarantee.specs.Runs.{Event, happens, events, At, Begins}
 use Rattle.guarantee.specs.Claims.{AllHeld, AnswersTo, TurnedDown, RefusedAlone}
-use Rattle.guarantee.proofs.Turned.{same-pool, other-answer, other-call, turned, down, by-move, went}
+use Rattle.guarantee.proofs.Turned.{same-pool, other-answer, other-call, turned-down, down, by-move, went}
 use Rattle.guarantee.proofs.OneClient.{rest-unanswered}
 use Rattle.guarantee.proofs.SoloSteps.{begun-is, begun-rests, begun-on}
 use Rattle.guarantee.proofs.Base.{Base, base-still, pins-still}
@@ -53,7 +53,7 @@ module _ (p₀ : Pool) (b g : ℕ) (reached : Reached p₀) (rest : (c : ℕ) �
 
   -- a call that is no step of the client changes nothing
   idle-call : (p : Pool) (x : Call) → Works p₀ b g reached rest p → Fair (happens p x) → x ≢ Step b → callOf p x .pool ≡ p
-  idle-call p x w (inr t) n = turned p x (t .0) (t .1) (t .2) .0
+  idle-call p x w (inr t) n = turned-down p x (t .0) (t .1) (t .2) .0
   idle-call p x w (inl e) n =
       elim (went p x) [
         | down _ _ q ↦ same-pool q
@@ -133,14 +133,14 @@ refused-alone p (x ∷ calls) r q c g (suc k) (suc n) a =
       others-rest = a .others-rest;
       later = le-of-suc-le-suc (a .later);
       answered = a .answered;
-      same = λ m y z. a .same (suc m) (omega arith) (omega arith);
+      same-request = λ m y z. a .same-request (suc m) (omega arith) (omega arith);
       no-others = λ m y z. a .no-others (suc m) (omega arith) (omega arith);
     })
 refused-alone p (x ∷ calls) r q c g zero (suc n) a =
     subst (λ (y : Pool). At (λ e. e .answer ≡ Refused 15) (events (callOf p x .pool) calls) n ↔ ((resident y g ≡ false) × AllHeld y)) (a .begun .0)
     (verdict-iff p c g r rest (events (callOf p x .pool) calls) n
     (path-run p c g r rest (callOf p x .pool) calls n first
-    (λ m y. a .same (suc m) (omega arith) (omega arith)) (λ m y. a .no-others (suc m) (omega arith) (omega arith)) (a .answered)))
+    (λ m y. a .same-request (suc m) (omega arith) (omega arith)) (λ m y. a .no-others (suc m) (omega arith) (omega arith)) (a .answered)))
   where
     done : callOf p (Begin c g) .answer ≡ Done g
     done = subst (λ (y : Call). callOf p y .answer ≡ Done g) (a .begun .1) (a .begun .2)

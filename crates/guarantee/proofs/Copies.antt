@@ -22,9 +22,9 @@ use Rattle.invariant.proofs.Grants.{grantsOf}
 use Rattle.invariant.proofs.Calls.{reached-call}
 use Rattle.guarantee.specs.Runs.{happens, events, Throughout}
 use Rattle.guarantee.specs.Sequential as Plain
-use Rattle.guarantee.specs.Sequential.{Place, Taker, Sequential, taker, member, Keeps, StepRule, adds, admits, drops, answers, moves, refuses, Rule}
-use Rattle.guarantee.specs.Sequential.{turns, begins, releases, steps}
-use Rattle.guarantee.specs.Claims.{OneCopy, PutsOut, HeldPinned, NoHeldEvicted}
+use Rattle.guarantee.specs.Sequential.{SeqSlot, SeqClient, Sequential, seqClient, member, Keeps, StepRule, adds, admits, drops, answers, continues, refuses, Rule}
+use Rattle.guarantee.specs.Sequential.{turns-down, begins, releases, steps}
+use Rattle.guarantee.specs.Claims.{OneCopy, BecomesEvicted, HeldPinned, NoHeldEvicted}
 use Rattle.guarantee.proofs.Along.{throughout, at-each}
 use Rattle.guarantee.proofs.Mirror.{Shows, is-member, Mirrors, view, mirrors-view}
 use Rattle.guarantee.proofs.Follow.{Followed, followed}
@@ -39,22 +39,22 @@ one-copy p r c d i j a b e =
 
 -- ---- a page with a grant stays
 
-step-keeps : {q : Sequential} {k : Taker} {a : Answer} {places : List Place} {next : Taker} {g f : ℕ} → StepRule q k a places next
-    → (c : ℕ) → member g (taker q c .grants) ≡ true → Keeps q g f → (i : ℕ) × (getD places i Plain.empty ≡ Plain.holds g f)
+step-keeps : {q : Sequential} {k : SeqClient} {a : Answer} {slots : List SeqSlot} {next : SeqClient} {g f : ℕ} → StepRule q k a slots next
+    → (c : ℕ) → member g (seqClient q c .grants) ≡ true → Keeps q g f → (i : ℕ) × (getD slots i Plain.empty ≡ Plain.stores g f)
 step-keeps (adds _ _) c m h = h
 step-keeps (answers _ _) c m h = h
-step-keeps (moves _ _ _) c m h = h
+step-keeps (continues _ _ _) c m h = h
 step-keeps refuses c m h = h
 step-keeps {q} {k} {g = g} (admits {f = x} _ _ _ i _ vacant) c m h =
-    let other : h .0 ≢ i = λ e. let z : _≡_ {A = ℕ} 0 1 = cc (ap (Plain.place q) e) in omega arith in
-    (h .0, getD-set-other (q .places) i (h .0) (Plain.holds (k .wants) x) Plain.empty other ∙ h .1)
+    let other : h .0 ≢ i = λ e. let z : _≡_ {A = ℕ} 0 1 = cc (ap (Plain.seqSlot q) e) in omega arith in
+    (h .0, getD-set-other (q .slots) i (h .0) (Plain.stores (k .wants) x) Plain.empty other ∙ h .1)
 step-keeps {q} {g = g} (drops {g = y} _ i full unheld) c m h =
-    let other : h .0 ≢ i = λ e. let same : y ≡ g = cc (ap (Plain.place q) e) in true≢false (sym m ∙ rw same at (unheld c)) in
-    (h .0, getD-set-other (q .places) i (h .0) Plain.empty Plain.empty other ∙ h .1)
+    let other : h .0 ≢ i = λ e. let same : y ≡ g = cc (ap (Plain.seqSlot q) e) in true≢false (sym m ∙ rw same at (unheld c)) in
+    (h .0, getD-set-other (q .slots) i (h .0) Plain.empty Plain.empty other ∙ h .1)
 
 rule-keeps : {q next : Sequential} {x : Call} {a : Answer} {g f : ℕ} → Rule q x a next
-    → (c : ℕ) → member g (taker q c .grants) ≡ true → Keeps q g f → Keeps next g f
-rule-keeps (turns _ _) c m h = h
+    → (c : ℕ) → member g (seqClient q c .grants) ≡ true → Keeps q g f → Keeps next g f
+rule-keeps (turns-down _ _) c m h = h
 rule-keeps (begins _) c m h = h
 rule-keeps (releases _) c m h = h
 rule-keeps (steps _ s) c m h = step-keeps s c m h
@@ -72,7 +72,7 @@ not-evicted p x f r h out = v .live (ap (pins (callOf p x .pool)) (v .frame) ∙
     c = grant .client-of
 
     i : ℕ
-    i = grant .place
+    i = grant .index
 
     g : ℕ
     g = grantPage p c i
@@ -86,10 +86,10 @@ not-evicted p x f r h out = v .live (ap (pins (callOf p x .pool)) (v .frame) ∙
     kept : Keeps (view p) g f
     kept = rw (grant .names) at (there r mirror named (λ z. omega (arith, grant-pinned p r c i named)) (r .mapping .grant-mapped c i named))
 
-    granted : member g (taker (view p) c .grants) ≡ true
+    granted : member g (seqClient (view p) c .grants) ≡ true
     granted =
         let n = sum-has (λ j. one (eqb (grantPage p c j) g)) (client p c .held) i (grant .inside) in
-        is-member g _ (λ z. omega (arith, mirror .takers c .grants g, one-is g))
+        is-member g _ (λ z. omega (arith, mirror .clients c .grants g, one-is g))
 
     after : Followed (view p) x (callOf p x)
     after = followed r mirror x
@@ -101,9 +101,9 @@ not-evicted p x f r h out = v .live (ap (pins (callOf p x .pool)) (v .frame) ∙
     v = shows (reached-call p x r) (after .mirrors) still
 
 pub no-held-evicted : (p : Pool) (calls : List Call) → Reached p → NoHeldEvicted (events p calls)
-no-held-evicted p calls r f = at-each (PutsOut f) (λ e. held (e .before) f ≡ false) (λ p x r h. go p x r h (held p f) refl) p calls r
+no-held-evicted p calls r f = at-each (BecomesEvicted f) (λ e. held (e .before) f ≡ false) (λ p x r h. go p x r h (held p f) refl) p calls r
   where
-    go : (p : Pool) (x : Call) → Reached p → PutsOut f (happens p x) → (b : Bool) → held p f ≡ b → b ≡ false
+    go : (p : Pool) (x : Call) → Reached p → BecomesEvicted f (happens p x) → (b : Bool) → held p f ≡ b → b ≡ false
     go p x r h true e = absurd (not-evicted p x f r e (h .1))
     go p x r h false e = refl
 

@@ -20,21 +20,21 @@ use Rattle.guarantee.specs.Claims.{HeldPinned}
 -- a held frame has a grant
 pub record Grant (p : Pool) (f : ℕ) : Type 0 where
   pub client-of : ℕ
-  pub place : ℕ
-  pub inside : place < client p client-of .held
-  pub names : grantFrame p client-of place ≡ f
+  pub index : ℕ
+  pub inside : index < client p client-of .held
+  pub names : grantFrame p client-of index ≡ f
 
 pub held-grant : (p : Pool) (f : ℕ) → held p f ≡ true → Grant p f
 unfolding held holds
 held-grant p f h =
     let c = some-true (holds p f) (clientCount p) h in
     let i = some-true (λ j. eqb (grantFrame p (c .0) j) f) (client p (c .0) .held) (c .2) in
-    record { client-of = c .0; place = i .0; inside = i .1; names = eqb-true _ _ (i .2) }
+    record { client-of = c .0; index = i .0; inside = i .1; names = eqb-true _ _ (i .2) }
 
 pub held-pinned : (p : Pool) → Reached p → HeldPinned p
 held-pinned p r f h =
     let g = held-grant p f h in
-    rw (g .names) at (grant-pinned p r (g .client-of) (g .place) (r .mapping .grant-named (g .client-of) (g .place) (g .inside)))
+    rw (g .names) at (grant-pinned p r (g .client-of) (g .index) (r .mapping .grant-named (g .client-of) (g .index) (g .inside)))
 
 module _ (p : Pool) (r : Reached p) where
   -- a page has one frame

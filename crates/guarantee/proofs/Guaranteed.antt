@@ -22,7 +22,7 @@ use Rattle.guarantee.proofs.Once.{taken-out-once}
 use Rattle.guarantee.proofs.OneEffect.{one-effect}
 use Rattle.guarantee.proofs.Alone.{refused-alone}
 use Rattle.guarantee.proofs.Listed.{listed}
-use Rattle.guarantee.proofs.Turned.{turned, refused}
+use Rattle.guarantee.proofs.Turned.{turned-down, refused}
 use Rattle.guarantee.proofs.Solo.{limits}
 use Rattle.guarantee.proofs.Start.{starts}
 
@@ -55,4 +55,4 @@ answers s t c h e calls =
     }
 
 pub guarantee : Guarantee
-guarantee = record { point3 = point3; answers = answers; turned = turned; refused = refused; sum = sum; limits = limits }
+guarantee = record { point3 = point3; answers = answers; turned-down = turned-down; refused = refused; sum = sum; limits = limits }

@@ -10,7 +10,7 @@ pub mod Listed
 pub mod Mirror
 pub mod Frames
 pub mod Pages
-pub mod Takers
+pub mod SeqClients
 pub mod Weights
 -- what each write shows of the places; each move is a step of the sequential pool; so each call and each list of calls
 pub mod Shown

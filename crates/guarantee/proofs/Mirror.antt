@@ -22,16 +22,16 @@ use Rattle.invariant.proofs.Reached.{one, sumTo, mapped, pinsFound, Shape}
 use Rattle.invariant.proofs.After.{slot-past, client-past}
 use Rattle.invariant.proofs.Searches.{none-evicted}
 use Rattle.invariant.proofs.Grants.{grantsOf}
-use Rattle.guarantee.specs.Sequential.{Place, empty, holds, Taker, Sequential, place, resting, taker, member, without}
+use Rattle.guarantee.specs.Sequential.{SeqSlot, empty, stores, SeqClient, Sequential, seqSlot, seqResting, seqClient, member, without}
 
 -- ---- places
 
 -- a frame and its entry, one more than the page or 0, as a place
-unfoldable pub shown : ℕ → ℕ → Place
+unfoldable pub shown : ℕ → ℕ → SeqSlot
 shown f zero = empty
-shown f (suc g) = holds g f
+shown f (suc g) = stores g f
 
-unfoldable pub seen : Pool → ℕ → Place
+unfoldable pub seen : Pool → ℕ → SeqSlot
 seen p f = choose (eqb (pins p f) evicted) empty (shown f (mapped p f))
 
 module _ (p : Pool) (f : ℕ) where
@@ -41,9 +41,9 @@ module _ (p : Pool) (f : ℕ) where
 
   pub seen-unmapped : mapped p f ≡ 0 → seen p f ≡ empty
   unfolding seen shown
-  seen-unmapped e = by-test (λ (x : Place). x ≡ empty) (λ _. refl) (λ _. rw e refl)
+  seen-unmapped e = by-test (λ (x : SeqSlot). x ≡ empty) (λ _. refl) (λ _. rw e refl)
 
-  pub seen-full : {g : ℕ} → pins p f ≢ evicted → mapped p f ≡ suc g → seen p f ≡ holds g f
+  pub seen-full : {g : ℕ} → pins p f ≢ evicted → mapped p f ≡ suc g → seen p f ≡ stores g f
   unfolding seen shown
   seen-full z e = passed _ _ _ (ne-eqb (pins p f) evicted z) ∙ rw e refl
 
@@ -53,11 +53,11 @@ module _ (p : Pool) (f : ℕ) where
     pub entry : mapped p f ≡ suc g
     pub frame : f ≡ h
 
-  pub seen-shows : {g h : ℕ} → seen p f ≡ holds g h → Shows g h
+  pub seen-shows : {g h : ℕ} → seen p f ≡ stores g h → Shows g h
   unfolding seen shown choose
   seen-shows {g} {h} e = go (eqb (pins p f) evicted) (mapped p f) refl refl e
     where
-      go : (t : Bool) (n : ℕ) → eqb (pins p f) evicted ≡ t → mapped p f ≡ n → choose t empty (shown f n) ≡ holds g h → Shows g h
+      go : (t : Bool) (n : ℕ) → eqb (pins p f) evicted ≡ t → mapped p f ≡ n → choose t empty (shown f n) ≡ stores g h → Shows g h
       go true n a b e = let z : _≡_ {A = ℕ} 0 1 = cc in absurd (omega arith)
       go false zero a b e = let z : _≡_ {A = ℕ} 0 1 = cc in absurd (omega arith)
       go false (suc n) a b e = record { live = eqb-false (pins p f) evicted a; entry = cc; frame = cc }
@@ -114,17 +114,17 @@ without-length g (x ∷ xs) z = go (eqb x g) refl (without-length g xs)
     go false e ih = omega (arith, ih (λ w. z (omega (arith, ap one e))))
 
 -- A client and its like in the sequential pool; x says how many open grants the client has on each page.
-pub record Taken (k : Client) (x : ℕ → ℕ) (t : Taker) : Type 0 where
+pub record Taken (k : Client) (x : ℕ → ℕ) (t : SeqClient) : Type 0 where
   pub stage : t .stage ≡ k .stage
   pub wants : k .stage ≢ 0 → t .wants ≡ k .page
   pub many : length (t .grants) ≡ k .held + one (pinsFound (k .stage))
   pub grants : (g : ℕ) → times g (t .grants) ≡ x g + one (pinsFound (k .stage) && eqb (k .page) g)
 
-pub taken-as : {k : Client} {x y : ℕ → ℕ} {t : Taker} → ((g : ℕ) → y g ≡ x g) → Taken k x t → Taken k y t
+pub taken-as : {k : Client} {x y : ℕ → ℕ} {t : SeqClient} → ((g : ℕ) → y g ≡ x g) → Taken k x t → Taken k y t
 taken-as e h = record { stage = h .stage; wants = h .wants; many = h .many; grants = λ g. rw (e g) (h .grants g) }
 
 -- where no page is pinned for it, its grants are the open ones
-module _ {k : Client} {x : ℕ → ℕ} {t : Taker} (old : Taken k x t) (e : pinsFound (k .stage) ≡ false) where
+module _ {k : Client} {x : ℕ → ℕ} {t : SeqClient} (old : Taken k x t) (e : pinsFound (k .stage) ≡ false) where
   pub open-many : length (t .grants) ≡ k .held
   open-many = old .many ∙ rw e (omega arith)
 
@@ -134,10 +134,10 @@ module _ {k : Client} {x : ℕ → ℕ} {t : Taker} (old : Taken k x t) (e : pin
 -- ---- the two pools
 
 pub record Mirrors (p : Pool) (q : Sequential) : Type 0 where
-  pub size : length (q .places) ≡ p .size
-  pub places : (i : ℕ) → place q i ≡ seen p (slot p i)
-  pub count : length (q .takers) ≡ clientCount p
-  pub takers : (c : ℕ) → Taken (client p c) (grantsOf p c) (taker q c)
+  pub size : length (q .slots) ≡ p .size
+  pub slots : (i : ℕ) → seqSlot q i ≡ seen p (slot p i)
+  pub count : length (q .clients) ≡ clientCount p
+  pub clients : (c : ℕ) → Taken (client p c) (grantsOf p c) (seqClient q c)
 
 -- ---- one such sequential pool
 
@@ -150,8 +150,8 @@ unfoldable pub downFrom : (ℕ → ℕ) → ℕ → List ℕ
 downFrom f zero = []
 downFrom f (suc n) = f n ∷ downFrom f n
 
-unfoldable pub viewTaker : Client → List ℕ → Taker
-viewTaker k grants =
+unfoldable pub viewClient : Client → List ℕ → SeqClient
+viewClient k grants =
     record {
       stage = k .stage;
       wants = choose (eqb (k .stage) 0) 0 (k .page);
@@ -161,8 +161,8 @@ viewTaker k grants =
 unfoldable pub view : Pool → Sequential
 view p =
     record {
-      places = upTo (λ i. seen p (slot p i)) (p .size);
-      takers = upTo (λ c. viewTaker (client p c) (downFrom (grantPage p c) (client p c .held))) (clientCount p);
+      slots = upTo (λ i. seen p (slot p i)) (p .size);
+      clients = upTo (λ c. viewClient (client p c) (downFrom (grantPage p c) (client p c .held))) (clientCount p);
     }
 
 module _ {A : Type 0} where
@@ -198,8 +198,8 @@ down-length f (suc n) = ap suc (down-length f n)
 one-and : (a b : Bool) → a ≡ false → one (a && b) ≡ 0
 one-and a b e = rw e refl
 
-view-taken : (k : Client) (l : List ℕ) → length l ≡ k .held → Taken k (λ g. times g l) (viewTaker k l)
-unfolding viewTaker times
+view-taken : (k : Client) (l : List ℕ) → length l ≡ k .held → Taken k (λ g. times g l) (viewClient k l)
+unfolding viewClient times
 view-taken k l n =
     record {
       stage = refl;
@@ -211,24 +211,24 @@ view-taken k l n =
     }
 
 pub mirrors-view : (p : Pool) → Shape p → Mirrors p (view p)
-unfolding view grantsOf viewTaker choose downFrom
+unfolding view grantsOf viewClient choose downFrom
 mirrors-view p s =
     record {
       size = upTo-length _ (p .size);
-      places =
+      slots =
           upTo-at (λ i. seen p (slot p i)) (p .size) empty
           (λ i h. ap (seen p) (slot-past p i h) ∙ seen-evicted p none (none-evicted p s));
       count = upTo-length _ (clientCount p);
-      takers =
-          λ c. rw (upTo-at taken (clientCount p) (resting []) past c)
+      clients =
+          λ c. rw (upTo-at taken (clientCount p) (seqResting []) past c)
           (taken-as (λ g. sym (down-times (grantPage p c) _ g)) (view-taken (client p c) (grants c) (down-length (grantPage p c) _)));
     }
   where
     grants : ℕ → List ℕ
     grants c = downFrom (grantPage p c) (client p c .held)
 
-    taken : ℕ → Taker
-    taken c = viewTaker (client p c) (grants c)
+    taken : ℕ → SeqClient
+    taken c = viewClient (client p c) (grants c)
 
-    past : (c : ℕ) → clientCount p ≤ c → taken c ≡ resting []
+    past : (c : ℕ) → clientCount p ≤ c → taken c ≡ seqResting []
     past c h = rw (client-past p c h) refl

@@ -93,7 +93,7 @@ replaced-out p x f r z h =
     c = h .client-of
 
     i : ℕ
-    i = h .place
+    i = h .at-slot
 
     m : Move
     m = moveOf p (Step c)
@@ -124,7 +124,7 @@ taken-first : (p : Pool) (calls : List Call) (f : ℕ) → Reached p → f ≢ n
     → (m : ℕ) × (m < n) × At (Takes f) (events p calls) m
 unfolding events At
 taken-first p [] f r z o n h = absurd h
-taken-first p (x ∷ calls) f r z o zero h = absurd (o .no-slot (h .place) (h .named))
+taken-first p (x ∷ calls) f r z o zero h = absurd (o .no-slot (h .at-slot) (h .named))
 taken-first p (x ∷ calls) f r z o (suc n) h =
     let ih = taken-first (callOf p x .pool) calls f (reached-call p x r) z in
     elim (out-call p x f r z o) [ inl q ↦ (let w = ih q n h in (suc (w .0), omega (arith, w .1), w .2)) | inr t ↦ (0, omega arith, t) ]
@@ -145,7 +145,7 @@ taken-between p (x ∷ calls) f r z (suc k) (suc n) l a b =
 -- what is evicted is a frame
 evicts-frame : (p : Pool) (calls : List Call) (f : ℕ) → Reached p → (k : ℕ) → At (Evicts f) (events p calls) k → f ≢ none
 evicts-frame p calls f =
-    at-some (Evicts f) (f ≢ none) (λ p x r e. pins-named p (r .shape) f (e .puts-out .0)) p calls
+    at-some (Evicts f) (f ≢ none) (λ p x r e. pins-named p (r .shape) f (e .becomes-evicted .0)) p calls
 
 pub taken-out-once : (p : Pool) (calls : List Call) → Reached p → TakenOutOnce (events p calls)
 taken-out-once p calls r f k m n e a b = go (decLt m n) (decLt n m)
@@ -154,6 +154,6 @@ taken-out-once p calls r f k m n e a b = go (decLt m n) (decLt n m)
     z = evicts-frame p calls f r k e
 
     go : Dec (m < n) → Dec (n < m) → m ≡ n
-    go (yes l) _ = let t = taken-between p calls f r z m n l (a .out) (b .out) in absurd (b .not-anew (t .0) (omega (arith, a .later, t .1)) (t .2) (t .3))
-    go (no _) (yes l) = let t = taken-between p calls f r z n m l (b .out) (a .out) in absurd (a .not-anew (t .0) (omega (arith, b .later, t .1)) (t .2) (t .3))
+    go (yes l) _ = let t = taken-between p calls f r z m n l (a .replaces) (b .replaces) in absurd (b .not-anew (t .0) (omega (arith, a .later, t .1)) (t .2) (t .3))
+    go (no _) (yes l) = let t = taken-between p calls f r z n m l (b .replaces) (a .replaces) in absurd (a .not-anew (t .0) (omega (arith, b .later, t .1)) (t .2) (t .3))
     go (no x) (no y) = omega arith

@@ -23,7 +23,7 @@ use Rattle.invariant.proofs.Allowed.{may-begin, may-release}
 use Rattle.invariant.proofs.Calls.{reached-call}
 use Rattle.guarantee.specs.Runs.{Event, happens, events, At, Begins, GrantedTo}
 use Rattle.guarantee.specs.Sequential.{adding, admitting}
-use Rattle.guarantee.specs.Claims.{AnswersTo, TurnedDown, takesEffect, Effects, OneEffect}
+use Rattle.guarantee.specs.Claims.{AnswersTo, TurnedDown, takesEffect, TakesEffect, OneEffect}
 use Rattle.guarantee.proofs.Along.{at-each}
 use Rattle.guarantee.proofs.Stages.{on-edges, on-grants, Fits, goes, grants, refuses, sticks, fits}
 use Rattle.guarantee.proofs.Turned.{same-answer, same-stage, other-answer}
@@ -33,7 +33,7 @@ use Rattle.guarantee.proofs.OneClient.{Seen, same, mine, seen, rest-una
 
 -- the request has taken effect, before the event and after it
 abbrev Marks : ℕ → Event → Bool → Bool → Type 0
-Marks c e a b = (Effects c e × (a ≡ false) × (b ≡ true)) ⊎ ((Effects c e → ⊥) × (a ≡ b))
+Marks c e a b = (TakesEffect c e × (a ≡ false) × (b ≡ true)) ⊎ ((TakesEffect c e → ⊥) × (a ≡ b))
 
 abbrev marked : Pool → ℕ → Bool
 marked p c = pinsFound (client p c .stage)
@@ -115,8 +115,8 @@ begun p x c r b = go (seen p x c (r .shape))
 
 -- up to event n, for a request that has taken effect already, and for one that has not
 unfoldable Tail : ℕ → Bool → List Event → ℕ → Type 0
-Tail c true es n = (i : ℕ) → i ≤ n → At (Effects c) es i → ⊥
-Tail c false es n = (j : ℕ) × (j ≤ n) × At (Effects c) es j × ((i : ℕ) → i ≤ n → At (Effects c) es i → i ≡ j)
+Tail c true es n = (i : ℕ) → i ≤ n → At (TakesEffect c) es i → ⊥
+Tail c false es n = (j : ℕ) × (j ≤ n) × At (TakesEffect c) es j × ((i : ℕ) → i ≤ n → At (TakesEffect c) es i → i ≡ j)
 
 tail-more : (c : ℕ) (a b : Bool) (e : Event) (es : List Event) (n : ℕ) → Marks c e a b → Tail c b es n → Tail c a (e ∷ es) (suc n)
 unfolding Tail At

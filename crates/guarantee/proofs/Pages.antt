@@ -21,11 +21,11 @@ module _ {p : Pool} {q : Sequential} (r : Reached p) (mirror : Mirrors p q) wher
   pub there : {f g : ℕ} → f ≢ none → pins p f ≢ evicted → mapped p f ≡ suc g → Keeps q g f
   there {f} {g} z live e =
       let s = r .mapping .resident-in-slot f z live (suc-not e) in
-      (s .0, mirror .places (s .0) ∙ (ap (seen p) (s .1) ∙ seen-full p f live e))
+      (s .0, mirror .slots (s .0) ∙ (ap (seen p) (s .1) ∙ seen-full p f live e))
 
   -- a page that is there is a resident frame's
   pub shows : {g f : ℕ} → (h : Keeps q g f) → Shows p (slot p (h .0)) g f
-  shows h = seen-shows p (slot p (h .0)) (sym (mirror .places (h .0)) ∙ h .1)
+  shows h = seen-shows p (slot p (h .0)) (sym (mirror .slots (h .0)) ∙ h .1)
 
   pub same-pages : SamePages p q
   unfolding resident

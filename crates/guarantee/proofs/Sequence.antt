@@ -15,19 +15,19 @@ use Rattle.pool.specs.declared.Answer.the-variants.{Done}
 use Rattle.invariant.proofs.Reached.{Reached}
 use Rattle.invariant.proofs.Setup.{setup-evicted, setup-rests}
 use Rattle.invariant.proofs.Calls.{reached-call}
-use Rattle.guarantee.specs.Sequential.{Sequential, empty, resting, start}
-use Rattle.guarantee.specs.Claims.{Follows, ends, goes}
-use Rattle.guarantee.proofs.Mirror.{seen, seen-evicted, Mirrors, upTo, downFrom, viewTaker, view, mirrors-view}
+use Rattle.guarantee.specs.Sequential.{Sequential, empty, seqResting, start}
+use Rattle.guarantee.specs.Claims.{Follows, at-end, at-call}
+use Rattle.guarantee.proofs.Mirror.{seen, seen-evicted, Mirrors, upTo, downFrom, viewClient, view, mirrors-view}
 use Rattle.guarantee.proofs.Pages.{same-pages}
 use Rattle.guarantee.proofs.Start.{starts}
 use Rattle.guarantee.proofs.Follow.{followed}
 
 -- from any pool that the sequential pool mirrors
 follows-on : {p : Pool} {q : Sequential} (calls : List Call) → Reached p → Mirrors p q → Follows p q calls
-follows-on [] r mirror = ends (same-pages r mirror) (λ c. mirror .takers c .stage)
+follows-on [] r mirror = at-end (same-pages r mirror) (λ c. mirror .clients c .stage)
 follows-on {p} {q} (x ∷ calls) r mirror =
     let f = followed r mirror x in
-    goes (same-pages r mirror) (λ c. mirror .takers c .stage) (f .rule) (follows-on calls (reached-call p x r) (f .mirrors))
+    at-call (same-pages r mirror) (λ c. mirror .clients c .stage) (f .rule) (follows-on calls (reached-call p x r) (f .mirrors))
 
 -- ---- from setup
 
@@ -37,8 +37,8 @@ all-same f zero a e = refl
 all-same f (suc n) a e = rw (e 0) (ap (λ (l : List _). a ∷ l) (all-same (λ i. f (suc i)) n a (λ i. e (suc i))))
 
 view-start : (s t c h : ℕ) → numbersOk s t c ≡ true → view (fresh s t c h) ≡ start s t
-unfolding view viewTaker downFrom choose
-view-start s t c h ok = λ i. record { places = all-same _ s empty vacant i; takers = all-same _ t (resting []) idle i }
+unfolding view viewClient downFrom choose
+view-start s t c h ok = λ i. record { slots = all-same _ s empty vacant i; clients = all-same _ t (seqResting []) idle i }
   where
     p : Pool
     p = fresh s t c h
@@ -46,7 +46,7 @@ view-start s t c h ok = λ i. record { places = all-same _ s empty vacant i; tak
     vacant : (i : ℕ) → seen p (slot p i) ≡ empty
     vacant i = seen-evicted p (slot p i) (setup-evicted s t c h ok (slot p i))
 
-    idle : (d : ℕ) → viewTaker (client p d) (downFrom (grantPage p d) (client p d .held)) ≡ resting []
+    idle : (d : ℕ) → viewClient (client p d) (downFrom (grantPage p d) (client p d .held)) ≡ seqResting []
     idle d = rw (setup-rests s t c h ok d) refl
 
 -- at a setup that is done the sequential pool that has just started mirrors the pool

@@ -15,7 +15,7 @@ use Rattle.invariant.proofs.After.{slot-kept, slot-here, slot-else, slot-in, pi
 use Rattle.invariant.proofs.Writes.{countersOnly, untouched}
 use Rattle.invariant.proofs.Table.{mapped-none, mapped-kept, put-other, put-new}
 use Rattle.invariant.proofs.Searches.{none-evicted}
-use Rattle.guarantee.specs.Sequential.{Place, empty, holds}
+use Rattle.guarantee.specs.Sequential.{SeqSlot, empty, stores}
 use Rattle.guarantee.proofs.Mirror.{seen, seen-evicted, seen-unmapped, seen-full, seen-same}
 
 -- every place is shown as it was
@@ -23,7 +23,7 @@ abbrev pub Kept : Pool → ℕ → Move → Type 0
 Kept p c m = (i : ℕ) → seen (apply p c m) (slot (apply p c m) i) ≡ seen p (slot p i)
 
 -- place j shows x now, and every other place what it showed
-pub record Changed (p : Pool) (c : ℕ) (m : Move) (j : ℕ) (x : Place) : Type 0 where
+pub record Changed (p : Pool) (c : ℕ) (m : Move) (j : ℕ) (x : SeqSlot) : Type 0 where
   pub inside : j < p .size
   pub there : seen (apply p c m) (slot (apply p c m) j) ≡ x
   pub others : (i : ℕ) → i ≢ j → seen (apply p c m) (slot (apply p c m) i) ≡ seen p (slot p i)
@@ -125,7 +125,7 @@ module _ (p : Pool) (c : ℕ) (m : Move) (r : Reached p) where
             seen-evicted q _ (entry-pins _ ∙ n) ∙ sym (seen-evicted p _ n)
 
     -- it is a frame that stands in a slot and is in no entry: the slot's place holds the page now
-    pub entry-new : f ≢ none → mapped p f ≡ 0 → pins p f ≢ evicted → (s : ℕ) → slot p s ≡ f → Changed p c m s (holds g f)
+    pub entry-new : f ≢ none → mapped p f ≡ 0 → pins p f ≢ evicted → (s : ℕ) → slot p s ≡ f → Changed p c m s (stores g f)
     entry-new z n live s at =
         record {
           inside = slot-in p s (λ v. z (sym at ∙ v));

@@ -30,10 +30,10 @@ use Rattle.invariant.proofs.Facts.{own-pins, grant-pinned}
 use Rattle.invariant.proofs.Grants.{grantsOf, GrantsOk, grants-stay, grant-opens, grantsOf-other, grantsOf-keeps, grantsOf-opens}
 use Rattle.invariant.proofs.Table.{suc-not, some-suc}
 use Rattle.invariant.proofs.Searches.{pins-named}
-use Rattle.guarantee.specs.Sequential.{Place, empty, holds, Taker, Sequential, place, resting, taker, member, Absent, Unused, adding, admitting}
-use Rattle.guarantee.specs.Sequential.{answering, StepRule, adds, admits, drops, answers, moves, refuses}
+use Rattle.guarantee.specs.Sequential.{SeqSlot, empty, stores, SeqClient, Sequential, seqSlot, seqResting, seqClient, member, Absent, Unused, adding, admitting}
+use Rattle.guarantee.specs.Sequential.{answering, StepRule, adds, admits, drops, answers, continues, refuses}
 use Rattle.guarantee.proofs.Mirror.{seen, seen-unmapped, seen-full, not-member, Taken, open-many, open-grants, taken-as, Mirrors}
-use Rattle.guarantee.proofs.Takers.{Outward, outward, working, gotten, denied, Quiet, Stays, Gets, rests, stays, pins-more, answered, admitted}
+use Rattle.guarantee.proofs.SeqClients.{Outward, outward, working, gotten, denied, Quiet, Stays, Gets, rests, stays, pins-more, answered, admitted}
 use Rattle.guarantee.proofs.Frames.{same-frame, found-mapped, found-has-pin}
 use Rattle.guarantee.proofs.Pages.{there, shows}
 use Rattle.guarantee.proofs.Weights.{full, kept-set, gained, lost, Weighs}
@@ -41,11 +41,11 @@ use Rattle.guarantee.proofs.Shown.{Kept, Changed, as-was, pins-put, pin
 
 -- the move is a step of the sequential pool, and the two pools after it are alike again
 pub record Simulates (p : Pool) (c : ℕ) (q : Sequential) (m : Move) : Type 0 where
-  pub places : List Place
-  pub next : Taker
-  pub rule : StepRule q (taker q c) (m .answer) places next
-  pub weighs : Weighs (m .counted) (q .places) places
-  pub mirrors : Mirrors (apply p c m) (record { places = places; takers = set (q .takers) c next })
+  pub slots : List SeqSlot
+  pub next : SeqClient
+  pub rule : StepRule q (seqClient q c) (m .answer) slots next
+  pub weighs : Weighs (m .counted) (q .slots) slots
+  pub mirrors : Mirrors (apply p c m) (record { slots = slots; clients = set (q .clients) c next })
 
 -- ---- the two pools after a move
 
@@ -68,41 +68,41 @@ module _ {p : Pool} {c : ℕ} {q : Sequential} (acting : Acting p c q) where
   abbrev k : Client
   k = client p c
 
-  abbrev t : Taker
-  t = taker q c
+  abbrev t : SeqClient
+  t = seqClient q c
 
-  abbrev After : Move → List Place → Taker → Type 0
-  After m places next = Mirrors (apply p c m) (record { places = places; takers = set (q .takers) c next })
+  abbrev After : Move → List SeqSlot → SeqClient → Type 0
+  After m slots next = Mirrors (apply p c m) (record { slots = slots; clients = set (q .clients) c next })
 
   taken : Taken k (grantsOf p c) t
-  taken = mirror .takers c
+  taken = mirror .clients c
 
   -- the pools after a move are alike if the places and the acting client are
-  module _ (m : Move) (next : Taker) (how : GrantsOk p c m) (new : Taken (m .next) (grantsOf (apply p c m) c) next) where
-    takers-now : (d : ℕ) → Taken (client (apply p c m) d) (grantsOf (apply p c m) d) (getD (set (q .takers) c next) d (resting []))
-    takers-now d = go (ℕ-discrete d c)
+  module _ (m : Move) (next : SeqClient) (how : GrantsOk p c m) (new : Taken (m .next) (grantsOf (apply p c m) c) next) where
+    clients-now : (d : ℕ) → Taken (client (apply p c m) d) (grantsOf (apply p c m) d) (getD (set (q .clients) c next) d (seqResting []))
+    clients-now d = go (ℕ-discrete d c)
       where
-        go : Dec (d ≡ c) → Taken (client (apply p c m) d) (grantsOf (apply p c m) d) (getD (set (q .takers) c next) d (resting []))
-        go (yes e) = rw (e, client-same p c m (r .shape) here, getD-set-same (q .takers) c next (resting []) (omega (arith, mirror .count))) new
+        go : Dec (d ≡ c) → Taken (client (apply p c m) d) (grantsOf (apply p c m) d) (getD (set (q .clients) c next) d (seqResting []))
+        go (yes e) = rw (e, client-same p c m (r .shape) here, getD-set-same (q .clients) c next (seqResting []) (omega (arith, mirror .count))) new
         go (no z) =
-            rw (client-other p c m d z, getD-set-other (q .takers) c d next (resting []) z)
-            (taken-as (grantsOf-other p c m (r .shape) here (r .ranges .held-ok) how d z) (mirror .takers d))
+            rw (client-other p c m d z, getD-set-other (q .clients) c d next (seqResting []) z)
+            (taken-as (grantsOf-other p c m (r .shape) here (r .ranges .held-ok) how d z) (mirror .clients d))
 
-    with-places : (places : List Place) → length places ≡ length (q .places)
-        → ((i : ℕ) → getD places i empty ≡ seen (apply p c m) (slot (apply p c m) i)) → After m places next
+    with-slots : (slots : List SeqSlot) → length slots ≡ length (q .slots)
+        → ((i : ℕ) → getD slots i empty ≡ seen (apply p c m) (slot (apply p c m) i)) → After m slots next
     unfolding apply
-    with-places places n e =
-        record { size = n ∙ mirror .size; places = e; count = length-set (q .takers) c next ∙ mirror .count; takers = takers-now }
+    with-slots slots n e =
+        record { size = n ∙ mirror .size; slots = e; count = length-set (q .clients) c next ∙ mirror .count; clients = clients-now }
 
-    pub same-places : Kept p c m → After m (q .places) next
-    same-places same = with-places (q .places) refl (λ i. mirror .places i ∙ sym (same i))
+    pub same-slots : Kept p c m → After m (q .slots) next
+    same-slots same = with-slots (q .slots) refl (λ i. mirror .slots i ∙ sym (same i))
 
-    one-place : {j : ℕ} {x : Place} → Changed p c m j x → After m (set (q .places) j x) next
-    one-place {j} {x} h = with-places (set (q .places) j x) (length-set (q .places) j x) (λ i. at i (ℕ-discrete i j))
+    one-slot : {j : ℕ} {x : SeqSlot} → Changed p c m j x → After m (set (q .slots) j x) next
+    one-slot {j} {x} h = with-slots (set (q .slots) j x) (length-set (q .slots) j x) (λ i. at i (ℕ-discrete i j))
       where
-        at : (i : ℕ) → Dec (i ≡ j) → getD (set (q .places) j x) i empty ≡ seen (apply p c m) (slot (apply p c m) i)
-        at i (yes e) = rw e (getD-set-same (q .places) j x empty (omega (arith, mirror .size, h .inside)) ∙ sym (h .there))
-        at i (no z) = getD-set-other (q .places) j i x empty z ∙ (mirror .places i ∙ sym (h .others i z))
+        at : (i : ℕ) → Dec (i ≡ j) → getD (set (q .slots) j x) i empty ≡ seen (apply p c m) (slot (apply p c m) i)
+        at i (yes e) = rw e (getD-set-same (q .slots) j x empty (omega (arith, mirror .size, h .inside)) ∙ sym (h .there))
+        at i (no z) = getD-set-other (q .slots) j i x empty z ∙ (mirror .slots i ∙ sym (h .others i z))
 
   -- ---- the acting client after a move
 
@@ -147,11 +147,11 @@ module _ {p : Pool} {c : ℕ} {q : Sequential} (acting : Acting p c q) where
     pub quietly : (i j : ℕ) → k .stage ≡ i → {m : Move} → outward m ≡ working k j Nothing → Quiet i j → Kept p c m → Simulates p c q m
     quietly i j e {m} o w same =
         record {
-          places = q .places;
+          slots = q .slots;
           next = record { stage = j; wants = t .wants; grants = t .grants };
-          rule = rw (ap (λ (x : Outward). x .answer) o) (moves {j = j} (rw (taken .stage ∙ e) (w .still)) (w .low) (w .high));
+          rule = rw (ap (λ (x : Outward). x .answer) o) (continues {j = j} (rw (taken .stage ∙ e) (w .still)) (w .low) (w .high));
           weighs = rw (ap (λ (x : Outward). x .counted) o) refl;
-          mirrors = same-places m _ (keeping m j Nothing o) (stays taken (works-on m j Nothing o busy) (rw e (w .pins-alike))) same;
+          mirrors = same-slots m _ (keeping m j Nothing o) (stays taken (works-on m j Nothing o busy) (rw e (w .pins-alike))) same;
         }
 
     pub adds-one : (i j : ℕ) → k .stage ≡ i → T (adding i j) → pinsFound i ≡ false → pinsFound j ≡ true → FoundMapped p k → pins p (k .found) ≢ evicted
@@ -159,14 +159,14 @@ module _ {p : Pool} {c : ℕ} {q : Sequential} (acting : Acting p c q) where
     adds-one i j e h pi pj know live {m} o w =
         let n : ℕ = pins p (k .found) in
         record {
-          places = q .places;
+          slots = q .slots;
           next = record { stage = j; wants = t .wants; grants = t .wants ∷ t .grants };
           rule =
               rw (ap (λ (x : Outward). x .answer) o)
               (adds {j = j} {f = k .found} (rw (taken .stage ∙ e) h) (rw (taken .wants busy) (there r mirror (know .0) live (know .1 live))));
           weighs = rw (ap (λ (x : Outward). x .counted) o) refl;
           mirrors =
-              same-places m _ (keeping m j Nothing o) (pins-more taken (works-on m j Nothing o busy) pj (rw e pi))
+              same-slots m _ (keeping m j Nothing o) (pins-more taken (works-on m j Nothing o busy) pj (rw e pi))
               (pins-put p c m r (k .found) (n + 1) w (pins-in p (k .found) live) (inl (ne-eqb (n + 1) 0 (λ z. omega arith) ∙ sym (ne-eqb n 0 live))));
         }
 
@@ -175,13 +175,13 @@ module _ {p : Pool} {c : ℕ} {q : Sequential} (acting : Acting p c q) where
     answers-one i u e h pi no-gain no-loss know room {m} o s =
         let live : pins p (k .found) ≢ evicted = λ z. omega (arith, found-has-pin p r c (rw e pi)) in
         record {
-          places = q .places;
-          next = resting (t .grants);
+          slots = q .slots;
+          next = seqResting (t .grants);
           rule =
               rw (ap (λ (x : Outward). x .answer) o)
               (answers {f = k .found} (rw (taken .stage ∙ e) h) (rw (taken .wants busy) (there r mirror (know .0) live (know .1 live))));
           weighs = rw (ap (λ (x : Outward). x .counted) o, no-gain, no-loss) refl;
-          mirrors = same-places m _ (opening m (k .found) u o room) (answered taken (gets m (k .found) u o room) (rw e pi)) (as-was p c m r s);
+          mirrors = same-slots m _ (opening m (k .found) u o room) (answered taken (gets m (k .found) u o room) (rw e pi)) (as-was p c m r s);
         }
 
     -- the wanted page's frames are evicted, and so is the frame of the entry that the own frame gets
@@ -190,18 +190,18 @@ module _ {p : Pool} {c : ℕ} {q : Sequential} (acting : Acting p c q) where
         → {m : Move} → outward m ≡ gotten k (k .own) u → m .write ≡ PutEntry j (k .page) (k .own) → Simulates p c q m
     admits-one i u e h pi gain no-loss own room gone j low out {m} o w =
         record {
-          places = set (q .places) s x;
-          next = resting (t .wants ∷ t .grants);
+          slots = set (q .slots) s x;
+          next = seqResting (t .wants ∷ t .grants);
           rule = rw (ap (λ (x : Outward). x .answer) o) (admits (rw (taken .stage ∙ e) h) absent unused s inside vacant);
-          weighs = rw (ap (λ (x : Outward). x .counted) o, gain, no-loss) (omega (arith, kept-set (q .places) s x inside, ap full vacant));
-          mirrors = one-place m _ (opening m (k .own) u o room) (admitted taken (gets m (k .own) u o room) busy (rw e pi)) changed;
+          weighs = rw (ap (λ (x : Outward). x .counted) o, gain, no-loss) (omega (arith, kept-set (q .slots) s x inside, ap full vacant));
+          mirrors = one-slot m _ (opening m (k .own) u o room) (admitted taken (gets m (k .own) u o room) busy (rw e pi)) changed;
         }
       where
         s : ℕ
         s = own .1 .0
 
-        x : Place
-        x = holds (t .wants) (k .own)
+        x : SeqSlot
+        x = stores (t .wants) (k .own)
 
         unmapped : mapped p (k .own) ≡ 0
         unmapped = r .private .own-unmapped c (own .0)
@@ -211,11 +211,11 @@ module _ {p : Pool} {c : ℕ} {q : Sequential} (acting : Acting p c q) where
             rw (taken .wants busy)
             (entry-new p c m r j (k .page) (k .own) w low out (own .0) unmapped (λ z. omega (arith, own-pins p r c (own .0))) s (own .1 .1))
 
-        inside : s < length (q .places)
+        inside : s < length (q .slots)
         inside = omega (arith, mirror .size, changed .inside)
 
-        vacant : place q s ≡ empty
-        vacant = mirror .places s ∙ (ap (seen p) (own .1 .1) ∙ seen-unmapped p (k .own) unmapped)
+        vacant : seqSlot q s ≡ empty
+        vacant = mirror .slots s ∙ (ap (seen p) (own .1 .1) ∙ seen-unmapped p (k .own) unmapped)
 
         absent : Absent q (t .wants)
         absent f at =
@@ -228,12 +228,12 @@ module _ {p : Pool} {c : ℕ} {q : Sequential} (acting : Acting p c q) where
     pub refuses-one : (i : ℕ) → k .stage ≡ i → pinsFound i ≡ false → {m : Move} → outward m ≡ denied k → T (countersOnly (m .write)) → Simulates p c q m
     refuses-one i e pi {m} o s =
         record {
-          places = q .places;
-          next = resting (t .grants);
+          slots = q .slots;
+          next = seqResting (t .grants);
           rule = rw (ap (λ (x : Outward). x .answer) o) refuses;
           weighs = rw (ap (λ (x : Outward). x .counted) o) refl;
           mirrors =
-              same-places m _ (grants-stay grants held)
+              same-slots m _ (grants-stay grants held)
               (rests (ap (λ (x : Outward). x .stage) o) (open-many taken pk ∙ sym held)
               (λ g. open-grants taken pk g ∙ sym (grantsOf-keeps p c m (r .shape) here few grants held g))) (as-was p c m r s);
         }
@@ -248,11 +248,11 @@ module _ {p : Pool} {c : ℕ} {q : Sequential} (acting : Acting p c q) where
         pk = rw e pi
 
     -- a frame with no pin: its page has no grants
-    unheld : (f g : ℕ) → f ≢ none → pins p f ≡ pinned 0 → mapped p f ≡ suc g → (d : ℕ) → member g (taker q d .grants) ≡ false
+    unheld : (f g : ℕ) → f ≢ none → pins p f ≡ pinned 0 → mapped p f ≡ suc g → (d : ℕ) → member g (seqClient q d .grants) ≡ false
     unfolding grantsOf
     unheld f g z unpinned e d =
         let none-open = sum-zero (λ i. one (eqb (grantPage p d i) g)) (client p d .held) (λ i h. ap one (ne-eqb _ _ (no-grant i h))) in
-        not-member g (taker q d .grants) (mirror .takers d .grants g ∙ omega (arith, wanted (pinsFound (client p d .stage)) refl))
+        not-member g (seqClient q d .grants) (mirror .clients d .grants g ∙ omega (arith, wanted (pinsFound (client p d .stage)) refl))
       where
         only : (h : ℕ) → h ≢ none → pinned 1 ≤ pins p h → mapped p h ≡ suc g → ⊥
         only h n two w =
@@ -289,15 +289,15 @@ module _ {p : Pool} {c : ℕ} {q : Sequential} (acting : Acting p c q) where
 
         drop : (g : ℕ) → mapped p f ≡ suc g → Simulates p c q m
         drop g n =
-            let holding : place q s ≡ holds g f = mirror .places s ∙ (ap (seen p) (in-slot .1) ∙ seen-full p f live n) in
+            let holding : seqSlot q s ≡ stores g f = mirror .slots s ∙ (ap (seen p) (in-slot .1) ∙ seen-full p f live n) in
             record {
-              places = set (q .places) s empty;
+              slots = set (q .slots) s empty;
               next = record { stage = 15; wants = t .wants; grants = t .grants };
               rule = rw (ap (λ (x : Outward). x .answer) o) (drops {j = 15} (rw (taken .stage ∙ e) tt) s holding (unheld f g z unpinned n));
               weighs =
                   rw (ap (λ (x : Outward). x .counted) o)
-                  (omega (arith, kept-set (q .places) s empty (omega (arith, mirror .size, changed .inside)), ap full holding));
-              mirrors = one-place m _ (keeping m 15 Drop o) (stays taken (works-on m 15 Drop o busy) (rw e refl)) changed;
+                  (omega (arith, kept-set (q .slots) s empty (omega (arith, mirror .size, changed .inside)), ap full holding));
+              mirrors = one-slot m _ (keeping m 15 Drop o) (stays taken (works-on m 15 Drop o busy) (rw e refl)) changed;
             }
 
         by-known : (mapped p f ≢ 0) ⊎ (((d : ℕ) × (client p d .own ≡ f)) ⊎ Orphan p f) → Simulates p c q m

@@ -25,7 +25,7 @@ use Rattle.invariant.proofs.Edges.{Edge, moves-on, found1, found18, forgets2, f
 use Rattle.invariant.proofs.Edges.{removes, admits, revives, evicts20, evicts23, begins, releases}
 use Rattle.invariant.proofs.Effects.{counters-test}
 use Rattle.guarantee.specs.Sequential.{Sequential}
-use Rattle.guarantee.proofs.Takers.{working, outward, quiet, quiet-means, onward-quiet}
+use Rattle.guarantee.proofs.SeqClients.{working, outward, quiet, quiet-means, onward-quiet}
 use Rattle.guarantee.proofs.Shown.{Kept, as-was, pins-put, taken-frame, slot-put, entry-gone}
 use Rattle.guarantee.proofs.Simulate.{Simulates, Acting, quietly, adds-one, answers-one, admits-one, refuses-one, drops-one}
 

@@ -27,8 +27,8 @@ use Rattle.invariant.proofs.Table.{mapped-entry, mapped-is}
 use Rattle.invariant.proofs.Calls.{reached-call}
 use Rattle.invariant.proofs.Pigeonhole.{below, equal, below-all, equal-has, equal-none, equal-at-most}
 use Rattle.guarantee.specs.Runs.{Event, events}
-use Rattle.guarantee.specs.Sequential.{Sequential, place}
-use Rattle.guarantee.specs.Claims.{tallyOf, Below, Claim-sum}
+use Rattle.guarantee.specs.Sequential.{Sequential, seqSlot}
+use Rattle.guarantee.specs.Claims.{tallyOf, BelowLargest, Claim-sum}
 use Rattle.guarantee.proofs.Mirror.{seen, seen-evicted, seen-unmapped, seen-full, Mirrors}
 use Rattle.guarantee.proofs.Weights.{occupied, full, kept, kept-sum, kept-none, gained, lost}
 use Rattle.guarantee.proofs.Follow.{followed}
@@ -88,7 +88,7 @@ how-many t (suc n) = go (t n) (how-many t n)
     go true e = omega arith
     go false e = omega arith
 
-residents-kept : (p : Pool) (q : Sequential) → Reached p → Mirrors p q → residents p ≡ kept (q .places)
+residents-kept : (p : Pool) (q : Sequential) → Reached p → Mirrors p q → residents p ≡ kept (q .slots)
 unfolding residents
 residents-kept p q r mirror =
     how-many _ (total p)
@@ -128,8 +128,8 @@ residents-kept p q r mirror =
         let l : pins p (entryFrame p i) ≢ evicted = eqb-false _ _ e in
         ap full (sym (seen-full p (entryFrame p i) l (mapped-is p (entryFrame p i) (r .mapping .entries-distinct) (pins-named p (r .shape) _ l) i refl)))
 
-    shown : kept (q .places) ≡ sumTo (λ i. one (P (slot p i))) (p .size)
-    shown = kept-sum (q .places) ∙ (ap (sumTo (λ i. full (place q i))) (mirror .size) ∙ sum-same _ _ (p .size) (λ i _. ap full (mirror .places i)))
+    shown : kept (q .slots) ≡ sumTo (λ i. one (P (slot p i))) (p .size)
+    shown = kept-sum (q .slots) ∙ (ap (sumTo (λ i. full (seqSlot q i))) (mirror .size) ∙ sum-same _ _ (p .size) (λ i _. ap full (mirror .slots i)))
 
 -- ---- a count that is below its largest value was raised by one
 
@@ -140,11 +140,11 @@ up-exact n =
     (λ t h. (refl, ltb-true n largest t)) (λ t h. absurd (omega (arith, ltb-false n largest t)))
 
 record Raised (u : Counted) (t n : Tally) : Type 0 where
-  before : Below t
+  before : BelowLargest t
   gains : n .admitted + n .revived ≡ t .admitted + t .revived + gained u
   loses : n .drops ≡ t .drops + lost u
 
-raised : (u : Counted) (t : Tally) → Below (tallied u t) → Raised u t (tallied u t)
+raised : (u : Counted) (t : Tally) → BelowLargest (tallied u t) → Raised u t (tallied u t)
 unfolding tallied
 raised Nothing t h = record { before = h; gains = omega arith; loses = omega arith }
 raised Hit t h = let e = up-exact (t .hits) (h .0) in record { before = (e .1, h .1, h .2, h .3, h .4, h .5); gains = omega arith; loses = omega arith }
@@ -159,13 +159,13 @@ raised Refusal t h = let e = up-exact (t .refused) (h .5) in record { before = (
 
 -- ---- along a run
 
-below-first : (t : Tally) (es : List Event) → Below (tallyOf t es) → Below t
+below-first : (t : Tally) (es : List Event) → BelowLargest (tallyOf t es) → BelowLargest t
 unfolding tallyOf
 below-first t [] h = h
 below-first t (e ∷ es) h = raised (e .counted) t (below-first (tallied (e .counted) t) es h) .before
 
-sum-run : {p : Pool} {q : Sequential} (calls : List Call) (t : Tally) → Reached p → Mirrors p q → kept (q .places) + t .drops ≡ t .admitted + t .revived
-    → let n = tallyOf t (events p calls) in Below n → residents (poolAfter p calls) + n .drops ≡ n .admitted + n .revived
+sum-run : {p : Pool} {q : Sequential} (calls : List Call) (t : Tally) → Reached p → Mirrors p q → kept (q .slots) + t .drops ≡ t .admitted + t .revived
+    → let n = tallyOf t (events p calls) in BelowLargest n → residents (poolAfter p calls) + n .drops ≡ n .admitted + n .revived
 unfolding events tallyOf poolAfter
 sum-run {p} {q} [] t r mirror e h = omega (arith, residents-kept p q r mirror)
 sum-run {p} {q} (x ∷ calls) t r mirror e h =

@@ -26,7 +26,7 @@ use Rattle.laws.specs.Scans.{both-true}
 use Rattle.invariant.proofs.StageTests.{differ}
 use Rattle.invariant.proofs.Allowed.{refusal-low}
 use Rattle.invariant.proofs.Calls.{outcomeOf}
-use Rattle.guarantee.specs.Claims.{Claim-turned, Claim-refused}
+use Rattle.guarantee.specs.Claims.{Claim-turned-down, Claim-refused}
 use Rattle.guarantee.proofs.Stages.{Fits, goes, grants, refuses, sticks, fits}
 
 -- ---- answers and calls of different kinds
@@ -117,9 +117,9 @@ refused-by p (Release c g) n a = go (released p c g)
 
 -- ---- the claims
 
-pub turned : Claim-turned
+pub turned-down : Claim-turned-down
 unfolding refusalOf
-turned p x n a z = go (went p x)
+turned-down p x n a z = go (went p x)
   where
     go : Went p x (callOf p x) → (callOf p x .pool ≡ p) × (callOf p x .counted ≡ Nothing)
     go (down m _ e) = (same-pool e, ap (λ (o : Outcome). o .counted) e)

@@ -10,20 +10,20 @@ use lib.ListN.{length, getD, set, replicate}
 use Rattle.pool.specs.declared.Counted.{Counted}
 use Rattle.pool.specs.declared.Counted.the-variants.{Nothing, Hit, Join, Admitted, Revived, Drop, Refusal}
 use Rattle.invariant.proofs.Reached.{one, sumTo}
-use Rattle.guarantee.specs.Sequential.{Place, empty, holds}
+use Rattle.guarantee.specs.Sequential.{SeqSlot, empty, stores}
 
-abbrev pub occupied : Place → Bool
+abbrev pub occupied : SeqSlot → Bool
 occupied empty = false
-occupied (holds g f) = true
+occupied (stores g f) = true
 
-abbrev pub full : Place → ℕ
+abbrev pub full : SeqSlot → ℕ
 full x = one (occupied x)
 
-unfoldable pub kept : List Place → ℕ
+unfoldable pub kept : List SeqSlot → ℕ
 kept [] = 0
 kept (x ∷ xs) = full x + kept xs
 
-pub kept-set : (l : List Place) (i : ℕ) (x : Place) → i < length l → kept (set l i x) + full (getD l i empty) ≡ kept l + full x
+pub kept-set : (l : List SeqSlot) (i : ℕ) (x : SeqSlot) → i < length l → kept (set l i x) + full (getD l i empty) ≡ kept l + full x
 unfolding kept
 kept-set [] i x h = absurd (not-suc-le-zero h)
 kept-set (y ∷ ys) zero x h = omega arith
@@ -34,7 +34,7 @@ unfolding sumTo
 sum-front g zero = omega arith
 sum-front g (suc n) = omega (arith, sum-front g n)
 
-pub kept-sum : (l : List Place) → kept l ≡ sumTo (λ i. full (getD l i empty)) (length l)
+pub kept-sum : (l : List SeqSlot) → kept l ≡ sumTo (λ i. full (getD l i empty)) (length l)
 unfolding kept sumTo
 kept-sum [] = refl
 kept-sum (x ∷ xs) = ap (λ (n : ℕ). full x + n) (kept-sum xs) ∙ sym (sum-front (λ i. full (getD (x ∷ xs) i empty)) (length xs))
@@ -63,5 +63,5 @@ lost Drop = 1
 lost Refusal = 0
 
 -- the places before and after an action that is counted so
-abbrev pub Weighs : Counted → List Place → List Place → Type 0
+abbrev pub Weighs : Counted → List SeqSlot → List SeqSlot → Type 0
 Weighs u before next = kept next + lost u ≡ kept before + gained u

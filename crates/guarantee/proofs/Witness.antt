@@ -26,7 +26,7 @@ use Rattle.pool.specs.declared.Client.{Client}
 use Rattle.pool.specs.declared.Call.the-variants.{Begin, Step}
 use Rattle.invariant.proofs.After.{client-past}
 use Rattle.guarantee.specs.Runs.{Event, events, At, Begins}
-use Rattle.guarantee.specs.Claims.{Evicts, TakenOut, takesEffect, Effects, TurnedDown, Alone}
+use Rattle.guarantee.specs.Claims.{Evicts, TakenOut, takesEffect, TakesEffect, TurnedDown, Alone}
 use Rattle.guarantee.proofs.Turned.{other-call}
 
 -- all that a run computes
@@ -50,19 +50,19 @@ zero-one e = omega arith
 
 pub evicted : At (Evicts 0) swap 18
 unfolding computing
-evicted = record { client-of = 0; stage = 14; step-of = (refl, refl); one-of = tt; puts-out = ((λ z. zero-one (sym z)), refl) }
+evicted = record { client-of = 0; stage = 14; step-of = (refl, refl); one-of = tt; becomes-evicted = ((λ z. zero-one (sym z)), refl) }
 
 pub taken-out : TakenOut swap 0 18 19
 unfolding computing
 taken-out =
     record {
       later = omega arith;
-      out = record { client-of = 0; step-of = (refl, refl); place = 0; named = refl; names-no-more = λ z. zero-one (sym z) };
+      replaces = record { client-of = 0; step-of = (refl, refl); at-slot = 0; named = refl; names-no-more = λ z. zero-one (sym z) };
       not-anew = λ m a b _. let none : ⊥ = omega arith in none;
     }
 
 -- the request that is begun at event 10 takes effect at event 22
-pub takes-effect : At (Effects 0) swap 22
+pub takes-effect : At (TakesEffect 0) swap 22
 unfolding computing
 takes-effect = (refl, tt)
 
@@ -95,7 +95,7 @@ alone-met =
       others-rest = λ d z. ap (λ (k : Client). k .stage) (client-past (poolAfter (setupOf 1 1 3 0 .pool) (admit 9)) d (omega arith));
       later = omega arith;
       answered = (refl, inr refl);
-      same = λ m a b. subst (λ (i : ℕ). At (Begins 0) held-up i → ⊥) (ten-is m a) (no-begin 0 _ 6 (m - 10));
+      same-request = λ m a b. subst (λ (i : ℕ). At (Begins 0) held-up i → ⊥) (ten-is m a) (no-begin 0 _ 6 (m - 10));
       no-others = λ m a b. subst (At (λ e. (caller (e .asked) ≡ 0) ⊎ TurnedDown e) held-up) (ten-is m a) (own-calls 0 _ 6 (m - 10) (omega arith));
     }
   where

@@ -8,7 +8,7 @@
 -- Every proof goes over one of three lists: the 23 stages (Steps), the 21 edges, or a menu.
 
 pub mod Reached
--- tools: how the pool reads after a write; numbers that stay apart; sums and the pigeonhole; facts of every stage; tests on stage numbers
+-- tools: how the pool reads after a write; numbers that stay distinct; sums and the pigeonhole; facts of every stage; tests on stage numbers
 pub mod After
 pub mod Writes
 pub mod Distinct

@@ -19,7 +19,7 @@ use Rattle.pool.specs.declared.GrantChange.{GrantChange}
 use Rattle.pool.specs.declared.GrantChange.the-variants.{Same, Open}
 use Rattle.invariant.proofs.Reached.{one, pinsFound}
 use Rattle.invariant.proofs.StageTests.{and-parts, at-most, iff, iff-same, Onward}
-use Rattle.guarantee.specs.Sequential.{Taker, resting, adding, dropping}
+use Rattle.guarantee.specs.Sequential.{SeqClient, seqResting, adding, dropping}
 use Rattle.guarantee.proofs.Mirror.{times, Taken, open-many, open-grants}
 
 -- ---- what a move shows of itself
@@ -81,10 +81,10 @@ pub record Gets (k n : Client) (x y : ℕ → ℕ) : Type 0 where
   pub more-grants : (g : ℕ) → y g ≡ x g + one (eqb (k .page) g)
 
 -- at rest, with these grants
-pub rests : {n : Client} {y : ℕ → ℕ} {l : List ℕ} → n .stage ≡ 0 → length l ≡ n .held → ((g : ℕ) → times g l ≡ y g) → Taken n y (resting l)
+pub rests : {n : Client} {y : ℕ → ℕ} {l : List ℕ} → n .stage ≡ 0 → length l ≡ n .held → ((g : ℕ) → times g l ≡ y g) → Taken n y (seqResting l)
 rests s a e = record { stage = sym s; wants = λ z. absurd (z s); many = rw s (omega (arith, a)); grants = λ g. rw s (omega (arith, e g)) }
 
-module _ {k n : Client} {x y : ℕ → ℕ} {t : Taker} (old : Taken k x t) where
+module _ {k n : Client} {x y : ℕ → ℕ} {t : SeqClient} (old : Taken k x t) where
   -- at stage j, with the grants it had
   pub stays : {j : ℕ} → Stays k n x y j → pinsFound j ≡ pinsFound (k .stage) → Taken n y (record { stage = j; wants = t .wants; grants = t .grants })
   stays h pf =
@@ -108,10 +108,10 @@ module _ {k n : Client} {x y : ℕ → ℕ} {t : Taker} (old : Taken k x t) wher
       }
 
   -- granted: the page was pinned for it already; it was not
-  pub answered : Gets k n x y → pinsFound (k .stage) ≡ true → Taken n y (resting (t .grants))
+  pub answered : Gets k n x y → pinsFound (k .stage) ≡ true → Taken n y (seqResting (t .grants))
   answered h pk = rests (h .at-rest) (old .many ∙ rw (pk, h .more-held) refl) (λ g. old .grants g ∙ rw (pk, h .more-grants g) refl)
 
-  pub admitted : Gets k n x y → k .stage ≢ 0 → pinsFound (k .stage) ≡ false → Taken n y (resting (t .wants ∷ t .grants))
+  pub admitted : Gets k n x y → k .stage ≢ 0 → pinsFound (k .stage) ≡ false → Taken n y (seqResting (t .wants ∷ t .grants))
   unfolding times
   admitted h busy pk =
       rests (h .at-rest) (omega (arith, open-many old pk, h .more-held))
