@@ -26,10 +26,10 @@ use Rattle.guarantee.specs.Sequential.{SeqSlot, SeqClient, Sequential, s
 use Rattle.guarantee.specs.Sequential.{turns-down, begins, releases, steps}
 use Rattle.guarantee.specs.Claims.{OneCopy, BecomesEvicted, HeldPinned, NoHeldEvicted}
 use Rattle.guarantee.proofs.Along.{throughout, at-each}
-use Rattle.guarantee.proofs.Mirror.{Shows, is-member, Mirrors, view, mirrors-view}
+use Rattle.guarantee.proofs.SimulationRelation.{ResidentFrame, is-member, SimulationRelation, view, view-related}
 use Rattle.guarantee.proofs.Follow.{Followed, followed}
 use Rattle.guarantee.proofs.Frames.{same-frame, Grant, held-grant, held-pinned}
-use Rattle.guarantee.proofs.Pages.{there, shows}
+use Rattle.guarantee.proofs.Pages.{page-there, page-resident}
 
 one-copy : (p : Pool) → Reached p → OneCopy p
 one-copy p r c d i j a b e =
@@ -63,7 +63,7 @@ rule-keeps (steps _ s) c m h = step-keeps s c m h
 
 not-evicted : (p : Pool) (x : Call) (f : ℕ) → Reached p → held p f ≡ true → pins (callOf p x .pool) f ≢ evicted
 unfolding grantsOf
-not-evicted p x f r h out = v .live (ap (pins (callOf p x .pool)) (v .frame) ∙ out)
+not-evicted p x f r h out = v .not-evicted (ap (pins (callOf p x .pool)) (v .frame) ∙ out)
   where
     grant : Grant p f
     grant = held-grant p f h
@@ -77,28 +77,28 @@ not-evicted p x f r h out = v .live (ap (pins (callOf p x .pool)) (v .frame) ∙
     g : ℕ
     g = grantPage p c i
 
-    mirror : Mirrors p (view p)
-    mirror = mirrors-view p (r .shape)
+    related : SimulationRelation p (view p)
+    related = view-related p (r .shape)
 
     named : grantFrame p c i ≢ none
     named = r .mapping .grant-named c i (grant .inside)
 
     kept : Keeps (view p) g f
-    kept = rw (grant .names) at (there r mirror named (λ z. omega (arith, grant-pinned p r c i named)) (r .mapping .grant-mapped c i named))
+    kept = rw (grant .names) at (page-there r related named (λ z. omega (arith, grant-pinned p r c i named)) (r .mapping .grant-mapped c i named))
 
     granted : member g (seqClient (view p) c .grants) ≡ true
     granted =
         let n = sum-has (λ j. one (eqb (grantPage p c j) g)) (client p c .held) i (grant .inside) in
-        is-member g _ (λ z. omega (arith, mirror .clients c .grants g, one-is g))
+        is-member g _ (λ z. omega (arith, related .clients c .grants g, one-is g))
 
     after : Followed (view p) x (callOf p x)
-    after = followed r mirror x
+    after = followed r related x
 
     still : Keeps (after .state) g f
     still = rule-keeps (after .rule) c granted kept
 
-    v : Shows (callOf p x .pool) (slot (callOf p x .pool) (still .0)) g f
-    v = shows (reached-call p x r) (after .mirrors) still
+    v : ResidentFrame (callOf p x .pool) (slot (callOf p x .pool) (still .0)) g f
+    v = page-resident (reached-call p x r) (after .related) still
 
 pub no-held-evicted : (p : Pool) (calls : List Call) → Reached p → NoHeldEvicted (events p calls)
 no-held-evicted p calls r f = at-each (BecomesEvicted f) (λ e. held (e .before) f ≡ false) (λ p x r h. go p x r h (held p f) refl) p calls r

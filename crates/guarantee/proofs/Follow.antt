@@ -1,4 +1,4 @@
--- A call of the pool is one of the sequential pool that mirrors it, with the same answer. Both turn the same calls down, as stages, page wanted and
+-- A call of the pool is one of a related sequential pool, with the same answer. Both turn the same calls down, as stages, page wanted and
 -- numbers of grants are alike; a begin and a release change the client alone; and a step is a step there (`SimulateMoves`). Assumes nothing.
 use mathlib.Core.Path.{_≡_, refl, sym, ap, _∙_}
 use mathlib.Core.Logic.{_≢_, inl}
@@ -38,33 +38,33 @@ use Rattle.invariant.proofs.Steps.{call-edge}
 use Rattle.invariant.proofs.Calls.{outcomeOf, call-moves, call-turned}
 use Rattle.guarantee.specs.Sequential.{SeqClient, Sequential, seqClient, member, without, seqRefusal, Rule, turns-down, begins, releases, steps}
 use Rattle.guarantee.proofs.Turned.{moved}
-use Rattle.guarantee.proofs.Mirror.{times, not-member, is-member, without-times, without-length, Mirrors, open-many, open-grants}
-use Rattle.guarantee.proofs.Weights.{Weighs}
-use Rattle.guarantee.proofs.Shown.{as-was, pins-put}
+use Rattle.guarantee.proofs.SimulationRelation.{times, not-member, is-member, without-times, without-length, SimulationRelation, open-many, open-grants}
+use Rattle.guarantee.proofs.PageCount.{PageCountChange}
+use Rattle.guarantee.proofs.ViewAfter.{counters-view, pins-view}
 use Rattle.guarantee.proofs.Simulate.{Acting, same-slots}
-use Rattle.guarantee.proofs.SeqClients.{rests}
+use Rattle.guarantee.proofs.SeqClients.{related-resting}
 use Rattle.guarantee.proofs.SimulateMoves.{simulated}
 
 -- what a call leaves is what a rule of the sequential pool leaves
 pub record Followed (q : Sequential) (x : Call) (o : Outcome) : Type 0 where
   pub state : Sequential
   pub rule : Rule q x (o .answer) state
-  pub weighs : Weighs (o .counted) (q .slots) (state .slots)
-  pub mirrors : Mirrors (o .pool) state
+  pub page-count : PageCountChange (o .counted) (q .slots) (state .slots)
+  pub related : SimulationRelation (o .pool) state
 
 choose-alike : {A : Type 0} (t : Bool) {x y v w : A} → (t ≡ true → x ≡ v) → (t ≡ false → y ≡ w) → choose t x y ≡ choose t v w
 unfolding choose
 choose-alike true a b = a refl
 choose-alike false a b = b refl
 
-module _ {p : Pool} {q : Sequential} (r : Reached p) (mirror : Mirrors p q) where
+module _ {p : Pool} {q : Sequential} (r : Reached p) (related : SimulationRelation p q) where
   -- ---- both turn the same calls down
 
   -- a grant of a page is found where there is one
   no-grant : (c g : ℕ) → client p c .stage ≡ 0 → grantOf p c g ≡ none → member g (seqClient q c .grants) ≡ false
   unfolding grantOf grantsOf
   no-grant c g s e =
-      not-member g _ (open-grants (mirror .clients c) (rw s refl) g ∙ sum-zero _ (client p c .held)
+      not-member g _ (open-grants (related .clients c) (rw s refl) g ∙ sum-zero _ (client p c .held)
       (λ i h. ap one (first-none (λ j. eqb (grantPage p c j) g) (client p c .held) (omega (arith, r .ranges .held-ok c)) e i h)))
 
   some-grant : (c g : ℕ) → grantOf p c g ≢ none → 1 ≤ grantsOf p c g
@@ -78,16 +78,16 @@ module _ {p : Pool} {q : Sequential} (r : Reached p) (mirror : Mirrors p q) wher
   unfolding refusal refusalAt caller seqRefusal
   refusal-alike (Begin c g) =
       chosen _ _ _ (valid-reached p r)
-      ∙ rw (mirror .count, mirror .clients c .stage)
+      ∙ rw (related .count, related .clients c .stage)
       (choose-alike (ltb c (clientCount p))
       (λ _. choose-alike (eqb (client p c .stage) 0) (λ s. full (eqb-true _ _ s)) (λ _. refl)) (λ _. refl))
     where
       full : client p c .stage ≡ 0 → _≡_ {A = ℕ} (choose (ltb (client p c .held) 8) 0 12) (choose (ltb (length (seqClient q c .grants)) 8) 0 12)
-      full s = rw (open-many (mirror .clients c) (rw s refl)) refl
-  refusal-alike (Step c) = chosen _ _ _ (valid-reached p r) ∙ rw (mirror .count, mirror .clients c .stage) refl
+      full s = rw (open-many (related .clients c) (rw s refl)) refl
+  refusal-alike (Step c) = chosen _ _ _ (valid-reached p r) ∙ rw (related .count, related .clients c .stage) refl
   refusal-alike (Release c g) =
       chosen _ _ _ (valid-reached p r)
-      ∙ rw (mirror .count, mirror .clients c .stage)
+      ∙ rw (related .count, related .clients c .stage)
       (choose-alike (ltb c (clientCount p))
       (λ _. choose-alike (eqb (client p c .stage) 0) (λ s. asked (eqb-true _ _ s) (ℕ-discrete (grantOf p c g) none)) (λ _. refl)) (λ _. refl))
     where
@@ -96,16 +96,16 @@ module _ {p : Pool} {q : Sequential} (r : Reached p) (mirror : Mirrors p q) wher
       asked s (yes e) = chosen _ _ _ (eq-eqb _ _ e) ∙ sym (passed _ _ _ (no-grant c g s e))
       asked s (no z) =
           passed _ _ _ (ne-eqb _ _ z)
-          ∙ sym (chosen _ _ _ (is-member g _ (λ w. omega (arith, open-grants (mirror .clients c) (rw s refl) g, some-grant c g z))))
+          ∙ sym (chosen _ _ _ (is-member g _ (λ w. omega (arith, open-grants (related .clients c) (rw s refl) g, some-grant c g z))))
 
   turned-follows : (x : Call) (n : ℕ) → seqRefusal q x ≡ n → n ≢ 0 → Followed q x (turnedDown n p)
-  turned-follows x n e z = record { state = q; rule = turns-down e z; weighs = refl; mirrors = mirror }
+  turned-follows x n e z = record { state = q; rule = turns-down e z; page-count = refl; related = related }
 
   -- ---- and make the same moves
 
   module _ (c : ℕ) (here : c < clientCount p) where
     acting : Acting p c q
-    acting = record { here = here; reached = r; mirror = mirror }
+    acting = record { here = here; reached = r; related = related }
 
     abbrev k : Client
     k = client p c
@@ -122,15 +122,15 @@ module _ {p : Pool} {q : Sequential} (r : Reached p) (mirror : Mirrors p q) wher
         record {
           state = _;
           rule = begins e;
-          weighs = refl;
-          mirrors =
+          page-count = refl;
+          related =
               same-slots acting m _ (grants-stay refl refl)
               (record {
                 stage = refl;
                 wants = λ _. refl;
-                many = open-many (mirror .clients c) (rw s refl) ∙ omega arith;
-                grants = λ h. open-grants (mirror .clients c) (rw s refl) h ∙ (sym (grantsOf-keeps p c m (r .shape) here few refl refl h) ∙ omega arith);
-              }) (as-was p c m r tt);
+                many = open-many (related .clients c) (rw s refl) ∙ omega arith;
+                grants = λ h. open-grants (related .clients c) (rw s refl) h ∙ (sym (grantsOf-keeps p c m (r .shape) here few refl refl h) ∙ omega arith);
+              }) (counters-view p c m r tt);
         }
       where
         m : Move
@@ -138,7 +138,7 @@ module _ {p : Pool} {q : Sequential} (r : Reached p) (mirror : Mirrors p q) wher
 
     stepped : seqRefusal q (Step c) ≡ 0 → k .stage ≢ 0 → Edge p c (moveOf p (Step c)) → Followed q (Step c) (moved p (Step c))
     unfolding caller
-    stepped e busy w = let s = simulated acting busy w in record { state = _; rule = steps e (s .rule); weighs = s .weighs; mirrors = s .mirrors }
+    stepped e busy w = let s = simulated acting busy w in record { state = _; rule = steps e (s .rule); page-count = s .page-count; related = s .related }
 
     -- the last grant goes to the place of the one that ends
     released : (g : ℕ) → seqRefusal q (Release c g) ≡ 0 → k .stage ≡ 0 → grantOf p c g ≢ none → Followed q (Release c g) (moved p (Release c g))
@@ -167,23 +167,23 @@ module _ {p : Pool} {q : Sequential} (r : Reached p) (mirror : Mirrors p q) wher
         two = grant-pinned p r c i (r .mapping .grant-named c i (found .0))
 
         some : times g (t .grants) ≢ 0
-        some w = omega (arith, open-grants (mirror .clients c) (rw s refl) g, some-grant c g z)
+        some w = omega (arith, open-grants (related .clients c) (rw s refl) g, some-grant c g z)
 
         fewer : (h : ℕ) → times h (without g (t .grants)) ≡ grantsOf (apply p c m) c h
         fewer h =
             let now = grantsOf-ends p c m (r .shape) here few i refl refl (found .0) h in
-            omega (arith, without-times g h (t .grants) some, open-grants (mirror .clients c) (rw s refl) h, ap (λ (x : ℕ). one (eqb x h)) (found .1))
+            omega (arith, without-times g h (t .grants) some, open-grants (related .clients c) (rw s refl) h, ap (λ (x : ℕ). one (eqb x h)) (found .1))
 
         ended : Ends m
         ended =
             record {
               state = _;
               rule = releases e;
-              weighs = refl;
-              mirrors =
+              page-count = refl;
+              related =
                   same-slots acting m _ (grant-ends i refl refl (found .0))
-                  (rests s (omega (arith, without-length g (t .grants) some, open-many (mirror .clients c) (rw s refl))) fewer)
-                  (pins-put p c m r f (n - 1) refl (pins-in p f (λ w. omega (arith, two)))
+                  (related-resting s (omega (arith, without-length g (t .grants) some, open-many (related .clients c) (rw s refl))) fewer)
+                  (pins-view p c m r f (n - 1) refl (pins-in p f (λ w. omega (arith, two)))
                   (inl (ne-eqb (n - 1) evicted (λ w. omega (arith, two)) ∙ sym (ne-eqb n evicted (λ w. omega (arith, two))))));
             }
 

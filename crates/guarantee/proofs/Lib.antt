@@ -6,14 +6,14 @@ pub mod Along
 pub mod Stages
 pub mod Turned
 pub mod Listed
--- claim d: the sequential pool that mirrors a pool, its pages, its clients, its number of pages
-pub mod Mirror
+-- claim d: the simulation relation; the sequential pool's pages, its clients, its number of pages
+pub mod SimulationRelation
 pub mod Frames
 pub mod Pages
 pub mod SeqClients
-pub mod Weights
--- what each write shows of the places; each move is a step of the sequential pool; so each call and each list of calls
-pub mod Shown
+pub mod PageCount
+-- the view after each write; each move is a step of the sequential pool; so each call and each list of calls
+pub mod ViewAfter
 pub mod Simulate
 pub mod SimulateMoves
 pub mod Follow

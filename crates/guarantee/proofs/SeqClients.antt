@@ -1,4 +1,4 @@
--- The acting client of the sequential pool after a move. Of the move only its outward side matters: answer, count, change of grants, stage, page and
+-- The acting client of the sequential pool after a move. Of the move only what can be observed matters: answer, count, change of grants, stage, page and
 -- number of grants. The sequential client has its page among its grants from the step that pins it on, so an answer at 3 or 21 adds nothing there, and
 -- one at 18 or 22 does. Assumes nothing.
 use mathlib.Core.Path.{_≡_, refl, sym, _∙_}
@@ -20,11 +20,11 @@ use Rattle.pool.specs.declared.GrantChange.the-variants.{Same, Open}
 use Rattle.invariant.proofs.Reached.{one, pinsFound}
 use Rattle.invariant.proofs.StageTests.{and-parts, at-most, iff, iff-same, Onward}
 use Rattle.guarantee.specs.Sequential.{SeqClient, seqResting, adding, dropping}
-use Rattle.guarantee.proofs.Mirror.{times, Taken, open-many, open-grants}
+use Rattle.guarantee.proofs.SimulationRelation.{times, ClientRelation, open-many, open-grants}
 
--- ---- what a move shows of itself
+-- ---- what can be observed of a move
 
-pub record Outward : Type 0 where
+pub record Observable : Type 0 where
   pub answer : Answer
   pub counted : Counted
   pub grants : GrantChange
@@ -32,62 +32,62 @@ pub record Outward : Type 0 where
   pub page : ℕ
   pub held : ℕ
 
-abbrev pub outward : Move → Outward
-outward m = record { answer = m .answer; counted = m .counted; grants = m .grants; stage = m .next .stage; page = m .next .page; held = m .next .held }
+abbrev pub observable : Move → Observable
+observable m = record { answer = m .answer; counted = m .counted; grants = m .grants; stage = m .next .stage; page = m .next .page; held = m .next .held }
 
 -- the client goes on to stage j; it is granted frame f; it is refused
-abbrev pub working : Client → ℕ → Counted → Outward
-working k j u = record { answer = Working j; counted = u; grants = Same; stage = j; page = k .page; held = k .held }
+abbrev pub workingMove : Client → ℕ → Counted → Observable
+workingMove k j u = record { answer = Working j; counted = u; grants = Same; stage = j; page = k .page; held = k .held }
 
-abbrev pub gotten : Client → ℕ → Counted → Outward
-gotten k f u = record { answer = Granted f; counted = u; grants = Open (k .held) (k .page) f; stage = 0; page = 0; held = k .held + 1 }
+abbrev pub grantedMove : Client → ℕ → Counted → Observable
+grantedMove k f u = record { answer = Granted f; counted = u; grants = Open (k .held) (k .page) f; stage = 0; page = 0; held = k .held + 1 }
 
-abbrev pub denied : Client → Outward
-denied k = record { answer = Refused 15; counted = Refusal; grants = Same; stage = 0; page = 0; held = k .held }
+abbrev pub refusedMove : Client → Observable
+refusedMove k = record { answer = Refused 15; counted = Refusal; grants = Same; stage = 0; page = 0; held = k .held }
 
 -- ---- the steps that move no page and add no grant
 
-abbrev pub quiet : ℕ → ℕ → Bool
-quiet i j = not (adding i j || dropping i j) && (leb 1 j && (leb j 23 && iff (pinsFound j) (pinsFound i)))
+abbrev pub continuing : ℕ → ℕ → Bool
+continuing i j = not (adding i j || dropping i j) && (leb 1 j && (leb j 23 && iff (pinsFound j) (pinsFound i)))
 
-pub record Quiet (i j : ℕ) : Type 0 where
-  pub still : T (not (adding i j || dropping i j))
+pub record Continuing (i j : ℕ) : Type 0 where
+  pub plain-step : T (not (adding i j || dropping i j))
   pub low : 1 ≤ j
   pub high : j ≤ 23
   pub pins-alike : pinsFound j ≡ pinsFound i
 
-pub quiet-means : (i j : ℕ) → T (quiet i j) → Quiet i j
-quiet-means i j h =
+pub continuing-means : (i j : ℕ) → T (continuing i j) → Continuing i j
+continuing-means i j h =
     let a = and-parts (not (adding i j || dropping i j)) _ h in
     let b = and-parts (leb 1 j) _ (a .1) in
     let d = and-parts (leb j 23) _ (b .1) in
-    record { still = a .0; low = at-most 1 j (b .0); high = at-most j 23 (d .0); pins-alike = iff-same (pinsFound j) (pinsFound i) (d .1) }
+    record { plain-step = a .0; low = at-most 1 j (b .0); high = at-most j 23 (d .0); pins-alike = iff-same (pinsFound j) (pinsFound i) (d .1) }
 
-pub onward-quiet : {i j : ℕ} → Onward i j → Quiet i j
-onward-quiet h = record { still = h .plain-step; low = h .starts; high = h .stage-ok; pins-alike = h .pins-alike }
+pub onward-continuing : {i j : ℕ} → Onward i j → Continuing i j
+onward-continuing h = record { plain-step = h .plain-step; low = h .starts; high = h .stage-ok; pins-alike = h .pins-alike }
 
 -- ---- a client n that was k, of which x and y say how many open grants it had and has on each page
 
-pub record Stays (k n : Client) (x y : ℕ → ℕ) (j : ℕ) : Type 0 where
+pub record WorksOn (k n : Client) (x y : ℕ → ℕ) (j : ℕ) : Type 0 where
   pub works : k .stage ≢ 0
   pub at-stage : n .stage ≡ j
   pub same-page : n .page ≡ k .page
   pub same-held : n .held ≡ k .held
   pub same-grants : (g : ℕ) → y g ≡ x g
 
-pub record Gets (k n : Client) (x y : ℕ → ℕ) : Type 0 where
+pub record IsGranted (k n : Client) (x y : ℕ → ℕ) : Type 0 where
   pub at-rest : n .stage ≡ 0
   pub more-held : n .held ≡ k .held + 1
   pub more-grants : (g : ℕ) → y g ≡ x g + one (eqb (k .page) g)
 
 -- at rest, with these grants
-pub rests : {n : Client} {y : ℕ → ℕ} {l : List ℕ} → n .stage ≡ 0 → length l ≡ n .held → ((g : ℕ) → times g l ≡ y g) → Taken n y (seqResting l)
-rests s a e = record { stage = sym s; wants = λ z. absurd (z s); many = rw s (omega (arith, a)); grants = λ g. rw s (omega (arith, e g)) }
+pub related-resting : {n : Client} {y : ℕ → ℕ} {l : List ℕ} → n .stage ≡ 0 → length l ≡ n .held → ((g : ℕ) → times g l ≡ y g) → ClientRelation n y (seqResting l)
+related-resting s a e = record { stage = sym s; wants = λ z. absurd (z s); many = rw s (omega (arith, a)); grants = λ g. rw s (omega (arith, e g)) }
 
-module _ {k n : Client} {x y : ℕ → ℕ} {t : SeqClient} (old : Taken k x t) where
+module _ {k n : Client} {x y : ℕ → ℕ} {t : SeqClient} (old : ClientRelation k x t) where
   -- at stage j, with the grants it had
-  pub stays : {j : ℕ} → Stays k n x y j → pinsFound j ≡ pinsFound (k .stage) → Taken n y (record { stage = j; wants = t .wants; grants = t .grants })
-  stays h pf =
+  pub related-working : {j : ℕ} → WorksOn k n x y j → pinsFound j ≡ pinsFound (k .stage) → ClientRelation n y (record { stage = j; wants = t .wants; grants = t .grants })
+  related-working h pf =
       record {
         stage = sym (h .at-stage);
         wants = λ _. old .wants (h .works) ∙ sym (h .same-page);
@@ -96,10 +96,10 @@ module _ {k n : Client} {x y : ℕ → ℕ} {t : SeqClient} (old : Taken k x t) 
       }
 
   -- at stage j, with its page pinned
-  pub pins-more : {j : ℕ} → Stays k n x y j → pinsFound j ≡ true → pinsFound (k .stage) ≡ false
-      → Taken n y (record { stage = j; wants = t .wants; grants = t .wants ∷ t .grants })
+  pub related-pinned : {j : ℕ} → WorksOn k n x y j → pinsFound j ≡ true → pinsFound (k .stage) ≡ false
+      → ClientRelation n y (record { stage = j; wants = t .wants; grants = t .wants ∷ t .grants })
   unfolding times
-  pins-more h pj pk =
+  related-pinned h pj pk =
       record {
         stage = sym (h .at-stage);
         wants = λ _. old .wants (h .works) ∙ sym (h .same-page);
@@ -108,11 +108,11 @@ module _ {k n : Client} {x y : ℕ → ℕ} {t : SeqClient} (old : Taken k x t) 
       }
 
   -- granted: the page was pinned for it already; it was not
-  pub answered : Gets k n x y → pinsFound (k .stage) ≡ true → Taken n y (seqResting (t .grants))
-  answered h pk = rests (h .at-rest) (old .many ∙ rw (pk, h .more-held) refl) (λ g. old .grants g ∙ rw (pk, h .more-grants g) refl)
+  pub related-answered : IsGranted k n x y → pinsFound (k .stage) ≡ true → ClientRelation n y (seqResting (t .grants))
+  related-answered h pk = related-resting (h .at-rest) (old .many ∙ rw (pk, h .more-held) refl) (λ g. old .grants g ∙ rw (pk, h .more-grants g) refl)
 
-  pub admitted : Gets k n x y → k .stage ≢ 0 → pinsFound (k .stage) ≡ false → Taken n y (seqResting (t .wants ∷ t .grants))
+  pub related-admitted : IsGranted k n x y → k .stage ≢ 0 → pinsFound (k .stage) ≡ false → ClientRelation n y (seqResting (t .wants ∷ t .grants))
   unfolding times
-  admitted h busy pk =
-      rests (h .at-rest) (omega (arith, open-many old pk, h .more-held))
+  related-admitted h busy pk =
+      related-resting (h .at-rest) (omega (arith, open-many old pk, h .more-held))
       (λ g. rw (h .more-grants g, old .wants busy) (omega (arith, open-grants old pk g)))

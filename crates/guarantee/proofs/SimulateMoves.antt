@@ -1,5 +1,5 @@
 -- Each move of a working client is a step of the sequential pool: the moves are those of the invariant's `Edges`, none of them stuck, and each is one
--- of `Simulate`'s six kinds. Most are quiet, and what they write shows nowhere: a taken frame stands in no slot, a frame that is put into a slot is
+-- of `Simulate`'s six kinds. Most only continue, and what they write is not in the view: a taken frame stands in no slot, a frame that is put into a slot is
 -- in no entry yet, and the entry that 17 removes is an evicted frame's. Assumes nothing.
 use mathlib.Core.Path.{_≡_, refl, sym, ap, _∙_}
 use mathlib.Core.Logic.{_≢_, inr}
@@ -25,9 +25,9 @@ use Rattle.invariant.proofs.Edges.{Edge, moves-on, found1, found18, forgets2, f
 use Rattle.invariant.proofs.Edges.{removes, admits, revives, evicts20, evicts23, begins, releases}
 use Rattle.invariant.proofs.Effects.{counters-test}
 use Rattle.guarantee.specs.Sequential.{Sequential}
-use Rattle.guarantee.proofs.SeqClients.{working, outward, quiet, quiet-means, onward-quiet}
-use Rattle.guarantee.proofs.Shown.{Kept, as-was, pins-put, taken-frame, slot-put, entry-gone}
-use Rattle.guarantee.proofs.Simulate.{Simulates, Acting, quietly, adds-one, answers-one, admits-one, refuses-one, drops-one}
+use Rattle.guarantee.proofs.SeqClients.{workingMove, observable, continuing, continuing-means, onward-continuing}
+use Rattle.guarantee.proofs.ViewAfter.{SameView, counters-view, pins-view, take-view, slot-view, remove-view}
+use Rattle.guarantee.proofs.Simulate.{Simulates, Acting, continues-one, adds-one, answers-one, admits-one, refuses-one, drops-one}
 
 module _ {p : Pool} {c : ℕ} {q : Sequential} (acting : Acting p c q) (busy : client p c .stage ≢ 0) where
   abbrev k : Client
@@ -42,41 +42,41 @@ module _ {p : Pool} {c : ℕ} {q : Sequential} (acting : Acting p c q) (busy : c
   room : k .held < 8
   room = omega (arith, r .ranges .working-held c busy)
 
-  passes : (i j : ℕ) → k .stage ≡ i → {m : Move} → outward m ≡ working k j Nothing → T (quiet i j) → Kept p c m → Simulates p c q m
-  passes i j e o t = quietly acting busy i j e o (quiet-means i j t)
+  continues-at : (i j : ℕ) → k .stage ≡ i → {m : Move} → observable m ≡ workingMove k j Nothing → T (continuing i j) → SameView p c m → Simulates p c q m
+  continues-at i j e o t = continues-one acting busy i j e o (continuing-means i j t)
 
   -- the own frame is in no entry
-  evicts : (i j : ℕ) → k .stage ≡ i → T (quiet i j) → k .own ≢ none → Simulates p c q (works (withOwn k none) j (PutPins (k .own) evicted))
-  evicts i j e t z = passes i j e refl t (pins-put p c _ r (k .own) evicted refl (r .ranges .own-ok c z) (inr (r .private .own-unmapped c z)))
+  evicts : (i j : ℕ) → k .stage ≡ i → T (continuing i j) → k .own ≢ none → Simulates p c q (works (withOwn k none) j (PutPins (k .own) evicted))
+  evicts i j e t z = continues-at i j e refl t (pins-view p c _ r (k .own) evicted refl (r .ranges .own-ok c z) (inr (r .private .own-unmapped c z)))
 
   pub simulated : {m : Move} → Edge p c m → Simulates p c q m
   simulated {m} (moves-on n j w h) =
-      quietly acting busy (k .stage) j refl
+      continues-one acting busy (k .stage) j refl
       (λ i. record { answer = Working j; counted = Nothing; grants = Same; stage = j; page = h .same .page i; held = h .same .held i })
-      (onward-quiet (h .stages)) (as-was p c m r (counters-test (h .counters-only)))
-  simulated {m} (found1 e _) = passes 1 2 e refl tt (as-was p c m r tt)
-  simulated {m} (found18 e _) = passes 18 19 e refl tt (as-was p c m r tt)
-  simulated {m} (forgets2 e _) = passes 2 4 e refl tt (as-was p c m r tt)
-  simulated {m} (forgets22 e _) = passes 22 23 e refl tt (as-was p c m r tt)
+      (onward-continuing (h .stages)) (counters-view p c m r (counters-test (h .counters-only)))
+  simulated {m} (found1 e _) = continues-at 1 2 e refl tt (counters-view p c m r tt)
+  simulated {m} (found18 e _) = continues-at 18 19 e refl tt (counters-view p c m r tt)
+  simulated {m} (forgets2 e _) = continues-at 2 4 e refl tt (counters-view p c m r tt)
+  simulated {m} (forgets22 e _) = continues-at 22 23 e refl tt (counters-view p c m r tt)
   simulated (pins2 e l) = adds-one acting busy 2 3 e tt refl refl (known 2 e) l refl refl
   simulated (pins19 e l) = adds-one acting busy 19 20 e tt refl refl (known 19 e .1) l refl refl
   simulated (gets3 e) = answers-one acting busy 3 Hit e tt refl refl refl (known 3 e) room refl tt
   simulated (gets21 e) = answers-one acting busy 21 Join e tt refl refl refl (known 21 e) room refl tt
   simulated (takes e z) =
-      passes 4 5 e refl tt
-      (taken-frame p c _ r (freeFrame p) (k .page) (pinned 1) 1 refl (unreferenced-means p (freeFrame p) z (free-found p (r .shape) z .1) .no-slot))
+      continues-at 4 5 e refl tt
+      (take-view p c _ r (freeFrame p) (k .page) (pinned 1) 1 refl (unreferenced-means p (freeFrame p) z (free-found p (r .shape) z .1) .no-slot))
   simulated (fills e s) =
-      passes 8 9 e refl tt
-      (slot-put p c _ r (k .place) (k .own) refl (r .ranges .place-ok c) (r .private .own-unmapped c (known 8 e)) (ap (pins p) s ∙ none-evicted p (r .shape)))
+      continues-at 8 9 e refl tt
+      (slot-view p c _ r (k .place) (k .own) refl (r .ranges .place-ok c) (r .private .own-unmapped c (known 8 e)) (ap (pins p) s ∙ none-evicted p (r .shape)))
   simulated (replaces e s) =
-      passes 15 16 e refl tt
-      (slot-put p c _ r (k .place) (k .own) refl (r .ranges .place-ok c) (r .private .own-unmapped c (known 15 e .0)) (ap (pins p) s ∙ known 15 e .1 .1))
+      continues-at 15 16 e refl tt
+      (slot-view p c _ r (k .place) (k .own) refl (r .ranges .place-ok c) (r .private .own-unmapped c (known 15 e .0)) (ap (pins p) s ∙ known 15 e .1 .1))
   simulated (refuses v _) = refuses-one acting busy (k .stage) refl (v .no-pin) refl tt
   simulated (drops e h) = drops-one acting busy e (known 14 e .1 .0) h (known 14 e .1 .1 (λ z. omega arith)) refl refl
   simulated (removes e h) =
       let g : ℕ = page p (k .victim) in
       let f = lookup-found p (r .shape) g (λ z. known 17 e .1 .0 (sym h ∙ z)) in
-      passes 17 18 e refl tt (entry-gone p c _ r (entryOf p g) g none refl (f .inside) (ap (pins p) (f .entry-frame ∙ h) ∙ known 17 e .1 .1) refl)
+      continues-at 17 18 e refl tt (remove-view p c _ r (entryOf p g) g none refl (f .inside) (ap (pins p) (f .entry-frame ∙ h) ∙ known 17 e .1 .1) refl)
   simulated (admits e l u) =
       let free = unused-found p (r .shape) u in
       admits-one acting busy 18 Admitted e tt refl refl refl (known 18 e) room

@@ -1,4 +1,4 @@
--- The tally's sum. The sequential pool gains a page where one is admitted or revived and loses one where one is dropped (`Weighs`), and it keeps
+-- The tally's sum. The sequential pool gains a page where one is admitted or revived and loses one where one is dropped (`PageCountChange`), and it keeps
 -- as many pages as are resident: each resident frame stands in one slot and in one entry. Assumes nothing.
 use mathlib.Core.Path.{_≡_, refl, sym, ap, _∙_}
 use mathlib.Core.Logic.{_≢_}
@@ -29,10 +29,10 @@ use Rattle.invariant.proofs.Pigeonhole.{below, equal, below-all, equal-has, equ
 use Rattle.guarantee.specs.Runs.{Event, events}
 use Rattle.guarantee.specs.Sequential.{Sequential, seqSlot}
 use Rattle.guarantee.specs.Claims.{tallyOf, BelowLargest, Claim-sum}
-use Rattle.guarantee.proofs.Mirror.{seen, seen-evicted, seen-unmapped, seen-full, Mirrors}
-use Rattle.guarantee.proofs.Weights.{occupied, full, kept, kept-sum, kept-none, gained, lost}
+use Rattle.guarantee.proofs.SimulationRelation.{viewFrame, view-evicted, view-unmapped, view-mapped, SimulationRelation}
+use Rattle.guarantee.proofs.PageCount.{occupied, occupancy, pageCount, pageCount-sum, pageCount-none, gained, lost}
 use Rattle.guarantee.proofs.Follow.{followed}
-use Rattle.guarantee.proofs.Sequence.{mirrors-start}
+use Rattle.guarantee.proofs.Sequence.{start-related}
 use Rattle.guarantee.proofs.Start.{starts}
 
 -- ---- a numbering that gives each number with a property once gives as many of them as there are
@@ -88,9 +88,9 @@ how-many t (suc n) = go (t n) (how-many t n)
     go true e = omega arith
     go false e = omega arith
 
-residents-kept : (p : Pool) (q : Sequential) → Reached p → Mirrors p q → residents p ≡ kept (q .slots)
+residents-counted : (p : Pool) (q : Sequential) → Reached p → SimulationRelation p q → residents p ≡ pageCount (q .slots)
 unfolding residents
-residents-kept p q r mirror =
+residents-counted p q r related =
     how-many _ (total p)
     ∙ (sum-same (λ i. one (P (entryFrame p i))) _ (total p) (λ i _. entry-full i (eqb (pins p (entryFrame p i)) evicted) refl)
     ∙ (sym (counted (entryFrame p) (total p) (r .mapping .entries-distinct) in-entry)
@@ -98,13 +98,13 @@ residents-kept p q r mirror =
     ∙ sym shown)))
   where
     P : ℕ → Bool
-    P f = occupied (seen p f)
+    P f = occupied (viewFrame p f)
 
     live : (f : ℕ) → P f ≡ true → pins p f ≢ evicted
-    live f h e = true≢false (sym h ∙ ap occupied (seen-evicted p f e))
+    live f h e = true≢false (sym h ∙ ap occupied (view-evicted p f e))
 
     entered : (f : ℕ) → P f ≡ true → mapped p f ≢ 0
-    entered f h e = true≢false (sym h ∙ ap occupied (seen-unmapped p f e))
+    entered f h e = true≢false (sym h ∙ ap occupied (view-unmapped p f e))
 
     counted : (g : ℕ → ℕ) (n : ℕ) → Distinct g none → ((f : ℕ) → P f ≡ true → (i : ℕ) × (i < n) × (g i ≡ f))
         → sumTo (λ f. one (P f)) (total p) ≡ sumTo (λ i. one (P (g i))) n
@@ -123,13 +123,13 @@ residents-kept p q r mirror =
 
     -- an entry's frame that is not evicted is resident
     entry-full : (i : ℕ) (t : Bool) → eqb (pins p (entryFrame p i)) evicted ≡ t → one (not t) ≡ one (P (entryFrame p i))
-    entry-full i true e = ap full (sym (seen-evicted p (entryFrame p i) (eqb-true _ _ e)))
+    entry-full i true e = ap occupancy (sym (view-evicted p (entryFrame p i) (eqb-true _ _ e)))
     entry-full i false e =
         let l : pins p (entryFrame p i) ≢ evicted = eqb-false _ _ e in
-        ap full (sym (seen-full p (entryFrame p i) l (mapped-is p (entryFrame p i) (r .mapping .entries-distinct) (pins-named p (r .shape) _ l) i refl)))
+        ap occupancy (sym (view-mapped p (entryFrame p i) l (mapped-is p (entryFrame p i) (r .mapping .entries-distinct) (pins-named p (r .shape) _ l) i refl)))
 
-    shown : kept (q .slots) ≡ sumTo (λ i. one (P (slot p i))) (p .size)
-    shown = kept-sum (q .slots) ∙ (ap (sumTo (λ i. full (seqSlot q i))) (mirror .size) ∙ sum-same _ _ (p .size) (λ i _. ap full (mirror .slots i)))
+    shown : pageCount (q .slots) ≡ sumTo (λ i. one (P (slot p i))) (p .size)
+    shown = pageCount-sum (q .slots) ∙ (ap (sumTo (λ i. occupancy (seqSlot q i))) (related .size) ∙ sum-same _ _ (p .size) (λ i _. ap occupancy (related .slots i)))
 
 -- ---- a count that is below its largest value was raised by one
 
@@ -164,15 +164,15 @@ unfolding tallyOf
 below-first t [] h = h
 below-first t (e ∷ es) h = raised (e .counted) t (below-first (tallied (e .counted) t) es h) .before
 
-sum-run : {p : Pool} {q : Sequential} (calls : List Call) (t : Tally) → Reached p → Mirrors p q → kept (q .slots) + t .drops ≡ t .admitted + t .revived
+sum-run : {p : Pool} {q : Sequential} (calls : List Call) (t : Tally) → Reached p → SimulationRelation p q → pageCount (q .slots) + t .drops ≡ t .admitted + t .revived
     → let n = tallyOf t (events p calls) in BelowLargest n → residents (poolAfter p calls) + n .drops ≡ n .admitted + n .revived
 unfolding events tallyOf poolAfter
-sum-run {p} {q} [] t r mirror e h = omega (arith, residents-kept p q r mirror)
-sum-run {p} {q} (x ∷ calls) t r mirror e h =
-    let f = followed r mirror x in
+sum-run {p} {q} [] t r related e h = omega (arith, residents-counted p q r related)
+sum-run {p} {q} (x ∷ calls) t r related e h =
+    let f = followed r related x in
     let u = callOf p x .counted in
     let one-up = raised u t (below-first (tallied u t) (events (callOf p x .pool) calls) h) in
-    sum-run calls (tallied u t) (reached-call p x r) (f .mirrors) (omega (arith, e, f .weighs, one-up .gains, one-up .loses)) h
+    sum-run calls (tallied u t) (reached-call p x r) (f .related) (omega (arith, e, f .page-count, one-up .gains, one-up .loses)) h
 
 pub sum : Claim-sum
-sum s t c h e calls low = sum-run calls zeroTally (starts s t c h e .reached) (mirrors-start s t c h e) (omega (arith, kept-none s)) low
+sum s t c h e calls low = sum-run calls zeroTally (starts s t c h e .reached) (start-related s t c h e) (omega (arith, pageCount-none s)) low
