@@ -23,7 +23,7 @@ use Rattle.invariant.proofs.Allowed.{allowed, only-step}
 use Rattle.invariant.proofs.Calls.{reached-call}
 use Rattle.guarantee.specs.Runs.{Event, happens, events, At, Begins}
 use Rattle.guarantee.specs.Claims.{AllHeld, AnswersTo, TurnedDown, RefusedAlone}
-use Rattle.guarantee.proofs.Turned.{same-pool, other-answer, other-call, turned-down, down, by-move, went}
+use Rattle.guarantee.proofs.TurnedDown.{same-pool, other-answer, other-call, turned-down, turned, one-move, turned-or-move}
 use Rattle.guarantee.proofs.OneClient.{rest-unanswered}
 use Rattle.guarantee.proofs.SoloSteps.{begun-is, begun-rests, begun-on}
 use Rattle.guarantee.proofs.Base.{Base, base-still, pins-still}
@@ -55,9 +55,9 @@ module _ (p₀ : Pool) (b g : ℕ) (reached : Reached p₀) (rest : (c : ℕ) �
   idle-call : (p : Pool) (x : Call) → Works p₀ b g reached rest p → Fair (happens p x) → x ≢ Step b → callOf p x .pool ≡ p
   idle-call p x w (inr t) n = turned-down p x (t .0) (t .1) (t .2) .0
   idle-call p x w (inl e) n =
-      elim (went p x) [
-        | down _ _ q ↦ same-pool q
-        | by-move r _ _ ↦
+      elim (turned-or-move p x) [
+        | turned _ _ q ↦ same-pool q
+        | one-move r _ _ ↦
             let works : client p (caller x) .stage ≡ suc (w .0) = ap (λ (c : ℕ). client p c .stage) e ∙ w .1 .stage in
             absurd (n (only-step p x (allowed p x r) (λ z. omega arith) ∙ ap Step e))
       ]

@@ -37,7 +37,7 @@ use Rattle.invariant.proofs.Edges.{Edge}
 use Rattle.invariant.proofs.Steps.{call-edge}
 use Rattle.invariant.proofs.Calls.{outcomeOf, call-moves, call-turned}
 use Rattle.guarantee.specs.Sequential.{SeqClient, Sequential, seqClient, member, without, seqRefusal, Rule, turns-down, begins, releases, steps}
-use Rattle.guarantee.proofs.Turned.{moved}
+use Rattle.guarantee.proofs.TurnedDown.{moved}
 use Rattle.guarantee.proofs.SimulationRelation.{times, not-member, is-member, without-times, without-length, SimulationRelation, open-many, open-grants}
 use Rattle.guarantee.proofs.PageCount.{PageCountChange}
 use Rattle.guarantee.proofs.ViewAfter.{counters-view, pins-view}

@@ -1,10 +1,10 @@
 -- The proofs of specs/Claims.antt, in reading order. All of them rest on the invariant, `Reached`, of crate `invariant`.
 -- every pool of a run is reached, from the setup on, and what holds of reached pools holds along the run
-pub mod Start
+pub mod SetupDone
 pub mod Along
 -- what a call answers, by stage, of every pool; that it is turned down or is one move; the listed answers
 pub mod Stages
-pub mod Turned
+pub mod TurnedDown
 pub mod Listed
 -- claim d: the simulation relation; the sequential pool's pages, its clients, its number of pages
 pub mod SimulationRelation

@@ -26,7 +26,7 @@ use Rattle.guarantee.specs.Runs.{Event, events, At}
 use Rattle.guarantee.specs.Claims.{Listed}
 use Rattle.guarantee.proofs.Along.{at-some}
 use Rattle.guarantee.proofs.Stages.{granting, among, given, on-edges, on-grants, goes, grants, refuses, sticks, fits}
-use Rattle.guarantee.proofs.Turned.{ends, halts, released}
+use Rattle.guarantee.proofs.TurnedDown.{is-done, is-stuck, released}
 
 -- the numbers that a call is turned down by, 8 aside
 record Numbered (p : Pool) (x : Call) (n : ℕ) : Type 0 where
@@ -65,7 +65,7 @@ listed-move : (p : Pool) (x : Call) → Reached p → refusalOf (moveOf p x .ans
 unfolding moveOf refusalOf Listed
 listed-move p (Begin c g) r z = inl refl
 listed-move p (Release c g) r z =
-    elim (released p c g) [ ends e _ ↦ inl e | halts e ↦ absurd (z (ap (λ (m : Move). refusalOf (m .answer)) e)) ]
+    elim (released p c g) [ is-done e _ ↦ inl e | is-stuck e ↦ absurd (z (ap (λ (m : Move). refusalOf (m .answer)) e)) ]
 listed-move p (Step c) r z =
     elim (fits p (client p c)) [
       | goes j l e _ ↦

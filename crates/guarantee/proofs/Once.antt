@@ -1,4 +1,4 @@
--- Once a stage 15 has replaced a frame, and until a stage 4 takes it, the frame stands in no slot and is nobody's own (`Out`). So between two stages
+-- Once a stage 15 has replaced a frame, and until a stage 4 takes it, the frame stands in no slot and is nobody's own (`OutOfSlot`). So between two stages
 -- 15 that replace it a stage 4 takes it. Assumes nothing.
 use mathlib.Core.Path.{_≡_, sym, ap, subst, _∙_}
 use mathlib.Core.Logic.{_≢_, _⊎_, inl, inr}
@@ -29,11 +29,11 @@ use Rattle.invariant.proofs.Calls.{reached-call}
 use Rattle.guarantee.specs.Runs.{happens, events, At}
 use Rattle.guarantee.specs.Claims.{Evicts, Replaces, Takes, TakenOutOnce}
 use Rattle.guarantee.proofs.Along.{at-some}
-use Rattle.guarantee.proofs.Turned.{Went, down, by-move, went}
+use Rattle.guarantee.proofs.TurnedDown.{TurnedOrMove, turned, one-move, turned-or-move}
 
 -- ---- a frame that is out stays so until a stage 4 takes it
 
-record Out (p : Pool) (f : ℕ) : Type 0 where
+record OutOfSlot (p : Pool) (f : ℕ) : Type 0 where
   no-slot : (i : ℕ) → slot p i ≢ f
   no-own : (c : ℕ) → client p c .own ≢ f
 
@@ -48,31 +48,31 @@ module _ (p : Pool) (r : Reached p) (f : ℕ) (z : f ≢ none) (unowned : (c : �
       by (own-taken q _ _ _) = s q
 
   -- then a move puts it into no slot, so it is out if every slot that named it does no more
-  out-move : (c : ℕ) (m : Move) → c < clientCount p → Edge p c m → m .next .own ≢ f → ((i : ℕ) → slot p i ≡ f → slot (apply p c m) i ≢ f) → Out (apply p c m) f
+  out-move : (c : ℕ) (m : Move) → c < clientCount p → Edge p c m → m .next .own ≢ f → ((i : ℕ) → slot p i ≡ f → slot (apply p c m) i ≢ f) → OutOfSlot (apply p c m) f
   out-move c m here w u s =
       record {
         no-slot = λ i e. elim (slot-now (effect p c here r w) i) [ inl q ↦ s i (sym q ∙ e) e | inr q ↦ unowned c (sym (q .0) ∙ e) ];
         no-own = all-clients p c m (r .shape) (λ _ k. k .own ≢ f) here (λ d _. unowned d) u;
       }
 
-out-call : (p : Pool) (x : Call) (f : ℕ) → Reached p → f ≢ none → Out p f → Out (callOf p x .pool) f ⊎ Takes f (happens p x)
-out-call p x f r z o = go (went p x)
+out-call : (p : Pool) (x : Call) (f : ℕ) → Reached p → f ≢ none → OutOfSlot p f → OutOfSlot (callOf p x .pool) f ⊎ Takes f (happens p x)
+out-call p x f r z o = go (turned-or-move p x)
   where
     c : ℕ
     c = caller x
 
-    go : Went p x (callOf p x) → Out (callOf p x .pool) f ⊎ Takes f (happens p x)
-    go (down _ _ q) = inl (subst (λ (y : Outcome). Out (y .pool) f) (sym q) o)
-    go (by-move e _ q) = by (ℕ-discrete (client p c .stage) 4) (ℕ-discrete (moveOf p x .next .own) f)
+    go : TurnedOrMove p x (callOf p x) → OutOfSlot (callOf p x .pool) f ⊎ Takes f (happens p x)
+    go (turned _ _ q) = inl (subst (λ (y : Outcome). OutOfSlot (y .pool) f) (sym q) o)
+    go (one-move e _ q) = by (ℕ-discrete (client p c .stage) 4) (ℕ-discrete (moveOf p x .next .own) f)
       where
         w : (c < clientCount p) × Edge p c (moveOf p x)
         w = call-edge p x r e
 
-        stays : moveOf p x .next .own ≢ f → Out (callOf p x .pool) f
+        stays : moveOf p x .next .own ≢ f → OutOfSlot (callOf p x .pool) f
         stays u =
-            subst (λ (y : Outcome). Out (y .pool) f) (sym q) (out-move p r f z (o .no-own) c (moveOf p x) (w .0) (w .1) u (λ i s. absurd (o .no-slot i s)))
+            subst (λ (y : Outcome). OutOfSlot (y .pool) f) (sym q) (out-move p r f z (o .no-own) c (moveOf p x) (w .0) (w .1) u (λ i s. absurd (o .no-slot i s)))
 
-        by : Dec (client p c .stage ≡ 4) → Dec (moveOf p x .next .own ≡ f) → Out (callOf p x .pool) f ⊎ Takes f (happens p x)
+        by : Dec (client p c .stage ≡ 4) → Dec (moveOf p x .next .own ≡ f) → OutOfSlot (callOf p x .pool) f ⊎ Takes f (happens p x)
         by (no s) _ = inl (stays (not-own p r f z (o .no-own) c (moveOf p x) (w .0) (w .1) s))
         by (yes s) (no u) = inl (stays u)
         by (yes s) (yes u) =
@@ -84,10 +84,10 @@ out-call p x f r z o = go (went p x)
 
 -- ---- a stage 15 that replaces it makes it so
 
-replaced-out : (p : Pool) (x : Call) (f : ℕ) → Reached p → f ≢ none → Replaces f (happens p x) → Out (callOf p x .pool) f
+replaced-out : (p : Pool) (x : Call) (f : ℕ) → Reached p → f ≢ none → Replaces f (happens p x) → OutOfSlot (callOf p x .pool) f
 unfolding caller
 replaced-out p x f r z h =
-    subst (λ (y : Call). slot (callOf p y .pool) i ≢ f → Out (callOf p y .pool) f) (sym (h .step-of .0)) (go (went p (Step c))) (h .names-no-more)
+    subst (λ (y : Call). slot (callOf p y .pool) i ≢ f → OutOfSlot (callOf p y .pool) f) (sym (h .step-of .0)) (go (turned-or-move p (Step c))) (h .names-no-more)
   where
     c : ℕ
     c = h .client-of
@@ -98,7 +98,7 @@ replaced-out p x f r z h =
     m : Move
     m = moveOf p (Step c)
 
-    out : c < clientCount p → Edge p c m → slot (apply p c m) i ≢ f → Out (apply p c m) f
+    out : c < clientCount p → Edge p c m → slot (apply p c m) i ≢ f → OutOfSlot (apply p c m) f
     out here w n =
         out-move p r f z unowned c m here w
         (not-own p r f z unowned c m here w (λ s. let y : _≡_ {A = ℕ} 15 4 = sym (h .step-of .1) ∙ s in omega arith))
@@ -111,16 +111,16 @@ replaced-out p x f r z h =
         unowned : (d : ℕ) → client p d .own ≢ f
         unowned d e = omega (arith, own-pins p r d (λ q. z (sym e ∙ q)), ap (pins p) e ∙ dead)
 
-    go : Went p (Step c) (callOf p (Step c)) → slot (callOf p (Step c) .pool) i ≢ f → Out (callOf p (Step c) .pool) f
-    go (down _ _ q) n = absurd (n (ap (λ (o : Outcome). slot (o .pool) i) q ∙ h .named))
-    go (by-move e _ q) n =
+    go : TurnedOrMove p (Step c) (callOf p (Step c)) → slot (callOf p (Step c) .pool) i ≢ f → OutOfSlot (callOf p (Step c) .pool) f
+    go (turned _ _ q) n = absurd (n (ap (λ (o : Outcome). slot (o .pool) i) q ∙ h .named))
+    go (one-move e _ q) n =
         let w = call-edge p (Step c) r e in
-        subst (λ (o : Outcome). Out (o .pool) f) (sym q) (out (w .0) (w .1) (λ s. n (ap (λ (o : Outcome). slot (o .pool) i) q ∙ s)))
+        subst (λ (o : Outcome). OutOfSlot (o .pool) f) (sym q) (out (w .0) (w .1) (λ s. n (ap (λ (o : Outcome). slot (o .pool) i) q ∙ s)))
 
 -- ---- along a run
 
 -- a frame that is out is replaced only after it was taken
-taken-first : (p : Pool) (calls : List Call) (f : ℕ) → Reached p → f ≢ none → Out p f → (n : ℕ) → At (Replaces f) (events p calls) n
+taken-first : (p : Pool) (calls : List Call) (f : ℕ) → Reached p → f ≢ none → OutOfSlot p f → (n : ℕ) → At (Replaces f) (events p calls) n
     → (m : ℕ) × (m < n) × At (Takes f) (events p calls) m
 unfolding events At
 taken-first p [] f r z o n h = absurd h

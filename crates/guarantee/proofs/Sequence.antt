@@ -19,7 +19,7 @@ use Rattle.guarantee.specs.Sequential.{Sequential, empty, seqResting, st
 use Rattle.guarantee.specs.Claims.{Follows, at-end, at-call}
 use Rattle.guarantee.proofs.SimulationRelation.{viewFrame, view-evicted, SimulationRelation, upTo, downFrom, viewClient, view, view-related}
 use Rattle.guarantee.proofs.Pages.{same-pages}
-use Rattle.guarantee.proofs.Start.{starts}
+use Rattle.guarantee.proofs.SetupDone.{setup-done}
 use Rattle.guarantee.proofs.Follow.{followed}
 
 -- from any two pools that are related
@@ -52,9 +52,9 @@ view-start s t c h ok = λ i. record { slots = all-same _ s empty vacant i; clie
 -- at a setup that is done the sequential pool that has just started is related to the pool
 pub start-related : (s t c h : ℕ) → setupOf s t c h .answer ≡ Done s → SimulationRelation (setupOf s t c h .pool) (start s t)
 start-related s t c h e =
-    let first = starts s t c h e in
+    let first = setup-done s t c h e in
     let shape = rw (first .fresh-pool) at (first .reached .shape) in
     rw (first .fresh-pool) (rw (view-start s t c h (first .ok)) at (view-related (fresh s t c h) shape))
 
 pub sequential : (s t c h : ℕ) → setupOf s t c h .answer ≡ Done s → (calls : List Call) → Follows (setupOf s t c h .pool) (start s t) calls
-sequential s t c h e calls = follows-on calls (starts s t c h e .reached) (start-related s t c h e)
+sequential s t c h e calls = follows-on calls (setup-done s t c h e .reached) (start-related s t c h e)

@@ -35,8 +35,8 @@ use Rattle.invariant.proofs.Sums.{sum-zero, sum-has, some-one}
 use Rattle.invariant.proofs.Calls.{reached-calls}
 use Rattle.guarantee.specs.Runs.{events, At}
 use Rattle.guarantee.specs.Claims.{GrantedWithin, Claim-limits}
-use Rattle.guarantee.proofs.Start.{starts}
-use Rattle.guarantee.proofs.Turned.{down, by-move, went}
+use Rattle.guarantee.proofs.SetupDone.{setup-done}
+use Rattle.guarantee.proofs.TurnedDown.{turned, one-move, turned-or-move}
 use Rattle.guarantee.proofs.SoloSteps.{On, Goes, begun-is, begun-on, answer-is, onto, on-next, go1, go1-found, go2, go3, go4, go5, go6, go7, go8, go8-on}
 use Rattle.guarantee.proofs.SoloSteps.{go9, go18}
 
@@ -262,7 +262,7 @@ module _ (p : Pool) (r : Reached p) (rest : (c : ℕ) → client p c .stage ≡ 
 
 size-call : (p : Pool) (x : Call) → callOf p x .pool .size ≡ p .size
 unfolding apply
-size-call p x = elim (went p x) [ down _ _ e ↦ ap (λ (o : Outcome). o .pool .size) e | by-move _ _ e ↦ ap (λ (o : Outcome). o .pool .size) e ]
+size-call p x = elim (turned-or-move p x) [ turned _ _ e ↦ ap (λ (o : Outcome). o .pool .size) e | one-move _ _ e ↦ ap (λ (o : Outcome). o .pool .size) e ]
 
 size-after : (p : Pool) (calls : List Call) → poolAfter p calls .size ≡ p .size
 unfolding poolAfter
@@ -271,7 +271,7 @@ size-after p (x ∷ calls) = size-after (callOf p x .pool) calls ∙ size-call p
 
 pub limits : Claim-limits
 limits s t c h e calls b g rest a =
-    let first = starts s t c h e in
+    let first = setup-done s t c h e in
     let size = ap (λ (p : Pool). p .size) (first .fresh-pool) in
     limits-from (poolAfter (setupOf s t c h .pool) calls) (reached-calls _ calls (first .reached)) rest s b g
     (size-after (setupOf s t c h .pool) calls ∙ size) a

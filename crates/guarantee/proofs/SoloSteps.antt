@@ -33,7 +33,7 @@ use Rattle.invariant.proofs.After.{client-same, client-other}
 use Rattle.invariant.proofs.Valid.{valid-reached}
 use Rattle.invariant.proofs.Allowed.{Allowed, allowed, may-begin}
 use Rattle.invariant.proofs.Calls.{outcomeOf, never-stuck, call-moves, reached-call}
-use Rattle.guarantee.proofs.Turned.{same-answer, same-pool, same-stage, other-answer, Went, down, by-move, went}
+use Rattle.guarantee.proofs.TurnedDown.{same-answer, same-pool, same-stage, other-answer, TurnedOrMove, turned, one-move, turned-or-move}
 
 -- a step of a working client is not turned down
 stepped : (p : Pool) (b : ℕ) → Reached p → b < clientCount p → client p b .stage ≢ 0 → refusal p (Step b) ≡ 0
@@ -107,11 +107,11 @@ module _ {p : Pool} {b : ℕ} {m : Move} (w : Goes p b m) where
 module _ (p : Pool) (b g : ℕ) (done : callOf p (Begin b g) .answer ≡ Done g) where
   begun : Allowed p (Begin b g) × (callOf p (Begin b g) .pool ≡ apply p b (beginMove (client p b) g))
   unfolding caller moveOf
-  begun = go (went p (Begin b g))
+  begun = go (turned-or-move p (Begin b g))
     where
-      go : Went p (Begin b g) (callOf p (Begin b g)) → Allowed p (Begin b g) × (callOf p (Begin b g) .pool ≡ apply p b (beginMove (client p b) g))
-      go (down n _ q) = other-answer (sym (same-answer q) ∙ done) tt
-      go (by-move r _ q) = (allowed p (Begin b g) r, same-pool q)
+      go : TurnedOrMove p (Begin b g) (callOf p (Begin b g)) → Allowed p (Begin b g) × (callOf p (Begin b g) .pool ≡ apply p b (beginMove (client p b) g))
+      go (turned n _ q) = other-answer (sym (same-answer q) ∙ done) tt
+      go (one-move r _ q) = (allowed p (Begin b g) r, same-pool q)
 
   -- what holds of the move's pool holds after it
   pub begun-is : (P : Pool → Type 0) → P (apply p b (beginMove (client p b) g)) → P (callOf p (Begin b g) .pool)

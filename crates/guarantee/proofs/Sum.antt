@@ -33,7 +33,7 @@ use Rattle.guarantee.proofs.SimulationRelation.{viewFrame, view-evicted
 use Rattle.guarantee.proofs.PageCount.{occupied, occupancy, pageCount, pageCount-sum, pageCount-none, gained, lost}
 use Rattle.guarantee.proofs.Follow.{followed}
 use Rattle.guarantee.proofs.Sequence.{start-related}
-use Rattle.guarantee.proofs.Start.{starts}
+use Rattle.guarantee.proofs.SetupDone.{setup-done}
 
 -- ---- a numbering that gives each number with a property once gives as many of them as there are
 
@@ -175,4 +175,4 @@ sum-run {p} {q} (x ∷ calls) t r related e h =
     sum-run calls (tallied u t) (reached-call p x r) (f .related) (omega (arith, e, f .page-count, one-up .gains, one-up .loses)) h
 
 pub sum : Claim-sum
-sum s t c h e calls low = sum-run calls zeroTally (starts s t c h e .reached) (start-related s t c h e) (omega (arith, pageCount-none s)) low
+sum s t c h e calls low = sum-run calls zeroTally (setup-done s t c h e .reached) (start-related s t c h e) (omega (arith, pageCount-none s)) low

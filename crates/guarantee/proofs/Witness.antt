@@ -27,7 +27,7 @@ use Rattle.pool.specs.declared.Call.the-variants.{Begin, Step}
 use Rattle.invariant.proofs.After.{client-past}
 use Rattle.guarantee.specs.Runs.{Event, events, At, Begins}
 use Rattle.guarantee.specs.Claims.{Evicts, TakenOut, takesEffect, TakesEffect, TurnedDown, Alone}
-use Rattle.guarantee.proofs.Turned.{other-call}
+use Rattle.guarantee.proofs.TurnedDown.{other-call}
 
 -- all that a run computes
 unfoldable computing : ℕ
