@@ -23,7 +23,7 @@ use Rattle.guarantee.proofs.OneEffect.{one-effect}
 use Rattle.guarantee.proofs.Alone.{refused-alone}
 use Rattle.guarantee.proofs.Listed.{listed}
 use Rattle.guarantee.proofs.TurnedDown.{turned-down, refused}
-use Rattle.guarantee.proofs.Solo.{limits}
+use Rattle.guarantee.proofs.Limits.{limits}
 use Rattle.guarantee.proofs.SetupDone.{setup-done}
 
 point3 : Claim-point3

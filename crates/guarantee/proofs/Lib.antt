@@ -27,11 +27,11 @@ pub mod Once
 pub mod OneClient
 pub mod OneEffect
 -- a client stepped alone: its moves, the limits, the sweep, and claim e
-pub mod SoloSteps
-pub mod Solo
+pub mod AloneSteps
+pub mod Limits
 pub mod Sweep
-pub mod Base
-pub mod Path
+pub mod SinceBegin
+pub mod RunAlone
 pub mod Alone
 -- the premises of the claims can be met; all of it, as the record `Guarantee`
 pub mod Witness

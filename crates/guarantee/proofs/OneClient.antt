@@ -27,7 +27,7 @@ refused-same : {m n : ℕ} → Refused m ≡ Refused n → m ≡ n
 unfolding refusalOf
 refused-same e = ap refusalOf e
 
--- ---- the view
+-- ---- the client after a call
 
 pub data ClientAfter (p : Pool) (x : Call) (c : ℕ) : Type 0 where
   same : client (callOf p x .pool) c ≡ client p c → (caller x ≡ c → TurnedDown (happens p x)) → ClientAfter p x c

@@ -19,35 +19,35 @@ use Rattle.invariant.proofs.Searches.{lookup-found, lookup-none}
 
 -- ---- what stays as it was at the begin
 
-pub record Base (p₀ p : Pool) (g : ℕ) : Type 0 where
+pub record SameAsBegin (p₀ p : Pool) (g : ℕ) : Type 0 where
   pub slots : (i : ℕ) → slot p i ≡ slot p₀ i
-  pub looked : lookup p g ≡ lookup p₀ g
+  pub lookup : lookup p g ≡ lookup p₀ g
   pub size : p .size ≡ p₀ .size
   pub pins : (i : ℕ) → pins p (slot p₀ i) ≡ pins p₀ (slot p₀ i)
 
 -- ---- a write that slots, pins and table do not see
 
 module _ (p : Pool) (c : ℕ) (m : Move) (r : Reached p) (t : T (countersOnly (m .write))) where
-  pub slot-still : (i : ℕ) → slot (apply p c m) i ≡ slot p i
-  slot-still = slot-kept p c m (untouched _ _ (m .write) t .slots)
+  pub counters-slot : (i : ℕ) → slot (apply p c m) i ≡ slot p i
+  counters-slot = slot-kept p c m (untouched _ _ (m .write) t .slots)
 
-  pub pins-still : (f : ℕ) → pins (apply p c m) f ≡ pins p f
-  pins-still = pins-kept p c m (untouched _ _ (m .write) t .pins)
+  pub counters-pins : (f : ℕ) → pins (apply p c m) f ≡ pins p f
+  counters-pins = pins-kept p c m (untouched _ _ (m .write) t .pins)
 
-  pub base-still : {p₀ : Pool} {g : ℕ} → Base p₀ p g → Base p₀ (apply p c m) g
+  pub same-as-begin-next : {p₀ : Pool} {g : ℕ} → SameAsBegin p₀ p g → SameAsBegin p₀ (apply p c m) g
   unfolding apply
-  base-still {g = g} h =
+  same-as-begin-next {g = g} h =
       record {
-        slots = λ i. slot-still i ∙ h .slots i;
-        looked = lookup-kept p c m (untouched 0 [] (m .write) t .table) g ∙ h .looked;
+        slots = λ i. counters-slot i ∙ h .slots i;
+        lookup = lookup-kept p c m (untouched 0 [] (m .write) t .table) g ∙ h .lookup;
         size = h .size;
-        pins = λ i. pins-still _ ∙ h .pins i;
+        pins = λ i. counters-pins _ ∙ h .pins i;
       }
 
 -- a page that the table lacks it lacks still when an entry is emptied
-pub emptied : (p : Pool) (c i x : ℕ) (m : Move) → m .write ≡ PutEntry i x none → Reached p → (g : ℕ) → lookup p g ≡ none → lookup (apply p c m) g ≡ none
+pub absent-removed : (p : Pool) (c i x : ℕ) (m : Move) → m .write ≡ PutEntry i x none → Reached p → (g : ℕ) → lookup p g ≡ none → lookup (apply p c m) g ≡ none
 unfolding apply entryPagesAfter entryFramesAfter
-emptied p c i x m e r g a = elim (ℕ-discrete (lookup q g) none) [ yes n ↦ n | no z ↦ absurd (by z (ℕ-discrete (entryOf q g) i)) ]
+absent-removed p c i x m e r g a = elim (ℕ-discrete (lookup q g) none) [ yes n ↦ n | no z ↦ absurd (by z (ℕ-discrete (entryOf q g) i)) ]
   where
     q : Pool
     q = apply p c m
