@@ -1,5 +1,5 @@
--- A client that runs alone is refused by 15 exactly if, at its begin, its page is not resident and every slot names a held frame: `RunsAlone` followed along
--- the run, up to the answer. Assumes nothing.
+-- A client that runs alone is refused by 15 exactly if, at its begin, its page is not resident and every slot names a held frame: `RunsAlone` followed
+-- along the run, up to the answer. Assumes nothing.
 use mathlib.Core.Path.{_≡_, refl, sym, ap, subst, _∙_}
 use mathlib.Core.Logic.{_≢_, _⊎_, inl, inr, _↔_}
 use mathlib.Core.Bool.{false}
@@ -21,7 +21,7 @@ use Rattle.pool.specs.declared.Answer.the-variants.{Done, Refused}
 use Rattle.invariant.proofs.Reached.{Reached}
 use Rattle.invariant.proofs.Allowed.{allowed, only-step}
 use Rattle.invariant.proofs.Calls.{reached-call}
-use Rattle.guarantee.specs.Runs.{Event, happens, events, At, Begins}
+use Rattle.guarantee.specs.Runs.{Event, eventOf, events, At, Begins}
 use Rattle.guarantee.specs.Claims.{AllHeld, AnswersTo, TurnedDown, RefusedAlone}
 use Rattle.guarantee.proofs.TurnedDown.{same-pool, other-answer, other-call, turned-down, turned, one-move, turned-or-move}
 use Rattle.guarantee.proofs.OneClient.{rest-unanswered}
@@ -52,7 +52,7 @@ module _ (p₀ : Pool) (b g : ℕ) (reached : Reached p₀) (rest : (c : ℕ) �
   RefusedIff e = ((e .answer ≡ Refused 15) × Condition) ⊎ ((e .answer ≢ Refused 15) × (Condition → ⊥))
 
   -- a call that is no step of the client changes nothing
-  idle-call : (p : Pool) (x : Call) → Works p₀ b g reached rest p → OwnOrTurnedDown (happens p x) → x ≢ Step b → callOf p x .pool ≡ p
+  idle-call : (p : Pool) (x : Call) → Works p₀ b g reached rest p → OwnOrTurnedDown (eventOf p x) → x ≢ Step b → callOf p x .pool ≡ p
   idle-call p x w (inr t) n = turned-down p x (t .0) (t .1) (t .2) .0
   idle-call p x w (inl e) n =
       elim (turned-or-move p x) [
@@ -68,9 +68,9 @@ module _ (p₀ : Pool) (b g : ℕ) (reached : Reached p₀) (rest : (c : ℕ) �
   unfolding events At
   run-alone p [] n running nb fair a = absurd a
   run-alone p (x ∷ calls) zero running nb fair a =
-      subst (λ (y : Call). AnswersTo b (happens p y) → RefusedIff (happens p y)) (sym (a .0)) (ends (result p₀ b g reached rest p running)) a
+      subst (λ (y : Call). AnswersTo b (eventOf p y) → RefusedIff (eventOf p y)) (sym (a .0)) (ends (result p₀ b g reached rest p running)) a
     where
-      ends : Result (callOf p (Step b)) → AnswersTo b (happens p (Step b)) → RefusedIff (happens p (Step b))
+      ends : Result (callOf p (Step b)) → AnswersTo b (eventOf p (Step b)) → RefusedIff (eventOf p (Step b))
       ends (goes-on j e _) (_, inl r) = other-answer (sym e ∙ r .1) tt
       ends (goes-on j e _) (_, inr r) = other-answer (sym e ∙ r) tt
       ends (granted f e _ n) _ = inr ((λ r. other-answer (sym r ∙ e) tt), n)
@@ -117,7 +117,8 @@ module _ (p : Pool) (b g : ℕ) (r : Reached p) (done : callOf p (Begin b g) .an
   unfolding apply
   start =
       at1 (begun-alone p b g done r others)
-      (begun-is p b g done (λ q. SameAsBegin p q g) (same-as-begin-next p b m r tt (record { slots = λ _. refl; lookup = refl; size = refl; pins = λ _. refl })))
+      (begun-is p b g done (λ q. SameAsBegin p q g)
+      (same-as-begin-next p b m r tt (record { slots = λ _. refl; lookup = refl; size = refl; pins = λ _. refl })))
       (begun-is p b g done (λ q. (f : ℕ) → pins q f ≡ pins p f) (counters-pins p b m r tt))
     where
       m : Move

@@ -20,10 +20,10 @@ use Rattle.invariant.proofs.Sums.{one-is, sum-has}
 use Rattle.invariant.proofs.Facts.{grant-pinned}
 use Rattle.invariant.proofs.Grants.{grantsOf}
 use Rattle.invariant.proofs.Calls.{reached-call}
-use Rattle.guarantee.specs.Runs.{happens, events, Throughout}
+use Rattle.guarantee.specs.Runs.{eventOf, events, Throughout}
 use Rattle.guarantee.specs.Sequential as Plain
-use Rattle.guarantee.specs.Sequential.{SeqSlot, SeqClient, Sequential, seqClient, member, Keeps, StepRule, adds, admits, drops, answers, continues, refuses, Rule}
-use Rattle.guarantee.specs.Sequential.{turns-down, begins, releases, steps}
+use Rattle.guarantee.specs.Sequential.{SeqSlot, SeqClient, Sequential, seqClient, member, Keeps, StepRule, adds, admits, drops, answers, continues}
+use Rattle.guarantee.specs.Sequential.{refuses, Rule, turns-down, begins, releases, steps}
 use Rattle.guarantee.specs.Claims.{OneCopy, BecomesEvicted, HeldPinned, NoHeldEvicted}
 use Rattle.guarantee.proofs.Along.{throughout, at-each}
 use Rattle.guarantee.proofs.SimulationRelation.{ResidentFrame, is-member, SimulationRelation, view, view-related}
@@ -103,7 +103,7 @@ not-evicted p x f r h out = v .not-evicted (ap (pins (callOf p x .pool)) (v .fra
 pub no-held-evicted : (p : Pool) (calls : List Call) → Reached p → NoHeldEvicted (events p calls)
 no-held-evicted p calls r f = at-each (BecomesEvicted f) (λ e. held (e .before) f ≡ false) (λ p x r h. go p x r h (held p f) refl) p calls r
   where
-    go : (p : Pool) (x : Call) → Reached p → BecomesEvicted f (happens p x) → (b : Bool) → held p f ≡ b → b ≡ false
+    go : (p : Pool) (x : Call) → Reached p → BecomesEvicted f (eventOf p x) → (b : Bool) → held p f ≡ b → b ≡ false
     go p x r h true e = absurd (not-evicted p x f r e (h .1))
     go p x r h false e = refl
 

@@ -35,7 +35,7 @@ use Rattle.invariant.proofs.Valid.{valid-reached}
 use Rattle.invariant.proofs.Allowed.{Allowed, allowed, may-begin, may-step, may-release}
 use Rattle.invariant.proofs.Edges.{Edge}
 use Rattle.invariant.proofs.Steps.{call-edge}
-use Rattle.invariant.proofs.Calls.{outcomeOf, call-moves, call-turned}
+use Rattle.invariant.proofs.Calls.{outcomeOf, call-moves, call-turned-down}
 use Rattle.guarantee.specs.Sequential.{SeqClient, Sequential, seqClient, member, without, seqRefusal, Rule, turns-down, begins, releases, steps}
 use Rattle.guarantee.proofs.TurnedDown.{moved}
 use Rattle.guarantee.proofs.SimulationRelation.{times, not-member, is-member, without-times, without-length, SimulationRelation, open-many, open-grants}
@@ -203,4 +203,4 @@ module _ {p : Pool} {q : Sequential} (r : Reached p) (related : SimulationRelati
     where
       go : Dec (refusal p x ≡ 0) → Followed q x (callOf p x)
       go (yes e) = rw (call-moves p x r e) (made x e)
-      go (no z) = rw (call-turned p x (refusal p x) refl z) (turned-follows x (refusal p x) (sym (refusal-alike x)) z)
+      go (no z) = rw (call-turned-down p x (refusal p x) refl z) (turned-follows x (refusal p x) (sym (refusal-alike x)) z)

@@ -31,14 +31,14 @@ use Rattle.invariant.proofs.After.{pins-kept, slot-kept}
 use Rattle.invariant.proofs.Writes.{keepsTable, lookup-kept}
 use Rattle.invariant.proofs.Searches.{pins-named}
 use Rattle.invariant.proofs.Table.{suc-not, lookup-mapped}
-use Rattle.invariant.proofs.Sums.{sum-zero, sum-has, some-one}
+use Rattle.invariant.proofs.Sums.{sum-zero, sum-has, sum-some-test}
 use Rattle.invariant.proofs.Calls.{reached-calls}
 use Rattle.guarantee.specs.Runs.{events, At}
 use Rattle.guarantee.specs.Claims.{GrantedWithin, Claim-limits}
 use Rattle.guarantee.proofs.SetupDone.{setup-done}
 use Rattle.guarantee.proofs.TurnedDown.{turned, one-move, turned-or-move}
-use Rattle.guarantee.proofs.AloneSteps.{AloneAt, StepIs, begun-is, begun-alone, answer-is, after-step, alone-next, move1, move1-found, move2, move3, move4, move5, move6, move7, move8, move8-next}
-use Rattle.guarantee.proofs.AloneSteps.{move9, move18}
+use Rattle.guarantee.proofs.AloneSteps.{AloneAt, StepIs, begun-is, begun-alone, answer-is, after-step, alone-next, move1, move1-found, move2, move3}
+use Rattle.guarantee.proofs.AloneSteps.{move4, move5, move6, move7, move8, move8-next, move9, move18}
 
 -- ---- the pool after a step
 
@@ -142,7 +142,7 @@ admission8 (suc d) p b g i on a h =
 
 -- some slot is empty where the empty slots are not none
 pub some-empty : (p : Pool) → sumTo (λ i. one (eqb (slot p i) none)) (p .size) ≢ 0 → (i : ℕ) × (i < p .size) × (slot p i ≡ none)
-some-empty p z = let r = some-one (λ i. eqb (slot p i) none) (p .size) z in (r .0, r .1, eqb-true _ none (r .2))
+some-empty p z = let r = sum-some-test (λ i. eqb (slot p i) none) (p .size) z in (r .0, r .1, eqb-true _ none (r .2))
 
 admission7 : (p : Pool) (b g n : ℕ) → p .size ≡ n → AloneAt p b g 7 → lookup p g ≡ none → GrantedWithin p b (n + 3)
 unfolding slotsAfter
@@ -189,7 +189,8 @@ unfolding apply freeAfter
 admission5 p b g n sz on a f =
     let w = move5 p b g on f in
     within-more p b (n + 5) (suc (n + 4)) (omega arith) (within-next p b (n + 4)
-    (admission6 _ b g n (next-is on w (λ q _. q .size ≡ n) sz) (alone-next w 6 on refl refl) (absent-next on w tt a) (next-is on w (λ q k. q .free ≡ k .seen) refl)))
+    (admission6 _ b g n (next-is on w (λ q _. q .size ≡ n) sz) (alone-next w 6 on refl refl) (absent-next on w tt a)
+    (next-is on w (λ q k. q .free ≡ k .seen) refl)))
 
 admission4 : (p : Pool) (b g n : ℕ) → p .size ≡ n → AloneAt p b g 4 → lookup p g ≡ none → p .free ≢ 0 → GrantedWithin p b (n + 6)
 unfolding apply freeAfter

@@ -26,7 +26,7 @@ use Rattle.invariant.proofs.Effects.{OwnOk, own-forgotten, own-stays, own-taken
 use Rattle.invariant.proofs.Next.{slot-now, slot-or-replaced}
 use Rattle.invariant.proofs.Allowed.{allowed, only-step}
 use Rattle.invariant.proofs.Calls.{reached-call}
-use Rattle.guarantee.specs.Runs.{happens, events, At}
+use Rattle.guarantee.specs.Runs.{eventOf, events, At}
 use Rattle.guarantee.specs.Claims.{Evicts, Replaces, Takes, TakenOutOnce}
 use Rattle.guarantee.proofs.Along.{at-some}
 use Rattle.guarantee.proofs.TurnedDown.{TurnedOrMove, turned, one-move, turned-or-move}
@@ -48,20 +48,21 @@ module _ (p : Pool) (r : Reached p) (f : ℕ) (z : f ≢ none) (unowned : (c : �
       by (own-taken q _ _ _) = s q
 
   -- then a move puts it into no slot, so it is out if every slot that named it does no more
-  out-move : (c : ℕ) (m : Move) → c < clientCount p → Edge p c m → m .next .own ≢ f → ((i : ℕ) → slot p i ≡ f → slot (apply p c m) i ≢ f) → OutOfSlot (apply p c m) f
+  out-move : (c : ℕ) (m : Move) → c < clientCount p → Edge p c m → m .next .own ≢ f → ((i : ℕ) → slot p i ≡ f → slot (apply p c m) i ≢ f)
+      → OutOfSlot (apply p c m) f
   out-move c m here w u s =
       record {
         no-slot = λ i e. elim (slot-now (effect p c here r w) i) [ inl q ↦ s i (sym q ∙ e) e | inr q ↦ unowned c (sym (q .0) ∙ e) ];
         no-own = all-clients p c m (r .shape) (λ _ k. k .own ≢ f) here (λ d _. unowned d) u;
       }
 
-out-call : (p : Pool) (x : Call) (f : ℕ) → Reached p → f ≢ none → OutOfSlot p f → OutOfSlot (callOf p x .pool) f ⊎ Takes f (happens p x)
+out-call : (p : Pool) (x : Call) (f : ℕ) → Reached p → f ≢ none → OutOfSlot p f → OutOfSlot (callOf p x .pool) f ⊎ Takes f (eventOf p x)
 out-call p x f r z o = go (turned-or-move p x)
   where
     c : ℕ
     c = caller x
 
-    go : TurnedOrMove p x (callOf p x) → OutOfSlot (callOf p x .pool) f ⊎ Takes f (happens p x)
+    go : TurnedOrMove p x (callOf p x) → OutOfSlot (callOf p x .pool) f ⊎ Takes f (eventOf p x)
     go (turned _ _ q) = inl (subst (λ (y : Outcome). OutOfSlot (y .pool) f) (sym q) o)
     go (one-move e _ q) = by (ℕ-discrete (client p c .stage) 4) (ℕ-discrete (moveOf p x .next .own) f)
       where
@@ -70,9 +71,10 @@ out-call p x f r z o = go (turned-or-move p x)
 
         stays : moveOf p x .next .own ≢ f → OutOfSlot (callOf p x .pool) f
         stays u =
-            subst (λ (y : Outcome). OutOfSlot (y .pool) f) (sym q) (out-move p r f z (o .no-own) c (moveOf p x) (w .0) (w .1) u (λ i s. absurd (o .no-slot i s)))
+            subst (λ (y : Outcome). OutOfSlot (y .pool) f) (sym q)
+            (out-move p r f z (o .no-own) c (moveOf p x) (w .0) (w .1) u (λ i s. absurd (o .no-slot i s)))
 
-        by : Dec (client p c .stage ≡ 4) → Dec (moveOf p x .next .own ≡ f) → OutOfSlot (callOf p x .pool) f ⊎ Takes f (happens p x)
+        by : Dec (client p c .stage ≡ 4) → Dec (moveOf p x .next .own ≡ f) → OutOfSlot (callOf p x .pool) f ⊎ Takes f (eventOf p x)
         by (no s) _ = inl (stays (not-own p r f z (o .no-own) c (moveOf p x) (w .0) (w .1) s))
         by (yes s) (no u) = inl (stays u)
         by (yes s) (yes u) =
@@ -84,10 +86,11 @@ out-call p x f r z o = go (turned-or-move p x)
 
 -- ---- a stage 15 that replaces it makes it so
 
-replaced-out : (p : Pool) (x : Call) (f : ℕ) → Reached p → f ≢ none → Replaces f (happens p x) → OutOfSlot (callOf p x .pool) f
+replaced-out : (p : Pool) (x : Call) (f : ℕ) → Reached p → f ≢ none → Replaces f (eventOf p x) → OutOfSlot (callOf p x .pool) f
 unfolding caller
 replaced-out p x f r z h =
-    subst (λ (y : Call). slot (callOf p y .pool) i ≢ f → OutOfSlot (callOf p y .pool) f) (sym (h .step-of .0)) (go (turned-or-move p (Step c))) (h .names-no-more)
+    subst (λ (y : Call). slot (callOf p y .pool) i ≢ f → OutOfSlot (callOf p y .pool) f) (sym (h .step-of .0))
+    (go (turned-or-move p (Step c))) (h .names-no-more)
   where
     c : ℕ
     c = h .client-of
@@ -154,6 +157,10 @@ taken-out-once p calls r f k m n e a b = go (decLt m n) (decLt n m)
     z = evicts-frame p calls f r k e
 
     go : Dec (m < n) → Dec (n < m) → m ≡ n
-    go (yes l) _ = let t = taken-between p calls f r z m n l (a .replaces) (b .replaces) in absurd (b .not-anew (t .0) (omega (arith, a .later, t .1)) (t .2) (t .3))
-    go (no _) (yes l) = let t = taken-between p calls f r z n m l (b .replaces) (a .replaces) in absurd (a .not-anew (t .0) (omega (arith, b .later, t .1)) (t .2) (t .3))
+    go (yes l) _ =
+        let t = taken-between p calls f r z m n l (a .replaces) (b .replaces) in
+        absurd (b .not-anew (t .0) (omega (arith, a .later, t .1)) (t .2) (t .3))
+    go (no _) (yes l) =
+        let t = taken-between p calls f r z n m l (b .replaces) (a .replaces) in
+        absurd (a .not-anew (t .0) (omega (arith, b .later, t .1)) (t .2) (t .3))
     go (no x) (no y) = omega arith

@@ -19,9 +19,10 @@ use Rattle.invariant.proofs.Reached.{Shape, Reached}
 use Rattle.invariant.proofs.After.{client-same, client-other}
 use Rattle.invariant.proofs.Allowed.{Allowed, allowed, may-step}
 use Rattle.invariant.proofs.Calls.{reached-call}
-use Rattle.guarantee.specs.Runs.{happens, events, At, Begins}
+use Rattle.guarantee.specs.Runs.{eventOf, events, At, Begins}
 use Rattle.guarantee.specs.Claims.{AnswersTo, TurnedDown}
-use Rattle.guarantee.proofs.TurnedDown.{same-answer, same-stage, other-answer, other-call, moved, TurnedOrMove, turned, one-move, turned-or-move, turned-down-not-15, is-done, is-stuck, released}
+use Rattle.guarantee.proofs.TurnedDown.{same-answer, same-stage, other-answer, other-call, moved, TurnedOrMove, turned, one-move, turned-or-move}
+use Rattle.guarantee.proofs.TurnedDown.{turned-down-not-15, is-done, is-stuck, done-or-stuck}
 
 refused-same : {m n : ℕ} → Refused m ≡ Refused n → m ≡ n
 unfolding refusalOf
@@ -30,7 +31,7 @@ refused-same e = ap refusalOf e
 -- ---- the client after a call
 
 pub data ClientAfter (p : Pool) (x : Call) (c : ℕ) : Type 0 where
-  same : client (callOf p x .pool) c ≡ client p c → (caller x ≡ c → TurnedDown (happens p x)) → ClientAfter p x c
+  same : client (callOf p x .pool) c ≡ client p c → (caller x ≡ c → TurnedDown (eventOf p x)) → ClientAfter p x c
   mine : caller x ≡ c → Allowed p x → callOf p x ≡ moved p x → client (callOf p x .pool) c ≡ moveOf p x .next → ClientAfter p x c
 
 pub client-after : (p : Pool) (x : Call) (c : ℕ) → Shape p → ClientAfter p x c
@@ -46,7 +47,7 @@ client-after p x c s = go (turned-or-move p x) (ℕ-discrete c (caller x))
 -- ---- a resting client: it rests on, or its begin is done; its steps are turned down
 
 abbrev RestsOrBegins : Pool → Call → ℕ → Type 0
-RestsOrBegins p x c = ((client (callOf p x .pool) c .stage ≡ 0) × (x ≡ Step c → TurnedDown (happens p x))) ⊎ Begins c (happens p x)
+RestsOrBegins p x c = ((client (callOf p x .pool) c .stage ≡ 0) × (x ≡ Step c → TurnedDown (eventOf p x))) ⊎ Begins c (eventOf p x)
 
 rests-or-begins : (p : Pool) (x : Call) (c : ℕ) → Shape p → client p c .stage ≡ 0 → RestsOrBegins p x c
 unfolding caller moveOf
@@ -57,7 +58,7 @@ rests-or-begins p x c s z = go x (client-after p x c s)
     go (Begin d g) (mine e a o n) = inr (g, ap (λ (i : ℕ). Begin i g) e, same-answer o)
     go (Step d) (mine e a o n) = absurd (may-step p (client p d) d (a .may) (ap (λ (i : ℕ). client p i .stage) e ∙ z))
     go (Release d g) (mine e a o n) =
-        inl (same-stage n ∙ (elim (released p d g) [ is-done _ q ↦ q ∙ zd | is-stuck q ↦ ap (λ (m : Move). m .next .stage) q ∙ zd ]), λ q. other-call q tt)
+        inl (same-stage n ∙ (elim (done-or-stuck p d g) [ is-done _ q ↦ q ∙ zd | is-stuck q ↦ ap (λ (m : Move). m .next .stage) q ∙ zd ]), λ q. other-call q tt)
       where
         zd : client p d .stage ≡ 0
         zd = ap (λ (i : ℕ). client p i .stage) e ∙ z
@@ -70,7 +71,7 @@ rest-unanswered p [] r c n z nb a = a
 rest-unanswered p (x ∷ calls) r c zero z nb a =
     elim (rests-or-begins p x c (r .shape) z) [ inl w ↦ not-both (w .1 (a .0)) (a .1) | inr b ↦ other-call (sym (b .1) ∙ a .0) tt ]
   where
-    not-both : TurnedDown (happens p x) → ((f : ℕ) × (callOf p x .answer ≡ Granted f)) ⊎ (callOf p x .answer ≡ Refused 15) → ⊥
+    not-both : TurnedDown (eventOf p x) → ((f : ℕ) × (callOf p x .answer ≡ Granted f)) ⊎ (callOf p x .answer ≡ Refused 15) → ⊥
     not-both t (inl g) = other-answer (sym (t .1) ∙ g .1) tt
     not-both t (inr g) = t .2 (refused-same (sym (t .1) ∙ g))
 rest-unanswered p (x ∷ calls) r c (suc n) z nb a =

@@ -1,6 +1,7 @@
 -- A client that runs alone from its begin. `RunsAlone` says what holds at each stage of such a run. A stage that only a granted request reaches carries
--- the proof that the condition for refusal 15 (`MustRefuse`) does not hold (`MustGrant`); the others carry that slots, look-up and pins are still those of the
--- begin (`SameAsBegin`). `result`: one step leads on along the path, or is granted where `MustRefuse` does not hold, or is refused by 15 where it does. Assumes nothing.
+-- the proof that the condition for refusal 15 (`MustRefuse`) does not hold (`MustGrant`); the others carry that slots, look-up and pins are still those of
+-- the begin (`SameAsBegin`). `result`: one step leads on in the run, or is granted where `MustRefuse` does not hold, or is refused by 15 where it does.
+-- Assumes nothing.
 use mathlib.Core.Path.{_≡_, refl, sym, ap, _∙_}
 use mathlib.Core.Logic.{_≢_, _⊎_, inl, inr}
 use mathlib.Core.Bool.{false, not, true≢false}
@@ -34,9 +35,9 @@ use Rattle.invariant.proofs.NeverFails.{finds-some}
 use Rattle.invariant.proofs.StageTests.{T-false}
 use Rattle.invariant.proofs.Steps.{around-ok}
 use Rattle.guarantee.specs.Claims.{AllHeld}
-use Rattle.guarantee.proofs.AloneSteps.{AloneAt, StepIs, answer-is, alone-next, move1, move1-found, move2, move3, move4, move5, move5-none, move6, move7, move8, move8-next, move9, move10}
-use Rattle.guarantee.proofs.AloneSteps.{move11}
-use Rattle.guarantee.proofs.AloneSteps.{move12-evicted, move12-unpinned, move12-busy, move12-refused, move13-zero, move13-more, move14, move15, move16, move17-removes, move17-keeps, move18}
+use Rattle.guarantee.proofs.AloneSteps.{AloneAt, StepIs, answer-is, alone-next, move1, move1-found, move2, move3, move4, move5, move5-none, move6, move7}
+use Rattle.guarantee.proofs.AloneSteps.{move8, move8-next, move9, move10, move11, move12-evicted, move12-unpinned, move12-busy, move12-refused}
+use Rattle.guarantee.proofs.AloneSteps.{move13-zero, move13-more, move14, move15, move16, move17-removes, move17-keeps, move18}
 use Rattle.guarantee.proofs.SinceBegin.{SameAsBegin, counters-slot, counters-pins, same-as-begin-next, absent-removed}
 use Rattle.guarantee.proofs.Limits.{next-is, absent-next, some-empty, found-not-evicted}
 use Rattle.guarantee.proofs.Frames.{held-pinned}
@@ -56,7 +57,7 @@ module _ (p₀ : Pool) (b g : ℕ) (reached : Reached p₀) (rest : (c : ℕ) �
   abbrev MustGrant : Type 0
   MustGrant = MustRefuse → ⊥
 
-  -- at stage i, the page not found; before and after it is settled that the request will be granted
+  -- at stage i, the page not found; before and after it is decided that the request will be granted
   pub record Undecided (p : Pool) (i : ℕ) : Type 0 where
     pub alone-at : AloneAt p b g i
     pub since-begin : SameAsBegin p₀ p g
@@ -103,7 +104,7 @@ module _ (p₀ : Pool) (b g : ℕ) (reached : Reached p₀) (rest : (c : ℕ) �
     abbrev k : Client
     k = client p b
 
-    -- the next pool is early, late
+    -- the next pool is undecided, decided
     still-undecided : {i : ℕ} {m : Move} (j : ℕ) → Undecided p i → StepIs p b m → m .next .stage ≡ j → m .next .page ≡ k .page → T (countersOnly (m .write))
         → Undecided (callOf p (Step b) .pool) j
     still-undecided {m = m} j e w s q t =
@@ -127,7 +128,9 @@ module _ (p₀ : Pool) (b g : ℕ) (reached : Reached p₀) (rest : (c : ℕ) �
     unfolding resident
     result1 o h same =
         elim (ℕ-discrete (lookup p g) none) [
-          | yes e ↦ (let w = move1 p b g o e in goes-on 4 (answer-is w) (at4 (still-undecided 4 (record { alone-at = o; since-begin = h; absent = e }) w refl refl tt)))
+          | yes e ↦
+              let w = move1 p b g o e in
+              goes-on 4 (answer-is w) (at4 (still-undecided 4 (record { alone-at = o; since-begin = h; absent = e }) w refl refl tt))
           | no z ↦
               let w = move1-found p b g o z in
               let live = found-not-evicted p₀ reached rest g (λ e. z (h .lookup ∙ e)) in
@@ -175,7 +178,8 @@ module _ (p₀ : Pool) (b g : ℕ) (reached : Reached p₀) (rest : (c : ℕ) �
               let w = move5 p b g o f in
               let i = some-empty p (λ q. f (omega (arith, o .reached .evictions .empties))) in
               goes-on 6 (answer-is w) (at6
-              (decide 6 o (e .absent) (λ h. h .1 (i .0) (omega (arith, i .1, e .since-begin .size)) .0 (sym (e .since-begin .slots (i .0)) ∙ i .2)) w refl refl tt)
+              (decide 6 o (e .absent)
+              (λ h. h .1 (i .0) (omega (arith, i .1, e .since-begin .size)) .0 (sym (e .since-begin .slots (i .0)) ∙ i .2)) w refl refl tt)
               (next-is o w (λ q x. q .free ≡ x .seen) refl))
         ]
 
@@ -212,7 +216,9 @@ module _ (p₀ : Pool) (b g : ℕ) (reached : Reached p₀) (rest : (c : ℕ) �
     result16 e = let w = move16 p b g (e .alone-at) in goes-on 17 (answer-is w) (at17 (still-decided 17 e w refl refl tt))
 
     result18 : Decided p 18 → StepResult (callOf p (Step b))
-    result18 e = let w = move18 p b g (e .alone-at) (e .absent) in granted (k .own) (answer-is w) (next-is (e .alone-at) w (λ _ x. x .stage ≡ 0) refl) (e .must-grant)
+    result18 e =
+        let w = move18 p b g (e .alone-at) (e .absent) in
+        granted (k .own) (answer-is w) (next-is (e .alone-at) w (λ _ x. x .stage ≡ 0) refl) (e .must-grant)
 
     -- 17 may empty an entry of the table
     result17 : Decided p 17 → StepResult (callOf p (Step b))
@@ -290,8 +296,11 @@ module _ (p₀ : Pool) (b g : ℕ) (reached : Reached p₀) (rest : (c : ℕ) �
     all-held : Undecided p 12 → Swept p → p .size ≤ k .busy + 1 → pinned 1 ≤ pins p (slot p (k .place)) → AllHeld p₀
     all-held e s n h j l =
         let r : j < p .size = omega (arith, e .since-begin .size) in
-        let z : slot p₀ j ≢ none = λ q. no-empty (e .alone-at) tt (s .none-free) j r (e .since-begin .slots j ∙ q) in
-        (z, pins-held p₀ reached rest j z (omega (arith, pins-same (e .since-begin) j, grown s h j r (before-all (k .place) (k .busy) (p .size) j (s .inside) r n))))
+        let z : slot p₀ j ≢ none = λ q. no-empty (e .alone-at) tt (s .none-free) j r (e .since-begin .slots j ∙ q) in (
+          z,
+          pins-held p₀ reached rest j z
+              (omega (arith, pins-same (e .since-begin) j, grown s h j r (before-all (k .place) (k .busy) (p .size) j (s .inside) r n))),
+        )
 
     absent₀ : Undecided p 12 → resident p₀ g ≡ false
     unfolding resident

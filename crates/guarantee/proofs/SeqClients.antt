@@ -81,12 +81,14 @@ pub record IsGranted (k n : Client) (x y : ℕ → ℕ) : Type 0 where
   pub more-grants : (g : ℕ) → y g ≡ x g + one (eqb (k .page) g)
 
 -- at rest, with these grants
-pub related-resting : {n : Client} {y : ℕ → ℕ} {l : List ℕ} → n .stage ≡ 0 → length l ≡ n .held → ((g : ℕ) → times g l ≡ y g) → ClientRelation n y (seqResting l)
+pub related-resting : {n : Client} {y : ℕ → ℕ} {l : List ℕ} → n .stage ≡ 0 → length l ≡ n .held → ((g : ℕ) → times g l ≡ y g)
+    → ClientRelation n y (seqResting l)
 related-resting s a e = record { stage = sym s; wants = λ z. absurd (z s); many = rw s (omega (arith, a)); grants = λ g. rw s (omega (arith, e g)) }
 
 module _ {k n : Client} {x y : ℕ → ℕ} {t : SeqClient} (old : ClientRelation k x t) where
   -- at stage j, with the grants it had
-  pub related-working : {j : ℕ} → WorksOn k n x y j → pinsFound j ≡ pinsFound (k .stage) → ClientRelation n y (record { stage = j; wants = t .wants; grants = t .grants })
+  pub related-working : {j : ℕ} → WorksOn k n x y j → pinsFound j ≡ pinsFound (k .stage)
+      → ClientRelation n y (record { stage = j; wants = t .wants; grants = t .grants })
   related-working h pf =
       record {
         stage = sym (h .at-stage);

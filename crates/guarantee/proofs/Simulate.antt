@@ -30,10 +30,12 @@ use Rattle.invariant.proofs.Facts.{own-pins, grant-pinned}
 use Rattle.invariant.proofs.Grants.{grantsOf, GrantsOk, grants-stay, grant-opens, grantsOf-other, grantsOf-keeps, grantsOf-opens}
 use Rattle.invariant.proofs.Table.{suc-not, some-suc}
 use Rattle.invariant.proofs.Searches.{pins-named}
-use Rattle.guarantee.specs.Sequential.{SeqSlot, empty, stores, SeqClient, Sequential, seqSlot, seqResting, seqClient, member, Absent, Unused, adding, admitting}
-use Rattle.guarantee.specs.Sequential.{answering, StepRule, adds, admits, drops, answers, continues, refuses}
-use Rattle.guarantee.proofs.SimulationRelation.{viewFrame, view-unmapped, view-mapped, not-member, ClientRelation, open-many, open-grants, client-relation-as, SimulationRelation}
-use Rattle.guarantee.proofs.SeqClients.{Observable, observable, workingMove, grantedMove, refusedMove, Continuing, WorksOn, IsGranted, related-resting, related-working, related-pinned, related-answered, related-admitted}
+use Rattle.guarantee.specs.Sequential.{SeqSlot, empty, stores, SeqClient, Sequential, seqSlot, seqResting, seqClient, member, Absent, Unused, adding}
+use Rattle.guarantee.specs.Sequential.{admitting, answering, StepRule, adds, admits, drops, answers, continues, refuses}
+use Rattle.guarantee.proofs.SimulationRelation.{viewFrame, view-unmapped, view-mapped, not-member, ClientRelation, open-many, open-grants}
+use Rattle.guarantee.proofs.SimulationRelation.{client-relation-as, SimulationRelation}
+use Rattle.guarantee.proofs.SeqClients.{Observable, observable, workingMove, grantedMove, refusedMove, Continuing, WorksOn, IsGranted, related-resting}
+use Rattle.guarantee.proofs.SeqClients.{related-working, related-pinned, related-answered, related-admitted}
 use Rattle.guarantee.proofs.Frames.{same-frame, found-mapped, found-has-pin}
 use Rattle.guarantee.proofs.Pages.{page-there, page-resident}
 use Rattle.guarantee.proofs.PageCount.{occupancy, pageCount-set, gained, lost, PageCountChange}
@@ -163,7 +165,8 @@ module _ {p : Pool} {c : ℕ} {q : Sequential} (acting : Acting p c q) where
           next = record { stage = j; wants = t .wants; grants = t .wants ∷ t .grants };
           rule =
               rw (ap (λ (x : Observable). x .answer) o)
-              (adds {j = j} {f = k .found} (rw (client-related .stage ∙ e) h) (rw (client-related .wants busy) (page-there r related (know .0) live (know .1 live))));
+              (adds {j = j} {f = k .found} (rw (client-related .stage ∙ e) h)
+              (rw (client-related .wants busy) (page-there r related (know .0) live (know .1 live))));
           page-count = rw (ap (λ (x : Observable). x .counted) o) refl;
           related =
               same-slots m _ (keeping m j Nothing o) (related-pinned client-related (works-on m j Nothing o busy) pj (rw e pi))
@@ -179,9 +182,12 @@ module _ {p : Pool} {c : ℕ} {q : Sequential} (acting : Acting p c q) where
           next = seqResting (t .grants);
           rule =
               rw (ap (λ (x : Observable). x .answer) o)
-              (answers {f = k .found} (rw (client-related .stage ∙ e) h) (rw (client-related .wants busy) (page-there r related (know .0) live (know .1 live))));
+              (answers {f = k .found} (rw (client-related .stage ∙ e) h)
+              (rw (client-related .wants busy) (page-there r related (know .0) live (know .1 live))));
           page-count = rw (ap (λ (x : Observable). x .counted) o, no-gain, no-loss) refl;
-          related = same-slots m _ (opening m (k .found) u o room) (related-answered client-related (is-granted m (k .found) u o room) (rw e pi)) (counters-view p c m r s);
+          related =
+              same-slots m _ (opening m (k .found) u o room)
+              (related-answered client-related (is-granted m (k .found) u o room) (rw e pi)) (counters-view p c m r s);
         }
 
     -- the wanted page's frames are evicted, and so is the frame of the entry that the own frame gets

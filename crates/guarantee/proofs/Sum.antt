@@ -95,7 +95,7 @@ residents-counted p q r related =
     ∙ (sum-same (λ i. one (P (entryFrame p i))) _ (total p) (λ i _. entry-full i (eqb (pins p (entryFrame p i)) evicted) refl)
     ∙ (sym (counted (entryFrame p) (total p) (r .mapping .entries-distinct) in-entry)
     ∙ (counted (slot p) (p .size) (r .places .slots-distinct) in-slot
-    ∙ sym shown)))
+    ∙ sym viewed)))
   where
     P : ℕ → Bool
     P f = occupied (viewFrame p f)
@@ -128,8 +128,9 @@ residents-counted p q r related =
         let l : pins p (entryFrame p i) ≢ evicted = eqb-false _ _ e in
         ap occupancy (sym (view-mapped p (entryFrame p i) l (mapped-is p (entryFrame p i) (r .mapping .entries-distinct) (pins-named p (r .shape) _ l) i refl)))
 
-    shown : pageCount (q .slots) ≡ sumTo (λ i. one (P (slot p i))) (p .size)
-    shown = pageCount-sum (q .slots) ∙ (ap (sumTo (λ i. occupancy (seqSlot q i))) (related .size) ∙ sum-same _ _ (p .size) (λ i _. ap occupancy (related .slots i)))
+    viewed : pageCount (q .slots) ≡ sumTo (λ i. one (P (slot p i))) (p .size)
+    viewed =
+        pageCount-sum (q .slots) ∙ (ap (sumTo (λ i. occupancy (seqSlot q i))) (related .size) ∙ sum-same _ _ (p .size) (λ i _. ap occupancy (related .slots i)))
 
 -- ---- a count that is below its largest value was raised by one
 
@@ -164,7 +165,8 @@ unfolding tallyOf
 below-first t [] h = h
 below-first t (e ∷ es) h = raised (e .counted) t (below-first (tallied (e .counted) t) es h) .before
 
-sum-run : {p : Pool} {q : Sequential} (calls : List Call) (t : Tally) → Reached p → SimulationRelation p q → pageCount (q .slots) + t .drops ≡ t .admitted + t .revived
+sum-run : {p : Pool} {q : Sequential} (calls : List Call) (t : Tally) → Reached p → SimulationRelation p q
+    → pageCount (q .slots) + t .drops ≡ t .admitted + t .revived
     → let n = tallyOf t (events p calls) in BelowLargest n → residents (poolAfter p calls) + n .drops ≡ n .admitted + n .revived
 unfolding events tallyOf poolAfter
 sum-run {p} {q} [] t r related e h = omega (arith, residents-counted p q r related)

@@ -13,7 +13,7 @@ use Rattle.pool.specs.Stages.{around}
 use Rattle.pool.specs.declared.Pool.{Pool}
 use Rattle.laws.specs.Scans.{some-yes}
 use Rattle.invariant.proofs.Reached.{grantsOn, claims, claimed, Balance, unclaimed, counted, orphan, Reached}
-use Rattle.invariant.proofs.Sums.{sum-some, some-one}
+use Rattle.invariant.proofs.Sums.{sum-some, sum-some-test}
 use Rattle.invariant.proofs.Facts.{none-own}
 use Rattle.guarantee.proofs.Limits.{around-is}
 
@@ -35,7 +35,7 @@ module _ (p : Pool) (r : Reached p) where
       go (orphan o) = absurd (o .no-slot i refl)
       go (counted x) =
           let c = sum-some (λ c. claims p c f) (clientCount p) (λ q. omega arith) in
-          let g = some-one (λ j. eqb (grantFrame p (c .0) j) f) (client p (c .0) .held) (λ q. c .2 (only-grants (c .0) ∙ q)) in
+          let g = sum-some-test (λ j. eqb (grantFrame p (c .0) j) f) (client p (c .0) .held) (λ q. c .2 (only-grants (c .0) ∙ q)) in
           some-yes (holds p f) (clientCount p) (c .0) (c .1) (some-yes (λ j. eqb (grantFrame p (c .0) j) f) (client p (c .0) .held) (g .0) (g .1) (g .2))
 
 -- ---- slot j is one of the r slots before slot i, of s

@@ -1,5 +1,5 @@
--- A call of any pool, a handed one too, is turned down and changes nothing, or is one move of its client (`turned-or-move`). The moves that are refused are
--- refusal 15, which is claimed to be `refused15`, and stuck ones, which are answered by 8 and change nothing. Assumes nothing.
+-- A call of any pool, a handed one too, is turned down and changes nothing, or is one move of its client (`turned-or-move`). The moves that are refused
+-- are refusal 15, which is claimed to be `refused15`, and stuck ones, which are answered by 8 and change nothing. Assumes nothing.
 use mathlib.Core.Path.{_≡_, refl, sym, ap, _∙_}
 use mathlib.Core.Logic.{_≢_, _⊎_, inl, inr}
 use mathlib.Core.Bool.{not}
@@ -27,7 +27,7 @@ use Rattle.invariant.proofs.StageTests.{differ}
 use Rattle.invariant.proofs.Allowed.{refusal-low}
 use Rattle.invariant.proofs.Calls.{outcomeOf}
 use Rattle.guarantee.specs.Claims.{Claim-turned-down, Claim-refused}
-use Rattle.guarantee.proofs.Stages.{Fits, goes, grants, refuses, sticks, fits}
+use Rattle.guarantee.proofs.Stages.{StageAnswer, goes, grants, refuses, sticks, stage-answer}
 
 -- ---- answers and calls of different kinds
 
@@ -88,13 +88,13 @@ turned-down-not-15 p x n (inr r) z = omega arith
 -- ---- a move that is refused
 
 -- a release is done, or stuck
-pub data Released (k : Client) (g : ℕ) (m : Move) : Type 0 where
-  is-done : m .answer ≡ Done g → m .next .stage ≡ k .stage → Released k g m
-  is-stuck : m ≡ stuck k → Released k g m
+pub data DoneOrStuck (k : Client) (g : ℕ) (m : Move) : Type 0 where
+  is-done : m .answer ≡ Done g → m .next .stage ≡ k .stage → DoneOrStuck k g m
+  is-stuck : m ≡ stuck k → DoneOrStuck k g m
 
-pub released : (p : Pool) (c g : ℕ) → Released (client p c) g (moveOf p (Release c g))
+pub done-or-stuck : (p : Pool) (c g : ℕ) → DoneOrStuck (client p c) g (moveOf p (Release c g))
 unfolding moveOf releaseMove
-released p c g = by-test (Released (client p c) g) (λ _. is-stuck refl) (λ _. is-done refl refl)
+done-or-stuck p c g = by-test (DoneOrStuck (client p c) g) (λ _. is-stuck refl) (λ _. is-done refl refl)
 
 abbrev RefusedBy : Pool → Call → ℕ → Type 0
 RefusedBy p x n = (n ≡ 8) ⊎ ((c : ℕ) × (x ≡ Step c) × (moveOf p x ≡ refused15 (client p c)))
@@ -102,16 +102,16 @@ RefusedBy p x n = (n ≡ 8) ⊎ ((c : ℕ) × (x ≡ Step c) × (moveOf p x ≡ 
 refused-by : (p : Pool) (x : Call) (n : ℕ) → moveOf p x .answer ≡ Refused n → RefusedBy p x n
 unfolding moveOf refusalOf
 refused-by p (Begin c g) n a = other-answer a tt
-refused-by p (Step c) n a = go (fits p (client p c))
+refused-by p (Step c) n a = go (stage-answer p (client p c))
   where
-    go : Fits (client p c) (moveOf p (Step c)) → RefusedBy p (Step c) n
+    go : StageAnswer (client p c) (moveOf p (Step c)) → RefusedBy p (Step c) n
     go (goes j _ e _) = other-answer (sym e ∙ a) tt
     go (grants f _ _ e _) = other-answer (sym e ∙ a) tt
     go (refuses e) = inr (c, refl, e)
     go (sticks e) = inl (ap refusalOf (sym a ∙ ap (λ (m : Move). m .answer) e))
-refused-by p (Release c g) n a = go (released p c g)
+refused-by p (Release c g) n a = go (done-or-stuck p c g)
   where
-    go : Released (client p c) g (moveOf p (Release c g)) → RefusedBy p (Release c g) n
+    go : DoneOrStuck (client p c) g (moveOf p (Release c g)) → RefusedBy p (Release c g) n
     go (is-done e _) = other-answer (sym e ∙ a) tt
     go (is-stuck e) = inl (ap refusalOf (sym a ∙ ap (λ (m : Move). m .answer) e))
 

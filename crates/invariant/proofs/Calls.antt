@@ -72,16 +72,16 @@ module _ (p : Pool) (x : Call) where
       chosen _ _ _ (both-yes _ _ (rw (ne-eqb (refusalOf (moveOf p x .answer)) 8 (never-stuck r e))) (valid-reached _ (reached-next r e)))
 
   -- one that is turned down changes nothing
-  pub call-turned : (n : ℕ) → refusal p x ≡ n → n ≢ 0 → callOf p x ≡ turnedDown n p
+  pub call-turned-down : (n : ℕ) → refusal p x ≡ n → n ≢ 0 → callOf p x ≡ turnedDown n p
   unfolding callOf
-  call-turned n e z = passed _ _ _ (ne-eqb _ _ (λ w. z (sym e ∙ w))) ∙ ap (λ (n : ℕ). turnedDown n p) e
+  call-turned-down n e z = passed _ _ _ (ne-eqb _ _ (λ w. z (sym e ∙ w))) ∙ ap (λ (n : ℕ). turnedDown n p) e
 
   pub reached-call : Reached p → Reached (callOf p x .pool)
   reached-call r = go (ℕ-discrete (refusal p x) 0)
     where
       go : Dec (refusal p x ≡ 0) → Reached (callOf p x .pool)
       go (yes e) = subst (λ (o : Outcome). Reached (o .pool)) (sym (call-moves r e)) (reached-next r e)
-      go (no e) = subst (λ (o : Outcome). Reached (o .pool)) (sym (call-turned (refusal p x) refl e)) r
+      go (no e) = subst (λ (o : Outcome). Reached (o .pool)) (sym (call-turned-down (refusal p x) refl e)) r
 
   -- 8 is no refusal of a reached pool
   pub refusal-not-8 : Reached p → refusal p x ≢ 8

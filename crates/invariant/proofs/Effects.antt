@@ -31,9 +31,9 @@ use Rattle.invariant.proofs.Table.{suc-not, lookup-mapped}
 use Rattle.invariant.proofs.Grants.{GrantsOk, grants-stay, grant-opens, grant-ends}
 use Rattle.invariant.proofs.NeverFails.{know}
 use Rattle.invariant.proofs.StageTests.{differ, imp}
-use Rattle.invariant.proofs.Facts.{raised-ok, grant-pinned, found-pinned, one-more}
-use Rattle.invariant.proofs.Edges.{CountersOnly, keep, hand, counts, free, Edge, moves-on, grants, found1, found18, forgets2, forgets22, pins2, pins19, gets3, gets21}
-use Rattle.invariant.proofs.Edges.{takes, fills, replaces, refuses, drops, removes, admits, revives, evicts20, evicts23, begins, releases}
+use Rattle.invariant.proofs.Facts.{raised-ok, grant-pinned, found-pinned, one-more-pin}
+use Rattle.invariant.proofs.Edges.{CountersOnly, keep, hand, counts, free, Edge, moves-on, grants, found1, found18, forgets2, forgets22, pins2, pins19}
+use Rattle.invariant.proofs.Edges.{gets3, gets21, takes, fills, replaces, refuses, drops, removes, admits, revives, evicts20, evicts23, begins, releases}
 
 -- the move is not stuck
 abbrev NotStuck : Move → Type 0
@@ -67,7 +67,7 @@ module _ (p : Pool) (c : ℕ) (m : Move) where
   -- the own frame is put into a slot
   pub data SlotOk : Type 0 where
     slots-stay : SlotsStay p (m .write) → SlotOk
-    puts : (i : ℕ) → m .write ≡ PutSlot i (k .own) → i < p .size → T (unplaced (k .stage)) → T (not (unplaced (m .next .stage)))
+    slot-put : (i : ℕ) → m .write ≡ PutSlot i (k .own) → i < p .size → T (unplaced (k .stage)) → T (not (unplaced (m .next .stage)))
         → k .own ≢ none → Vacant i → SlotOk
 
   -- frame f gets pins x
@@ -76,7 +76,7 @@ module _ (p : Pool) (c : ℕ) (m : Move) where
     lowers : pinned 1 ≤ pins p f → x ≡ pins p f - 1 → PinChange f x
     drops-victim : f ≡ k .victim → pins p f ≡ pinned 0 → x ≡ evicted → k .stage ≡ 14 → m .next .stage ≡ 15 → m .next .victim ≡ k .victim
         → m .next .place ≡ k .place → PinChange f x
-    drops-own : f ≡ k .own → x ≡ evicted → PinChange f x
+    own-evicted : f ≡ k .own → x ≡ evicted → PinChange f x
     takes-one : referenced p f ≡ false → x ≡ pinned 1 → PinChange f x
 
   pub data PinsOk : Type 0 where
@@ -102,7 +102,7 @@ module _ (p : Pool) (c : ℕ) (m : Move) where
 
   pub data PageOk : Type 0 where
     pages-stay : PagesStay p (m .write) → PageOk
-    paged : (f : ℕ) → referenced p f ≡ false → PagesPut p (m .write) f (m .next .page) → PageOk
+    page-put : (f : ℕ) → referenced p f ≡ false → PagesPut p (m .write) f (m .next .page) → PageOk
 
   -- with what it comes from: a client of a reached pool made the move
   pub record Effect : Type 0 where
@@ -247,7 +247,7 @@ module _ (p : Pool) (c : ℕ) (here : c < clientCount p) (r : Reached p) where
       → me .found ≢ none → pins p (me .found) ≢ evicted → Effect p c (works me j (PutPins (me .found) (pins p (me .found) + 1)))
   unfolding refusalOf
   pins-found i j e w t u z l =
-      let few : pins p (me .found) < pinned 128 = one-more p r c here (λ s. differ i 0 w (sym e ∙ s)) (rw e t) z l in
+      let few : pins p (me .found) < pinned 128 = one-more-pin p r c here (λ s. differ i 0 w (sym e ∙ s)) (rw e t) z l in
       pinning tt (me .found) _ refl (r .ranges .found-ok c z) (adds l refl (omega arith)) (own-stays refl (rw e u)) refl (grants-stay refl refl)
       (λ _ _ x. no-open x)
 
@@ -288,12 +288,13 @@ module _ (p : Pool) (c : ℕ) (here : c < clientCount p) (r : Reached p) where
   evicts-own : (j : ℕ) → me .own ≢ none → Effect p c (works (withOwn me none) j (PutPins (me .own) evicted))
   unfolding refusalOf
   evicts-own j z =
-      pinning tt (me .own) evicted refl (r .ranges .own-ok c z) (drops-own refl refl) (own-forgotten refl) refl (grants-stay refl refl)
+      pinning tt (me .own) evicted refl (r .ranges .own-ok c z) (own-evicted refl refl) (own-forgotten refl) refl (grants-stay refl refl)
       (λ _ _ x. no-open x)
 
   pub effect : {m : Move} → Edge p c m → Effect p c m
   unfolding slotsAfter pinsAfter entryPagesAfter entryFramesAfter pagesAfter freeAfter lastAfter countsAfter refusalOf
-  effect (moves-on n j w h) = client-only tt (h .counters-only) (own-stays (h .same .own) (h .stages .from-unplaced)) (found-stays (h .same .found)) refl (h .same .held)
+  effect (moves-on n j w h) =
+      client-only tt (h .counters-only) (own-stays (h .same .own) (h .stages .from-unplaced)) (found-stays (h .same .found)) refl (h .same .held)
   effect (found1 e z) = let l = looking (me .page) z in client-only tt keep (own-stays refl tt) (found-looked-up (l .0) (l .1)) refl refl
   effect (found18 e z) = let l = looking (me .page) z in client-only tt keep (own-stays refl tt) (found-looked-up (l .0) (l .1)) refl refl
   effect (forgets2 e d) = client-only tt keep (own-stays refl tt) (found-forgotten refl) refl refl
@@ -314,13 +315,14 @@ module _ (p : Pool) (c : ℕ) (here : c < clientCount p) (r : Reached p) where
         grants = grants-stay refl refl;
         opened = λ _ _ x. no-open x;
         entries = entries-stay refl refl;
-        pages = paged (freeFrame p) (f .1) refl;
+        pages = page-put (freeFrame p) (f .1) refl;
         write-ok = record { free-ok = r .ranges .free-ok; last-ok = inr (f .0); count-ok = counts-put _ 1 refl (r .shape .cap-low) };
         not-stuck = tt;
       }
-  effect (fills e s) = placing tt (me .place) refl (puts (me .place) refl (r .ranges .place-ok c) (rw e tt) tt (known 8 e) (inl s)) (own-stays refl tt) refl refl refl
+  effect (fills e s) =
+      placing tt (me .place) refl (slot-put (me .place) refl (r .ranges .place-ok c) (rw e tt) tt (known 8 e) (inl s)) (own-stays refl tt) refl refl refl
   effect (replaces e s) =
-      placing tt (me .place) refl (puts (me .place) refl (r .ranges .place-ok c) (rw e tt) tt (known 15 e .0) (inr (s, known 15 e .1 .1, tt, refl)))
+      placing tt (me .place) refl (slot-put (me .place) refl (r .ranges .place-ok c) (rw e tt) tt (known 15 e .0) (inr (s, known 15 e .1 .1, tt, refl)))
       (own-stays refl tt) refl refl refl
   effect (refuses v _) = client-only tt keep (own-forgotten refl) (found-forgotten refl) refl refl
   effect (drops e h) =
@@ -330,8 +332,8 @@ module _ (p : Pool) (c : ℕ) (here : c < clientCount p) (r : Reached p) where
   effect (removes e h) =
       let z = known 17 e .1 .0 in
       let f = lookup-found p (r .shape) (page p (me .victim)) (λ w. z (sym h ∙ w)) in
-      entering tt _ _ none refl (unmaps _ _ refl (f .inside) (f .entry-frame ∙ h) (known 17 e .1 .1)) (own-stays refl tt) (found-stays refl) (grants-stay refl refl)
-      (λ _ _ x. no-open x)
+      entering tt _ _ none refl (unmaps _ _ refl (f .inside) (f .entry-frame ∙ h) (known 17 e .1 .1)) (own-stays refl tt) (found-stays refl)
+      (grants-stay refl refl) (λ _ _ x. no-open x)
   effect (admits e l u) =
       let f = unused-found p (r .shape) u in
       gets-own 18 _ Admitted e tt (f .0) (known 18 e .0)

@@ -24,20 +24,22 @@ use Rattle.invariant.proofs.NeverFails.{know}
 use Rattle.invariant.proofs.StageTests.{T-not, never, differ, unmapsNone, examining-unplaced}
 use Rattle.invariant.proofs.Steps.{not-unmapping}
 use Rattle.invariant.proofs.Facts.{own-not-evicted, own-not-victim}
-use Rattle.invariant.proofs.Edges.{Examines, Edge, moves-on, found1, found18, forgets2, forgets22, pins2, pins19, gets3, gets21, takes, fills, replaces, refuses, drops}
-use Rattle.invariant.proofs.Edges.{removes, admits, revives, evicts20, evicts23, begins, releases}
-use Rattle.invariant.proofs.Effects.{PinChange, adds, lowers, drops-victim, drops-own, takes-one, PinsOk, pins-stay, pins-put, counters-untouched, Effect}
+use Rattle.invariant.proofs.Edges.{Examines, Edge, moves-on, found1, found18, forgets2, forgets22, pins2, pins19, gets3, gets21, takes, fills, replaces}
+use Rattle.invariant.proofs.Edges.{refuses, drops, removes, admits, revives, evicts20, evicts23, begins, releases}
+use Rattle.invariant.proofs.Effects.{PinChange, adds, lowers, drops-victim, own-evicted, takes-one, PinsOk, pins-stay, pins-put, counters-untouched}
+use Rattle.invariant.proofs.Effects.{Effect}
 use Rattle.invariant.proofs.Next.{SlotNow, Replaced, slot-now, slot-or-replaced}
 use Rattle.invariant.proofs.Mapping.{new-entry}
 
 -- how many slots are empty
-abbrev empty : Pool → ℕ
-empty p = sumTo (λ i. one (eqb (slot p i) none)) (p .size)
+abbrev emptyCount : Pool → ℕ
+emptyCount p = sumTo (λ i. one (eqb (slot p i) none)) (p .size)
 
 -- ---- what a move has to show
 
 record EvictionsCondition (p : Pool) (c : ℕ) (m : Move) : Type 0 where
-  empties : empty (apply p c m) + p .free + one (filling (client p c .stage)) ≡ empty p + freeAfter (p .free) (m .write) + one (filling (m .next .stage))
+  empties : emptyCount (apply p c m) + p .free + one (filling (client p c .stage))
+      ≡ emptyCount p + freeAfter (p .free) (m .write) + one (filling (m .next .stage))
   six-seen : m .next .stage ≡ 6 → m .next .seen ≢ 0
   examines : T (examining (m .next .stage)) → Examines p (client p c) (m .next)
   will-unmap : (f : ℕ) → f ≢ none → mapped p f ≢ 0 → mapped (apply p c m) f ≢ 0 → WillUnmap p (client p c) f → WillUnmap (apply p c m) (m .next) f
@@ -60,7 +62,7 @@ module _ {p : Pool} {c : ℕ} {m : Move} (x : Effect p c m) (s : EvictionsCondit
   at-c : client q c ≡ m .next
   at-c = client-same p c m (r .shape) here
 
-  empties-next : empty q ≡ freeAfter (p .free) (m .write) + sumTo (λ d. one (filling (client q d .stage))) (clientCount p)
+  empties-next : emptyCount q ≡ freeAfter (p .free) (m .write) + sumTo (λ d. one (filling (client q d .stage))) (clientCount p)
   empties-next =
       let n = sum-put (λ d. one (filling (client p d .stage))) (λ d. one (filling (client q d .stage))) (clientCount p) c here
       (λ d _ o. ap (λ (n : Client). one (filling (n .stage))) (client-other p c m d o)) in
@@ -103,7 +105,7 @@ module _ {p : Pool} {c : ℕ} {m : Move} (x : Effect p c m) (s : EvictionsCondit
             by (yes w) (adds _ v _) = absurd (let u = now w in let y : ⊥ = omega arith in y)
             by (yes w) (lowers l v) = absurd (let u = now w in let y : ⊥ = omega arith in y)
             by (yes w) (takes-one _ v) = absurd (let u = now w in let y : ⊥ = omega arith in y)
-            by (yes w) (drops-own v _) = absurd (n (ap (mapped p) (w ∙ v) ∙ r .private .own-unmapped c (λ u. z (w ∙ v ∙ u))))
+            by (yes w) (own-evicted v _) = absurd (n (ap (mapped p) (w ∙ v) ∙ r .private .own-unmapped c (λ u. z (w ∙ v ∙ u))))
             by (yes w) (drops-victim v one-pin _ a st vi pl) = inr (vi ∙ sym (w ∙ v), inr (st, out (slot-or-replaced x f (k .place) z stands)))
               where
                 known : Knows 14 p k
@@ -119,9 +121,9 @@ module _ {p : Pool} {c : ℕ} {m : Move} (x : Effect p c m) (s : EvictionsCondit
                 out (inl u) = ap (slot q) pl ∙ u
                 out (inr u) = absurd (let e : pins p g ≡ evicted = ap (pins p) (sym w) ∙ u .0 in let y : ⊥ = omega arith in y)
 
-    left : mapped q f ≢ 0 → (pins p f ≡ evicted) ⊎ WillUnmap q (m .next) f → (d : ℕ) × WillUnmap q (client q d) f
-    left n′ (inr h) = (c, rw at-c h)
-    left n′ (inl h) = who (r .evictions .evicted-mapped f z n h)
+    some-unmaps : mapped q f ≢ 0 → (pins p f ≡ evicted) ⊎ WillUnmap q (m .next) f → (d : ℕ) × WillUnmap q (client q d) f
+    some-unmaps n′ (inr h) = (c, rw at-c h)
+    some-unmaps n′ (inl h) = who (r .evictions .evicted-mapped f z n h)
       where
         who : (d : ℕ) × WillUnmap p (client p d) f → (d : ℕ) × WillUnmap q (client q d) f
         who w = by (ℕ-discrete (w .0) c)
@@ -144,7 +146,7 @@ module _ {p : Pool} {c : ℕ} {m : Move} (x : Effect p c m) (s : EvictionsCondit
   evicted-mapped-next f z n d = go (ℕ-discrete (mapped p f) 0)
     where
       go : Dec (mapped p f ≡ 0) → (d : ℕ) × WillUnmap q (client q d) f
-      go (no e) = left f z e d n (evicted-now f z e d)
+      go (no e) = some-unmaps f z e d n (evicted-now f z e d)
       go (yes e) =
           let w = new-entry x f z e n in
           absurd (own-not-evicted p r c (λ y. z (w .0 ∙ y)) (ap (pins p) (sym (w .0)) ∙ sym (w .3) ∙ d))
@@ -169,25 +171,31 @@ module _ (p : Pool) (c : ℕ) (r : Reached p) where
   known = know p r c
 
   -- the slots and free stay
-  same-empty : (m : Move) → SlotsStay p (m .write) → empty (apply p c m) ≡ empty p
+  same-empty : (m : Move) → SlotsStay p (m .write) → emptyCount (apply p c m) ≡ emptyCount p
   unfolding apply
   same-empty m e = sum-same _ _ (p .size) (λ i _. ap (λ (f : ℕ). one (eqb f none)) (slot-kept p c m e i))
 
-  same-slots : {m : Move} (i : ℕ) → client p c .stage ≡ i → SlotsStay p (m .write) → freeAfter (p .free) (m .write) ≡ p .free
+  slots-unchanged : {m : Move} (i : ℕ) → client p c .stage ≡ i → SlotsStay p (m .write) → freeAfter (p .free) (m .write) ≡ p .free
       → filling i ≡ filling (m .next .stage) → T (not (eqb (m .next .stage) 6)) → (T (examining (m .next .stage)) → Examines p me (m .next))
       → ((f : ℕ) → f ≢ none → mapped p f ≢ 0 → mapped (apply p c m) f ≢ 0 → WillUnmap p me f → WillUnmap (apply p c m) (m .next) f) → EvictionsCondition p c m
-  same-slots {m} i e sl fr fi no-six hu lv =
-      record { empties = rw (e, fr, fi) (omega (arith, same-empty m sl)); six-seen = λ w. absurd (differ (m .next .stage) 6 no-six w); examines = hu; will-unmap = lv }
+  slots-unchanged {m} i e sl fr fi no-six hu lv =
+      record {
+        empties = rw (e, fr, fi) (omega (arith, same-empty m sl));
+        six-seen = λ w. absurd (differ (m .next .stage) 6 no-six w);
+        examines = hu;
+        will-unmap = lv;
+      }
 
   -- and no victim is examined and no entry is to be removed
   unexamined : {m : Move} (i : ℕ) → client p c .stage ≡ i → SlotsStay p (m .write) → freeAfter (p .free) (m .write) ≡ p .free
-      → filling i ≡ filling (m .next .stage) → T (not (eqb (m .next .stage) 6)) → T (not (examining (m .next .stage))) → T (unmapsNone i) → EvictionsCondition p c m
+      → filling i ≡ filling (m .next .stage) → T (not (eqb (m .next .stage) 6)) → T (not (examining (m .next .stage))) → T (unmapsNone i)
+      → EvictionsCondition p c m
   unexamined {m} i e sl fr fi no-six hu lv =
-      same-slots i e sl fr fi no-six (λ t. absurd (T-not (examining (m .next .stage)) hu t)) (λ f _ _ _ w. absurd (not-unmapping p me i e lv f w))
+      slots-unchanged i e sl fr fi no-six (λ t. absurd (T-not (examining (m .next .stage)) hu t)) (λ f _ _ _ w. absurd (not-unmapping p me i e lv f w))
 
   -- the own frame is put into the slot at the client's place: what stood there counted b as empty
   placing : (m : Move) (b : ℕ) → SlotsPut p (m .write) (me .place) (me .own) → me .own ≢ none → one (eqb (slot p (me .place)) none) ≡ b
-      → empty (apply p c m) + b ≡ empty p
+      → emptyCount (apply p c m) + b ≡ emptyCount p
   unfolding apply
   placing m b e z w =
       let h : slot (apply p c m) (me .place) ≡ me .own = slot-here p c m (r .shape) (me .place) (me .own) e (r .ranges .place-ok c) in
@@ -240,9 +248,9 @@ module _ (p : Pool) (c : ℕ) (r : Reached p) where
       }
   evictions-condition (refuses v _) x = unexamined (me .stage) refl refl refl (v .no-fill) tt tt (v .no-unmap)
   evictions-condition (drops e _) x =
-      same-slots 14 e refl refl refl tt (λ _. inl (refl, refl, rw e tt)) (λ f _ _ _ w. absurd (not-unmapping p me 14 e tt f w))
+      slots-unchanged 14 e refl refl refl tt (λ _. inl (refl, refl, rw e tt)) (λ f _ _ _ w. absurd (not-unmapping p me 14 e tt f w))
   evictions-condition {m} (removes e h) x =
-      same-slots 17 e refl refl refl tt never (λ f _ _ n w. absurd (n (ap (mapped (apply p c m)) (sym (w .0)) ∙ gone)))
+      slots-unchanged 17 e refl refl refl tt never (λ f _ _ n w. absurd (n (ap (mapped (apply p c m)) (sym (w .0)) ∙ gone)))
     where
       z : me .victim ≢ none
       z = known 17 e .1 .0

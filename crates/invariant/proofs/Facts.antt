@@ -14,8 +14,8 @@ use Rattle.pool.specs.Stages.{raised}
 use Rattle.pool.specs.declared.Pool.{Pool}
 use Rattle.pool.specs.declared.Client.{Client}
 use Rattle.laws.specs.Choices.{by-test}
-use Rattle.invariant.proofs.Reached.{one, mapped, InSlot, grantsOn, claims, claimed, pinsFound, unplaced, examining, Orphan, Balance, unclaimed, counted, orphan}
-use Rattle.invariant.proofs.Reached.{Reached}
+use Rattle.invariant.proofs.Reached.{one, mapped, InSlot, grantsOn, claims, claimed, pinsFound, unplaced, examining, Orphan, Balance, unclaimed, counted}
+use Rattle.invariant.proofs.Reached.{orphan, Reached}
 use Rattle.invariant.proofs.StageTests.{T-true, T-false, and-false, examining-cases}
 use Rattle.invariant.proofs.After.{client-here}
 use Rattle.invariant.proofs.Sums.{one-is, one-not, one-at-most, sum-zero, sum-one, sum-has, sum-gap, sum-at-most}
@@ -39,8 +39,8 @@ pub foreign-claims : (p : Pool) (c f : ℕ) → client p c .found ≢ f → ((i 
 foreign-claims p c f a b = rw (ne-eqb _ _ a, and-false, grantsOn-none p c f b) (omega arith)
 
 -- a client at rest without grants claims nothing
-pub rest-claims : (p : Pool) (c f : ℕ) → f ≢ none → client p c ≡ resting 0 → claims p c f ≡ 0
-rest-claims p c f z e =
+pub resting-claims : (p : Pool) (c f : ℕ) → f ≢ none → client p c ≡ resting 0 → claims p c f ≡ 0
+resting-claims p c f z e =
     foreign-claims p c f (λ w. z (sym w ∙ ap (λ (k : Client). k .found) e))
     (λ i w. z (sym w ∙ grantFrame-past p c i (omega (arith, ap (λ (k : Client). k .held) e)))) ∙
     (ap (λ (k : Client). one (eqb (k .own) f)) e ∙ none-own f z)
@@ -93,7 +93,7 @@ module _ (p : Pool) (r : Reached p) where
   claimed-pinned c f z h = go (r .pin-counts .balance f z)
     where
       here : c < clientCount p
-      here = client-here p (λ k. client p c ≡ k) c refl (λ e. let y : ⊥ = omega (arith, rest-claims p c f z e) in y)
+      here = client-here p (λ k. client p c ≡ k) c refl (λ e. let y : ⊥ = omega (arith, resting-claims p c f z e) in y)
 
       all : 1 ≤ claimed p f
       all = omega (arith, sum-has (λ d. claims p d f) (clientCount p) c here)
@@ -135,10 +135,10 @@ module _ (p : Pool) (r : Reached p) where
           omega (arith, one-not _ _ e, one-at-most (pinsFound (k .stage) && eqb (k .found) f), grants-at-most c f, r .ranges .working-held c s)
 
   -- one more pin on the found frame is within the range
-  pub one-more : (c : ℕ) → c < clientCount p → client p c .stage ≢ 0 → T (not (pinsFound (client p c .stage))) → client p c .found ≢ none
+  pub one-more-pin : (c : ℕ) → c < clientCount p → client p c .stage ≢ 0 → T (not (pinsFound (client p c .stage))) → client p c .found ≢ none
       → pins p (client p c .found) ≢ evicted → pins p (client p c .found) < pinned 128
   unfolding claimed
-  one-more c h s t z live = go (r .pin-counts .balance f z)
+  one-more-pin c h s t z live = go (r .pin-counts .balance f z)
     where
       k : Client
       k = client p c
@@ -169,7 +169,8 @@ module _ (p : Pool) (r : Reached p) where
         | yes e ↦ e
         | no w ↦
             let s = some-suc (mapped p v) w in
-            absurd (n (ap (lookup p) (r .mapping .mapped-page v (s .0) z (s .1)) ∙ mapped-lookup p (r .shape) (r .mapping .pages-distinct) v (s .0) z (s .1) .1))
+            absurd (n (ap (lookup p) (r .mapping .mapped-page v (s .0) z (s .1)) ∙
+            mapped-lookup p (r .shape) (r .mapping .pages-distinct) v (s .0) z (s .1) .1))
       ]
 
   -- an own frame that has no slot yet is no victim that a client examines

@@ -11,16 +11,17 @@ use Rattle.pool.specs.Apply.{slotsAfter, pinsAfter, entryPagesAfter, entryFrame
 use Rattle.pool.specs.declared.Pool.{Pool}
 use Rattle.pool.specs.declared.Client.{Client}
 use Rattle.pool.specs.declared.Move.{Move}
-use Rattle.invariant.proofs.Reached.{Reached, mapped, InSlot, Know, Owns, Placed, FoundMapped, FoundEvicted, VictimInSlot, VictimEvicted, Nothing, _and_, knows, Knows}
+use Rattle.invariant.proofs.Reached.{Reached, mapped, InSlot, Know, Owns, Placed, FoundMapped, FoundEvicted, VictimInSlot, VictimEvicted, Nothing, _and_}
+use Rattle.invariant.proofs.Reached.{knows, Knows}
 use Rattle.invariant.proofs.After.{EntryPagesStay, EntryFramesStay, slot-kept, slot-here, pins-kept, pins-here}
 use Rattle.invariant.proofs.Each.{Each, fin, _also_, each-at}
 use Rattle.invariant.proofs.Table.{mapped-kept, lookup-mapped}
 use Rattle.invariant.proofs.NeverFails.{know}
 use Rattle.invariant.proofs.Facts.{own-not-evicted}
-use Rattle.invariant.proofs.Edges.{CountersOnly, Edge, moves-on, found1, found18, forgets2, forgets22, pins2, pins19, gets3, gets21, takes, fills, replaces, refuses, drops}
-use Rattle.invariant.proofs.Edges.{removes, admits, revives, evicts20, evicts23, begins, releases}
+use Rattle.invariant.proofs.Edges.{CountersOnly, Edge, moves-on, found1, found18, forgets2, forgets22, pins2, pins19, gets3, gets21, takes, fills}
+use Rattle.invariant.proofs.Edges.{replaces, refuses, drops, removes, admits, revives, evicts20, evicts23, begins, releases}
 use Rattle.invariant.proofs.Effects.{counters-untouched, Effect}
-use Rattle.invariant.proofs.Next.{evicted-next, in-slot-next, mapped-next, by-own, by-found, by-victim}
+use Rattle.invariant.proofs.Next.{evicted-next, in-slot-next, mapped-next, own-referenced, found-referenced, victim-referenced}
 
 -- ---- what a pool q keeps of a frame of p
 
@@ -50,30 +51,32 @@ module _ (p q : Pool) where
   stable-placed n s h = (h .0, s .own (h .0) .stays-in-slot (s .own-not-evicted (h .0)) (h .1))
 
   stable-found-mapped : Stable FoundMapped
-  stable-found-mapped n s h = (h .0, λ z. let l : pins p (n .found) ≢ evicted = λ e. z (s .found (h .0) .stays-evicted e) in s .found (h .0) .stays-mapped l (n .page) (h .1 l))
+  stable-found-mapped n s h =
+      (h .0, λ z. let l : pins p (n .found) ≢ evicted = λ e. z (s .found (h .0) .stays-evicted e) in s .found (h .0) .stays-mapped l (n .page) (h .1 l))
 
   stable-found-evicted : Stable FoundEvicted
   stable-found-evicted n s h = (h .0, s .found (h .0) .stays-evicted (h .1))
 
   stable-victim-in-slot : Stable VictimInSlot
-  stable-victim-in-slot n s h = (h .0, λ z. let l : pins p (n .victim) ≢ evicted = λ e. z (s .victim (h .0) .stays-evicted e) in s .victim (h .0) .stays-in-slot l (h .1 l))
+  stable-victim-in-slot n s h =
+      (h .0, λ z. let l : pins p (n .victim) ≢ evicted = λ e. z (s .victim (h .0) .stays-evicted e) in s .victim (h .0) .stays-in-slot l (h .1 l))
 
   stable-victim-evicted : Stable VictimEvicted
   stable-victim-evicted n s h = (h .0, s .victim (h .0) .stays-evicted (h .1))
 
-  both : (x y : Know) → Stable x → Stable y → Stable (x and y)
-  both x y f g n s h = (f n s (h .0), g n s (h .1))
+  stable-both : (x y : Know) → Stable x → Stable y → Stable (x and y)
+  stable-both x y f g n s h = (f n s (h .0), g n s (h .1))
 
   stable-knows : Each (λ _ x. Stable x) 0 knows
   stable-knows =
       stable-nothing also stable-nothing also stable-found-mapped also stable-found-mapped also stable-nothing also stable-owns also stable-owns also
-      stable-owns also stable-owns also
-      stable-placed also stable-owns also stable-owns also both Owns VictimInSlot stable-owns stable-victim-in-slot also both Owns VictimInSlot stable-owns stable-victim-in-slot also
-      both Owns VictimInSlot stable-owns stable-victim-in-slot also both Owns VictimEvicted stable-owns stable-victim-evicted also
-      both Placed VictimEvicted stable-placed stable-victim-evicted also
-      both Placed VictimEvicted stable-placed stable-victim-evicted also stable-placed also both Placed FoundMapped stable-placed stable-found-mapped also
-      both Placed FoundMapped stable-placed stable-found-mapped also
-      stable-found-mapped also both Placed FoundEvicted stable-placed stable-found-evicted also stable-placed also fin
+      stable-owns also stable-owns also stable-placed also stable-owns also stable-owns also
+      stable-both Owns VictimInSlot stable-owns stable-victim-in-slot also stable-both Owns VictimInSlot stable-owns stable-victim-in-slot also
+      stable-both Owns VictimInSlot stable-owns stable-victim-in-slot also stable-both Owns VictimEvicted stable-owns stable-victim-evicted also
+      stable-both Placed VictimEvicted stable-placed stable-victim-evicted also
+      stable-both Placed VictimEvicted stable-placed stable-victim-evicted also stable-placed also
+      stable-both Placed FoundMapped stable-placed stable-found-mapped also stable-both Placed FoundMapped stable-placed stable-found-mapped also
+      stable-found-mapped also stable-both Placed FoundEvicted stable-placed stable-found-evicted also stable-placed also fin
 
   stable : (s : ℕ) → Stable (Knows s)
   stable s = each-at (λ _ x. Stable x) Nothing (λ _. stable-nothing) knows stable-knows s
@@ -93,10 +96,10 @@ module _ {p : Pool} {c : ℕ} {m : Move} (x : Effect p c m) where
   frames-stable : (d : ℕ) → FramesStable p q (client p d)
   frames-stable d =
       record {
-        own = λ z. frame-stable (client p d .own) z (by-own x (client p d .own) z d refl);
+        own = λ z. frame-stable (client p d .own) z (own-referenced x (client p d .own) z d refl);
         own-not-evicted = own-not-evicted p r d;
-        found = λ z. frame-stable (client p d .found) z (by-found x (client p d .found) z d refl);
-        victim = λ z. frame-stable (client p d .victim) z (by-victim x (client p d .victim) z d refl);
+        found = λ z. frame-stable (client p d .found) z (found-referenced x (client p d .found) z d refl);
+        victim = λ z. frame-stable (client p d .victim) z (victim-referenced x (client p d .victim) z d refl);
       }
 
   -- each client still knows what it knew, the mover included
@@ -122,9 +125,9 @@ module _ (p : Pool) (c : ℕ) (r : Reached p) where
   known = know p r c
 
   -- the frame that a look-up found is the page's
-  looked : (m : Move) → EntryPagesStay p (m .write) → EntryFramesStay p (m .write) → (z : lookup p (k .page) ≢ none)
+  looked-up : (m : Move) → EntryPagesStay p (m .write) → EntryFramesStay p (m .write) → (z : lookup p (k .page) ≢ none)
       → (lookup p (k .page) ≢ none) × (pins (apply p c m) (lookup p (k .page)) ≢ evicted → mapped (apply p c m) (lookup p (k .page)) ≡ suc (k .page))
-  looked m a b z = (z, λ _. mapped-kept p c m a b _ ∙ lookup-mapped p (r .shape) (r .mapping .entries-distinct) (k .page) z)
+  looked-up m a b z = (z, λ _. mapped-kept p c m a b _ ∙ lookup-mapped p (r .shape) (r .mapping .entries-distinct) (k .page) z)
 
   -- the found frame, not evicted, is still the page's
   pinned-now : (m : Move) → Effect p c m → FoundMapped p k → pins p (k .found) ≢ evicted → FoundMapped (apply p c m) k
@@ -141,8 +144,8 @@ module _ (p : Pool) (c : ℕ) (r : Reached p) where
         victim = λ _. counters-stable p c r m (h .counters-only) (n .victim);
       })
       (h .knows)
-  learns {m} (found1 e z) x = looked m refl refl z
-  learns {m} (found18 e z) x = (knows-next x c 18 e, looked m refl refl z)
+  learns {m} (found1 e z) x = looked-up m refl refl z
+  learns {m} (found18 e z) x = (knows-next x c 18 e, looked-up m refl refl z)
   learns (forgets2 e _) x = tt
   learns {m} (forgets22 e _) x = knows-next x c 22 e .0
   learns {m} (pins2 e l) x = pinned-now m x (known 2 e) l

@@ -25,10 +25,10 @@ use Rattle.invariant.proofs.Table.{put-distinct, put-new, put-replaced,
 use Rattle.invariant.proofs.NeverFails.{know}
 use Rattle.invariant.proofs.Facts.{grant-pinned}
 use Rattle.invariant.proofs.StageTests.{never, imp-mp}
-use Rattle.invariant.proofs.Edges.{Edge, moves-on, found1, found18, forgets2, forgets22, pins2, pins19, gets3, gets21, takes, fills, replaces, refuses, drops}
-use Rattle.invariant.proofs.Edges.{removes, admits, revives, evicts20, evicts23, begins, releases}
+use Rattle.invariant.proofs.Edges.{Edge, moves-on, found1, found18, forgets2, forgets22, pins2, pins19, gets3, gets21, takes, fills, replaces, refuses}
+use Rattle.invariant.proofs.Edges.{drops, removes, admits, revives, evicts20, evicts23, begins, releases}
 use Rattle.invariant.proofs.Effects.{OwnOk, own-forgotten, own-stays, own-taken, Opened, of-found, of-own, EntryOk, entries-stay, maps, unmaps, Effect}
-use Rattle.invariant.proofs.Next.{evicted-next, in-slot-next, mapped-next, page-next, by-own, by-mapped, all-grants}
+use Rattle.invariant.proofs.Next.{evicted-next, in-slot-next, mapped-next, page-next, own-referenced, mapped-referenced, all-grants}
 use Rattle.invariant.proofs.PinCounts.{orphan-stays, refused-orphan}
 use Rattle.invariant.proofs.Knowing.{knows-next, learns}
 
@@ -150,9 +150,9 @@ module _ {p : Pool} {c : ℕ} {m : Move} (x : Effect p c m) where
         in-slot a s = in-slot-next x f z (λ d. l (evicted-next x f z a d)) s
 
         go : Dec (mapped p f ≡ 0) → InSlot q f
-        go (yes e) = let w = new-entry e n in in-slot (by-own x f z c (sym (w .0))) (w .1)
+        go (yes e) = let w = new-entry e n in in-slot (own-referenced x f z c (sym (w .0))) (w .1)
         go (no e) =
-            let a = by-mapped x f z e in
+            let a = mapped-referenced x f z e in
             in-slot a (r .mapping .resident-in-slot f z (λ d. l (evicted-next x f z a d)) e)
 
     mapped-or-owned-next : MappingCondition p c m → pins q f ≢ evicted → (mapped q f ≢ 0) ⊎ (((d : ℕ) × (client q d .own ≡ f)) ⊎ Orphan q f)
@@ -189,11 +189,11 @@ module _ {p : Pool} {c : ℕ} {m : Move} (x : Effect p c m) where
       where
         go : Dec (mapped p f ≡ 0) → page q f ≡ g
         go (no n) =
-            page-next x f z (by-mapped x f z n) ∙ r .mapping .mapped-page f g z (sym (entry-same n (suc-not e)) ∙ e)
+            page-next x f z (mapped-referenced x f z n) ∙ r .mapping .mapped-page f g z (sym (entry-same n (suc-not e)) ∙ e)
         go (yes n) =
             let w = new-entry n (suc-not e) in
             let s : suc (k .page) ≡ suc g = sym (w .2) ∙ e in
-            page-next x f z (by-own x f z c (sym (w .0))) ∙ ap (page p) (w .0) ∙ r .mapping .own-page c (λ y. z (w .0 ∙ y)) ∙
+            page-next x f z (own-referenced x f z c (sym (w .0))) ∙ ap (page p) (w .0) ∙ r .mapping .own-page c (λ y. z (w .0 ∙ y)) ∙
             omega arith
 
   -- ---- grants and own frames
@@ -220,14 +220,14 @@ module _ {p : Pool} {c : ℕ} {m : Move} (x : Effect p c m) where
   unfolding pagesAfter
   own-page-next t =
       all-clients p c m (r .shape) (λ _ n. n .own ≢ none → page q (n .own) ≡ n .page) here
-      (λ d _ z. page-next x (client p d .own) z (by-own x (client p d .own) z d refl) ∙ r .mapping .own-page d z) (mine (x .own))
+      (λ d _ z. page-next x (client p d .own) z (own-referenced x (client p d .own) z d refl) ∙ r .mapping .own-page d z) (mine (x .own))
     where
       mine : OwnOk p c m → m .next .own ≢ none → page q (m .next .own) ≡ m .next .page
       mine (own-forgotten e) z = absurd (z e)
       mine (own-taken _ h _ w) z = page-here p c m (r .shape) (m .next .own) (m .next .page) (rw w refl) h
       mine (own-stays e _) z =
           let o : k .own ≢ none = λ y. z (e ∙ y) in
-          ap (page q) e ∙ page-next x (k .own) o (by-own x (k .own) o c refl) ∙ r .mapping .own-page c o ∙ sym (t .wants o e)
+          ap (page q) e ∙ page-next x (k .own) o (own-referenced x (k .own) o c refl) ∙ r .mapping .own-page c o ∙ sym (t .wants o e)
 
   mapping-of : Edge p c m → MappingCondition p c m → Mapping q
   mapping-of e t =
@@ -271,7 +271,8 @@ module _ (p : Pool) (c : ℕ) (r : Reached p) where
 
   -- it ends: with an entry, evicted, or as an orphan
   forgets-own : {m : Move} → m .next .own ≡ none → NoFound (m .next) → NoVictim (m .next)
-      → (me .own ≢ none → (mapped (apply p c m) (me .own) ≢ 0) ⊎ ((pins (apply p c m) (me .own) ≡ evicted) ⊎ Orphan (apply p c m) (me .own))) → MappingCondition p c m
+      → (me .own ≢ none → (mapped (apply p c m) (me .own) ≢ 0) ⊎ ((pins (apply p c m) (me .own) ≡ evicted) ⊎ Orphan (apply p c m) (me .own)))
+      → MappingCondition p c m
   forgets-own o f v w = record { no-found = f; no-victim = v; wants = λ z e. absurd (z (sym e ∙ o)); own-end = λ z _. w z }
 
   mapping-condition : {m : Move} → Edge p c m → Effect p c m → MappingCondition p c m

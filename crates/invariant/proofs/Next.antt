@@ -19,8 +19,8 @@ use Rattle.invariant.proofs.After.{client-same, client-other, slot-kept
 use Rattle.invariant.proofs.Searches.{unreferenced-means}
 use Rattle.invariant.proofs.Table.{suc-not, mapped-entry, mapped-kept, put-other, put-unmapped}
 use Rattle.invariant.proofs.Grants.{grantPage-other, grantFrame-other, GrantFrom, old, new, past, grant-from}
-use Rattle.invariant.proofs.Effects.{Vacant, SlotOk, slots-stay, puts, PinChange, adds, lowers, drops-victim, drops-own, takes-one, PinsOk, pins-stay}
-use Rattle.invariant.proofs.Effects.{pins-put, EntryOk, entries-stay, maps, unmaps, PageOk, pages-stay, paged, Effect}
+use Rattle.invariant.proofs.Effects.{Vacant, SlotOk, slots-stay, slot-put, PinChange, adds, lowers, drops-victim, own-evicted, takes-one, PinsOk}
+use Rattle.invariant.proofs.Effects.{pins-stay, pins-put, EntryOk, entries-stay, maps, unmaps, PageOk, pages-stay, page-put, Effect}
 
 module _ {p : Pool} {c : ℕ} {m : Move} (x : Effect p c m) where
   abbrev r : Reached p
@@ -51,7 +51,7 @@ module _ {p : Pool} {c : ℕ} {m : Move} (x : Effect p c m) where
     where
       go : SlotOk p c m → SlotNow i
       go (slots-stay e) = inl (slot-kept p c m e i)
-      go (puts j e h u v z _) = by (ℕ-discrete i j)
+      go (slot-put j e h u v z _) = by (ℕ-discrete i j)
         where
           by : Dec (i ≡ j) → SlotNow i
           by (yes w) = inr (ap (slot q) w ∙ slot-here p c m (r .shape) j (k .own) (rw e refl) h, u, v, z)
@@ -63,7 +63,7 @@ module _ {p : Pool} {c : ℕ} {m : Move} (x : Effect p c m) where
     where
       go : SlotOk p c m → (slot q i ≡ f) ⊎ Replaced f
       go (slots-stay e) = inl (slot-kept p c m e i ∙ s)
-      go (puts j e h _ _ _ v) = by (ℕ-discrete i j) v
+      go (slot-put j e h _ _ _ v) = by (ℕ-discrete i j) v
         where
           by : Dec (i ≡ j) → Vacant p c m j → (slot q i ≡ f) ⊎ Replaced f
           by (no w) _ = inl (slot-else p c m j (k .own) (rw e refl) i w ∙ s)
@@ -91,7 +91,7 @@ module _ {p : Pool} {c : ℕ} {m : Move} (x : Effect p c m) where
             by (yes w) (adds l _ _) = absurd (l (ap (pins p) (sym w) ∙ d))
             by (yes w) (lowers l _) = absurd (let n : pins p g ≡ evicted = ap (pins p) (sym w) ∙ d in let y : ⊥ = omega arith in y)
             by (yes w) (drops-victim _ _ v _ _ _ _) = at w v
-            by (yes w) (drops-own _ v) = at w v
+            by (yes w) (own-evicted _ v) = at w v
             by (yes w) (takes-one ref′ _) = absurd (ref (ap (referenced p) w ∙ ref′))
 
     pub in-slot-next : pins p f ≢ evicted → InSlot p f → InSlot q f
@@ -131,22 +131,22 @@ module _ {p : Pool} {c : ℕ} {m : Move} (x : Effect p c m) where
       where
         go : PageOk p c m → page q f ≡ page p f
         go (pages-stay e) = page-kept p c m e f
-        go (paged g a e) = page-else p c m g _ e f (λ w. ref (ap (referenced p) w ∙ a))
+        go (page-put g a e) = page-else p c m g _ e f (λ w. ref (ap (referenced p) w ∙ a))
 
   -- ---- who is named
 
   module _ (f : ℕ) (z : f ≢ none) where
-    pub by-own : (d : ℕ) → client p d .own ≡ f → referenced p f ≡ false → ⊥
-    by-own d e n = unreferenced-means p f z n .no-own d e
+    pub own-referenced : (d : ℕ) → client p d .own ≡ f → referenced p f ≡ false → ⊥
+    own-referenced d e n = unreferenced-means p f z n .no-own d e
 
-    pub by-found : (d : ℕ) → client p d .found ≡ f → referenced p f ≡ false → ⊥
-    by-found d e n = unreferenced-means p f z n .no-found d e
+    pub found-referenced : (d : ℕ) → client p d .found ≡ f → referenced p f ≡ false → ⊥
+    found-referenced d e n = unreferenced-means p f z n .no-found d e
 
-    pub by-victim : (d : ℕ) → client p d .victim ≡ f → referenced p f ≡ false → ⊥
-    by-victim d e n = unreferenced-means p f z n .no-victim d e
+    pub victim-referenced : (d : ℕ) → client p d .victim ≡ f → referenced p f ≡ false → ⊥
+    victim-referenced d e n = unreferenced-means p f z n .no-victim d e
 
-    pub by-mapped : mapped p f ≢ 0 → referenced p f ≡ false → ⊥
-    by-mapped w n = let e = mapped-entry p f w in unreferenced-means p f z n .no-entry (e .0) (e .1)
+    pub mapped-referenced : mapped p f ≢ 0 → referenced p f ≡ false → ⊥
+    mapped-referenced w n = let e = mapped-entry p f w in unreferenced-means p f z n .no-entry (e .0) (e .1)
 
   -- ---- grants: each was there, or is the one opened
 

@@ -17,8 +17,8 @@ use Rattle.pool.specs.declared.Pool.{Pool}
 use Rattle.pool.specs.declared.Client.{Client}
 use Rattle.pool.specs.declared.Move.{Move}
 use Rattle.pool.specs.declared.GrantChange.the-variants.{Same, Open}
-use Rattle.invariant.proofs.Reached.{Reached, PinCounts, Knows, one, grantsOn, claims, claimed, pinsFound, unplaced, ownless, Orphan, Balance, unclaimed, counted}
-use Rattle.invariant.proofs.Reached.{orphan}
+use Rattle.invariant.proofs.Reached.{Reached, PinCounts, Knows, one, grantsOn, claims, claimed, pinsFound, unplaced, ownless, Orphan, Balance, unclaimed}
+use Rattle.invariant.proofs.Reached.{counted, orphan}
 use Rattle.invariant.proofs.After.{PinsStay, PinsPut, client-same, client-other, all-clients, slot-kept, pins-kept, pins-here, pins-else}
 use Rattle.invariant.proofs.Sums.{one-is, one-not, sum-zero, sum-put, sum-has}
 use Rattle.invariant.proofs.Searches.{Unreferenced, unreferenced-means, free-found, grantOf-found, grant-in}
@@ -27,8 +27,8 @@ use Rattle.invariant.proofs.Grants.{grantsOn-none, grantsOn-other, gran
 use Rattle.invariant.proofs.NeverFails.{know}
 use Rattle.invariant.proofs.Facts.{none-own, foreign-claims, orphan-claims, own-pins, grant-pinned}
 use Rattle.invariant.proofs.StageTests.{T-false, never, differ, imp-mp}
-use Rattle.invariant.proofs.Edges.{Edge, moves-on, found1, found18, forgets2, forgets22, pins2, pins19, gets3, gets21, takes, fills, replaces, refuses, drops}
-use Rattle.invariant.proofs.Edges.{removes, admits, revives, evicts20, evicts23, begins, releases}
+use Rattle.invariant.proofs.Edges.{Edge, moves-on, found1, found18, forgets2, forgets22, pins2, pins19, gets3, gets21, takes, fills, replaces, refuses}
+use Rattle.invariant.proofs.Edges.{drops, removes, admits, revives, evicts20, evicts23, begins, releases}
 use Rattle.invariant.proofs.Effects.{no-open, counters-untouched, Effect}
 use Rattle.invariant.proofs.Next.{slot-now, all-grants}
 use Rattle.invariant.proofs.Private.{PrivateFrame, private-unmapped, private-unfound, private-ungranted}
@@ -179,12 +179,12 @@ module _ (p : Pool) (c : ℕ) (r : Reached p) where
   known = know p r c
 
   -- what the client claims by its found frame, at stage i
-  by-found : (i f : ℕ) → client p c .stage ≡ i → one (pinsFound (me .stage) && eqb (me .found) f) ≡ one (pinsFound i && eqb (me .found) f)
-  by-found i f e = ap (λ (s : ℕ). one (pinsFound s && eqb (me .found) f)) e
+  found-claim : (i f : ℕ) → client p c .stage ≡ i → one (pinsFound (me .stage) && eqb (me .found) f) ≡ one (pinsFound i && eqb (me .found) f)
+  found-claim i f e = ap (λ (s : ℕ). one (pinsFound s && eqb (me .found) f)) e
 
   -- nothing by its own frame, where it has none
-  by-none : (f : ℕ) → f ≢ none → T (ownless (me .stage)) → one (eqb (me .own) f) ≡ 0
-  by-none f z t = ap (λ (o : ℕ). one (eqb o f)) (r .pin-counts .owns-none c t) ∙ none-own f z
+  no-own-claim : (f : ℕ) → f ≢ none → T (ownless (me .stage)) → one (eqb (me .own) f) ≡ 0
+  no-own-claim f z t = ap (λ (o : ℕ). one (eqb o f)) (r .pin-counts .owns-none c t) ∙ none-own f z
 
   module _ {m : Move} (x : Effect p c m) where
     abbrev Condition : Type 0
@@ -209,7 +209,7 @@ module _ (p : Pool) (c : ℕ) (r : Reached p) where
       where
         more : (f : ℕ) → claims (apply p c m) c f ≡ claims p c f + one (eqb (me .found) f)
         more f =
-            let a : one (pinsFound (me .stage) && eqb (me .found) f) ≡ 0 = by-found i f e ∙ rw (T-false (pinsFound i) t) refl in
+            let a : one (pinsFound (me .stage) && eqb (me .found) f) ≡ 0 = found-claim i f e ∙ rw (T-false (pinsFound i) t) refl in
             let b : one (pinsFound (m .next .stage) && eqb (m .next .found) f) ≡ one (eqb (me .found) f) = rw (u, fo) refl in
             omega (arith, claims-kept x g h f, ap (λ (o : ℕ). one (eqb o f)) ow)
 
@@ -264,14 +264,14 @@ module _ (p : Pool) (c : ℕ) (r : Reached p) where
   pin-counts-condition (pins2 e l) x = pins-found x 2 e tt refl (λ _. r .pin-counts .owns-none c (rw e tt)) refl refl refl refl refl (known 2 e .0) l
   pin-counts-condition (pins19 e l) x = pins-found x 19 e tt refl never refl refl refl refl refl (known 19 e .1 .0) l
   pin-counts-condition (gets3 e) x =
-      claim-to-grant x 3 (me .found) e tt refl refl refl refl refl (λ f z. omega (arith, by-found 3 f e, by-none f z (rw e tt)))
+      claim-to-grant x 3 (me .found) e tt refl refl refl refl refl (λ f z. omega (arith, found-claim 3 f e, no-own-claim f z (rw e tt)))
   pin-counts-condition (gets21 e) x =
-      claim-to-grant x 21 (me .found) e tt refl refl refl refl refl (λ f z. omega (arith, by-found 21 f e, by-none f z (rw e tt)))
+      claim-to-grant x 21 (me .found) e tt refl refl refl refl refl (λ f z. omega (arith, found-claim 21 f e, no-own-claim f z (rw e tt)))
   pin-counts-condition {m} (takes e z) x =
       one-frame x (freeFrame p) (pinned 1) never refl (free .0)
       (λ _. taken-now (sum-zero (λ d. claims p d (freeFrame p)) (clientCount p) (λ d _. none-of d)) refl
       (omega (arith, claims-kept x refl refl (freeFrame p), grantsOn-none p c (freeFrame p) (fresh .no-grant c), one-is (freeFrame p))))
-      (λ f u n. omega (arith, claims-kept x refl refl f, one-not (freeFrame p) f (λ w. n (sym w)), by-found 4 f e, by-none f u (rw e tt)))
+      (λ f u n. omega (arith, claims-kept x refl refl f, one-not (freeFrame p) f (λ w. n (sym w)), found-claim 4 f e, no-own-claim f u (rw e tt)))
     where
       free : (freeFrame p < total p) × (referenced p (freeFrame p) ≡ false)
       free = free-found p (r .shape) z
@@ -294,11 +294,11 @@ module _ (p : Pool) (c : ℕ) (r : Reached p) where
           (omega (arith, claims-kept x refl refl f, none-own f z, one-not _ _ h, ap (λ (b : Bool). one (b && eqb (me .found) f)) (v .no-pin)))
   pin-counts-condition {m} (drops e h) x =
       one-frame x (me .victim) evicted never refl (r .ranges .victim-ok c (known 14 e .1 .0))
-      (λ _. evict (λ n. let y : ⊥ = omega arith in y) refl (omega (arith, claims-kept x refl refl (me .victim), by-found 14 (me .victim) e)))
-      (λ f _ _. omega (arith, claims-kept x refl refl f, by-found 14 f e))
+      (λ _. evict (λ n. let y : ⊥ = omega arith in y) refl (omega (arith, claims-kept x refl refl (me .victim), found-claim 14 (me .victim) e)))
+      (λ f _ _. omega (arith, claims-kept x refl refl f, found-claim 14 f e))
   pin-counts-condition (removes e _) x = same-claims x never refl refl refl (λ f. rw e refl)
-  pin-counts-condition (admits e _ _) x = claim-to-grant x 18 (me .own) e tt refl refl refl refl refl (λ f _. omega (arith, by-found 18 f e))
-  pin-counts-condition (revives e _) x = claim-to-grant x 22 (me .own) e tt refl refl refl refl refl (λ f _. omega (arith, by-found 22 f e))
+  pin-counts-condition (admits e _ _) x = claim-to-grant x 18 (me .own) e tt refl refl refl refl refl (λ f _. omega (arith, found-claim 18 f e))
+  pin-counts-condition (revives e _) x = claim-to-grant x 22 (me .own) e tt refl refl refl refl refl (λ f _. omega (arith, found-claim 22 f e))
   pin-counts-condition (evicts20 e) x = evicts x 21 refl refl refl refl (rw e refl) refl (known 20 e .0 .0)
   pin-counts-condition (evicts23 e) x = evicts x 4 refl refl refl refl (rw e refl) refl (known 23 e .0)
   pin-counts-condition (begins g e _) x = same-claims x (λ _. r .pin-counts .owns-none c (rw e tt)) refl refl refl (λ f. rw e refl)

@@ -14,7 +14,7 @@ use Rattle.invariant.proofs.After.{client-same, client-other, all-clien
 use Rattle.invariant.proofs.Distinct.{distinct-put, distinct-same}
 use Rattle.invariant.proofs.Searches.{unreferenced-means}
 use Rattle.invariant.proofs.StageTests.{T-not, imp-mp}
-use Rattle.invariant.proofs.Effects.{OwnOk, own-forgotten, own-stays, own-taken, SlotOk, slots-stay, puts, Effect}
+use Rattle.invariant.proofs.Effects.{OwnOk, own-forgotten, own-stays, own-taken, SlotOk, slots-stay, slot-put, Effect}
 use Rattle.invariant.proofs.Next.{SlotNow, slot-now}
 
 module _ {p : Pool} {c : ℕ} {m : Move} (x : Effect p c m) where
@@ -55,7 +55,7 @@ module _ {p : Pool} {c : ℕ} {m : Move} (x : Effect p c m) where
     where
       go : SlotOk p c m → Distinct (slot q) none
       go (slots-stay w) = distinct-same (slot p) (slot q) none (r .places .slots-distinct) (slot-kept p c m w)
-      go (puts j w h u _ o _) =
+      go (slot-put j w h u _ o _) =
           distinct-put (slot p) (slot q) none (r .places .slots-distinct) j (slot-else p c m j (k .own) (rw w refl))
           (λ _ i _ e. r .places .unplaced-no-slot c i u o (e ∙ slot-here p c m (r .shape) j (k .own) (rw w refl) h))
 

@@ -12,7 +12,8 @@ use Rattle.invariant.proofs.Reached.{Reached, Private, mapped}
 use Rattle.invariant.proofs.After.{all-clients}
 use Rattle.invariant.proofs.Searches.{unreferenced-means, grant-in}
 use Rattle.invariant.proofs.Table.{mapped-zero}
-use Rattle.invariant.proofs.Effects.{OwnOk, own-forgotten, own-stays, own-taken, FoundOk, found-stays, found-forgotten, found-looked-up, Opened, of-found, of-own, Effect}
+use Rattle.invariant.proofs.Effects.{OwnOk, own-forgotten, own-stays, own-taken, FoundOk, found-stays, found-forgotten, found-looked-up, Opened}
+use Rattle.invariant.proofs.Effects.{of-found, of-own, Effect}
 use Rattle.invariant.proofs.Next.{unmapped-next, all-grants}
 
 -- no entry, no found frame and no grant names it, and it is not the own frame that the mover, whose next record is n, gives away

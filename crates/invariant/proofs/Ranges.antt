@@ -1,5 +1,5 @@
 -- Every number stays in its range: what a move writes is in range (`Effects`), the next record has the numbers of the last one, or those of a client
--- at rest, or new ones that its stage reduced. Pins are at most 128 because no client claims a frame more than 8 times (`one-more`). Assumes nothing.
+-- at rest, or new ones that its stage reduced. Pins are at most 128 because no client claims a frame more than 8 times (`one-more-pin`). Assumes nothing.
 use mathlib.Core.Path.{_≡_, refl, sym, ap, _∙_}
 use mathlib.Core.Logic.{_≢_, inl, inr}
 use Prim.Native.Nat.{ℕ, _+_, _≤_, _<_}
@@ -18,11 +18,11 @@ use Rattle.invariant.proofs.After.{entryFrame-kept}
 use Rattle.invariant.proofs.Searches.{grant-in}
 use Rattle.invariant.proofs.Table.{put-frame, else-frame}
 use Rattle.invariant.proofs.StageTests.{differ, at-most}
-use Rattle.invariant.proofs.Edges.{Edge, moves-on, found1, found18, forgets2, forgets22, pins2, pins19, gets3, gets21, takes, fills, replaces, refuses, drops}
-use Rattle.invariant.proofs.Edges.{removes, admits, revives, evicts20, evicts23, begins, releases}
-use Rattle.invariant.proofs.Effects.{CountOk, counts-stay, counts-put, OwnOk, own-forgotten, own-stays, own-taken, PinChange, adds, lowers, drops-victim, drops-own}
-use Rattle.invariant.proofs.Effects.{takes-one, PinsOk, pins-stay, pins-put, FoundOk, found-stays, found-forgotten, found-looked-up, Opened, of-found, of-own, EntryOk}
-use Rattle.invariant.proofs.Effects.{entries-stay, maps, unmaps, Effect}
+use Rattle.invariant.proofs.Edges.{Edge, moves-on, found1, found18, forgets2, forgets22, pins2, pins19, gets3, gets21, takes, fills, replaces, refuses}
+use Rattle.invariant.proofs.Edges.{drops, removes, admits, revives, evicts20, evicts23, begins, releases}
+use Rattle.invariant.proofs.Effects.{CountOk, counts-stay, counts-put, OwnOk, own-forgotten, own-stays, own-taken, PinChange, adds, lowers, drops-victim}
+use Rattle.invariant.proofs.Effects.{own-evicted, takes-one, PinsOk, pins-stay, pins-put, FoundOk, found-stays, found-forgotten, found-looked-up, Opened}
+use Rattle.invariant.proofs.Effects.{of-found, of-own, EntryOk, entries-stay, maps, unmaps, Effect}
 use Rattle.invariant.proofs.Next.{SlotNow, slot-now, all-grants}
 
 -- ---- what a move has to show of the next record
@@ -43,9 +43,9 @@ module _ (p : Pool) (c : ℕ) (r : Reached p) where
   k = client p c
 
   -- a client at work goes on with its numbers
-  as-was : (n : Client) (i : ℕ) → k .stage ≡ i → T (not (eqb i 0)) → T (leb (n .stage) 23) → n .place ≡ k .place → n .busy ≡ k .busy
+  same-numbers : (n : Client) (i : ℕ) → k .stage ≡ i → T (not (eqb i 0)) → T (leb (n .stage) 23) → n .place ≡ k .place → n .busy ≡ k .busy
       → n .seen ≡ k .seen → n .held ≡ k .held → (n .victim ≢ none → n .victim ≡ k .victim) → Numbers p n
-  as-was n i e t s a b d f v =
+  same-numbers n i e t s a b d f v =
       record {
         stage-ok = at-most (n .stage) 23 s;
         place-ok = rw a (r .ranges .place-ok c);
@@ -85,24 +85,24 @@ module _ (p : Pool) (c : ℕ) (r : Reached p) where
         working-held = λ _. rw (h .same .held) (r .ranges .working-held c (h .stages .working));
         victim-ok = h .victim-ok;
       }
-  numbers (found1 e _) = as-was _ 1 e tt tt refl refl refl refl (λ _. refl)
-  numbers (found18 e _) = as-was _ 18 e tt tt refl refl refl refl (λ _. refl)
-  numbers (forgets2 e _) = as-was _ 2 e tt tt refl refl refl refl (λ _. refl)
-  numbers (forgets22 e _) = as-was _ 22 e tt tt refl refl refl refl (λ _. refl)
-  numbers (pins2 e _) = as-was _ 2 e tt tt refl refl refl refl (λ _. refl)
-  numbers (pins19 e _) = as-was _ 19 e tt tt refl refl refl refl (λ _. refl)
+  numbers (found1 e _) = same-numbers _ 1 e tt tt refl refl refl refl (λ _. refl)
+  numbers (found18 e _) = same-numbers _ 18 e tt tt refl refl refl refl (λ _. refl)
+  numbers (forgets2 e _) = same-numbers _ 2 e tt tt refl refl refl refl (λ _. refl)
+  numbers (forgets22 e _) = same-numbers _ 22 e tt tt refl refl refl refl (λ _. refl)
+  numbers (pins2 e _) = same-numbers _ 2 e tt tt refl refl refl refl (λ _. refl)
+  numbers (pins19 e _) = same-numbers _ 19 e tt tt refl refl refl refl (λ _. refl)
   numbers (gets3 e) = at-rest _ refl refl refl refl (more 3 e tt) refl
   numbers (gets21 e) = at-rest _ refl refl refl refl (more 21 e tt) refl
-  numbers (takes e _) = as-was _ 4 e tt tt refl refl refl refl (λ _. refl)
-  numbers (fills e _) = as-was _ 8 e tt tt refl refl refl refl (λ _. refl)
-  numbers (replaces e _) = as-was _ 15 e tt tt refl refl refl refl (λ _. refl)
+  numbers (takes e _) = same-numbers _ 4 e tt tt refl refl refl refl (λ _. refl)
+  numbers (fills e _) = same-numbers _ 8 e tt tt refl refl refl refl (λ _. refl)
+  numbers (replaces e _) = same-numbers _ 15 e tt tt refl refl refl refl (λ _. refl)
   numbers (refuses _ _) = at-rest _ refl refl refl refl (r .ranges .held-ok c) refl
-  numbers (drops e _) = as-was _ 14 e tt tt refl refl refl refl (λ _. refl)
-  numbers (removes e _) = as-was _ 17 e tt tt refl refl refl refl (λ w. absurd (w refl))
+  numbers (drops e _) = same-numbers _ 14 e tt tt refl refl refl refl (λ _. refl)
+  numbers (removes e _) = same-numbers _ 17 e tt tt refl refl refl refl (λ w. absurd (w refl))
   numbers (admits e _ _) = at-rest _ refl refl refl refl (more 18 e tt) refl
   numbers (revives e _) = at-rest _ refl refl refl refl (more 22 e tt) refl
-  numbers (evicts20 e) = as-was _ 20 e tt tt refl refl refl refl (λ _. refl)
-  numbers (evicts23 e) = as-was _ 23 e tt tt refl refl refl refl (λ _. refl)
+  numbers (evicts20 e) = same-numbers _ 20 e tt tt refl refl refl refl (λ _. refl)
+  numbers (evicts23 e) = same-numbers _ 23 e tt tt refl refl refl refl (λ _. refl)
   numbers (begins g e h) =
       record {
         stage-ok = omega arith;
@@ -150,7 +150,7 @@ module _ {p : Pool} {c : ℕ} {m : Move} (e : Edge p c m) (x : Effect p c m) whe
           least (adds _ _ l) = l
           least (lowers _ v) = omega (arith, r .ranges .pins-ok g)
           least (drops-victim _ _ v _ _ _ _) = omega arith
-          least (drops-own _ v) = omega arith
+          least (own-evicted _ v) = omega arith
           least (takes-one _ v) = omega arith
 
           by : Dec (f ≡ g) → pins q f ≤ pinned 128

@@ -122,9 +122,9 @@ _and_ x y p k = x p k × y p k
 -- at stage 0, 1, 2 and so on
 abbrev pub knows : List Know
 knows =
-    Nothing ∷ Nothing ∷ FoundMapped ∷ FoundMapped ∷ Nothing ∷ Owns ∷ Owns ∷ Owns ∷ Owns ∷ Placed ∷ Owns ∷ Owns ∷ (Owns and VictimInSlot) ∷ (Owns and VictimInSlot) ∷ (Owns and VictimInSlot) ∷
-    (Owns and VictimEvicted) ∷ (Placed and VictimEvicted) ∷ (Placed and VictimEvicted) ∷ Placed ∷ (Placed and FoundMapped) ∷ (Placed and FoundMapped) ∷ FoundMapped ∷
-    (Placed and FoundEvicted) ∷ Placed ∷ []
+    Nothing ∷ Nothing ∷ FoundMapped ∷ FoundMapped ∷ Nothing ∷ Owns ∷ Owns ∷ Owns ∷ Owns ∷ Placed ∷ Owns ∷ Owns ∷ (Owns and VictimInSlot) ∷
+    (Owns and VictimInSlot) ∷ (Owns and VictimInSlot) ∷ (Owns and VictimEvicted) ∷ (Placed and VictimEvicted) ∷ (Placed and VictimEvicted) ∷ Placed ∷
+    (Placed and FoundMapped) ∷ (Placed and FoundMapped) ∷ FoundMapped ∷ (Placed and FoundEvicted) ∷ Placed ∷ []
 
 abbrev pub Knows : ℕ → Know
 Knows s = getD knows s Nothing

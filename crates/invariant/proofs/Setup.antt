@@ -21,7 +21,7 @@ use Rattle.invariant.proofs.After.{few-frames, within-in, within-past}
 use Rattle.invariant.proofs.Sums.{sum-zero, sum-full}
 use Rattle.invariant.proofs.Searches.{grantFrame-past}
 use Rattle.invariant.proofs.Table.{suc-not, mapped-zero}
-use Rattle.invariant.proofs.Facts.{rest-claims}
+use Rattle.invariant.proofs.Facts.{resting-claims}
 
 -- a list that is d throughout
 within-same : (m n d i : ℕ) → n ≤ m → within (replicate m d) n d i ≡ d
@@ -125,7 +125,7 @@ module _ (s t c h : ℕ) (ok : numbersOk s t c ≡ true) where
         };
         pin-counts = record {
           owns-none = λ d _. ap (λ (k : Client). k .own) (setup-rests d);
-          balance = λ f z. unclaimed (setup-evicted f) (sum-zero (λ d. claims p d f) t (λ d _. rest-claims p d f z (setup-rests d)));
+          balance = λ f z. unclaimed (setup-evicted f) (sum-zero (λ d. claims p d f) t (λ d _. resting-claims p d f z (setup-rests d)));
         };
         mapping = record {
           entries-distinct = λ i j z _. absurd (z (entry-none i));

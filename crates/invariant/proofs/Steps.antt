@@ -32,11 +32,13 @@ use Rattle.invariant.proofs.Reached.{Reached, Knows, WillUnmap, mapped,
 use Rattle.invariant.proofs.Each.{Each, fin, _also_, each-in}
 use Rattle.invariant.proofs.Searches.{grantOf-found}
 use Rattle.invariant.proofs.NeverFails.{know, finds-some, finds-unused}
-use Rattle.invariant.proofs.StageTests.{T-false, never, differ, imp-mp, onward, onward-means, keepsVictim, keeps-victim-means, unmapsNone, unmaps-none, MayRefuse}
+use Rattle.invariant.proofs.StageTests.{T-false, never, differ, imp-mp, onward, onward-means, keepsVictim, keeps-victim-means, unmapsNone, unmaps-none}
+use Rattle.invariant.proofs.StageTests.{MayRefuse}
 use Rattle.invariant.proofs.Allowed.{allowed, may-begin, may-step, may-release}
 use Rattle.invariant.proofs.Facts.{own-pins, grant-pinned, lookup-unmapped}
-use Rattle.invariant.proofs.Edges.{CountersOnly, keep, hand, counts, free, SameFrames, grants, Edge, moves-on, found1, found18, forgets2, forgets22, pins2, pins19, gets3}
-use Rattle.invariant.proofs.Edges.{gets21, takes, fills, replaces, refuses, drops, removes, admits, revives, evicts20, evicts23, begins, releases}
+use Rattle.invariant.proofs.Edges.{CountersOnly, keep, hand, counts, free, SameFrames, grants, Edge, moves-on, found1, found18, forgets2, forgets22}
+use Rattle.invariant.proofs.Edges.{pins2, pins19, gets3, gets21, takes, fills, replaces, refuses, drops, removes, admits, revives, evicts20, evicts23}
+use Rattle.invariant.proofs.Edges.{begins, releases}
 
 pub around-ok : (s i : ℕ) → 0 < s → around s i < s
 unfolding around
@@ -63,10 +65,10 @@ module _ (p : Pool) (c : ℕ) (here : c < clientCount p) (r : Reached p) where
   same = record { page = refl; own = refl; found = refl; held = refl }
 
   -- the client keeps its victim, and its place where that matters
-  stays : (n : Client) (i j : ℕ) (w : Write) → client p c .stage ≡ i → SameFrames k n → n .victim ≡ k .victim → n .busy ≡ k .busy → n .place < p .size
+  keeps-victim : (n : Client) (i j : ℕ) (w : Write) → client p c .stage ≡ i → SameFrames k n → n .victim ≡ k .victim → n .busy ≡ k .busy → n .place < p .size
       → n .seen ≤ p .size → (T (examining j) → n .place ≡ k .place) → CountersOnly p w → freeAfter (p .free) w ≡ p .free → T (onward i j) → T (keepsVictim i j)
       → ((f : ℕ) → f ≢ none → mapped p f ≢ 0 → WillUnmap p k f → WillUnmap p (standing n j) f) → Knows j p (standing n j) → IsEdge (works n j w)
-  stays n i j w e s v b pl sn at q fr t u lv kw =
+  keeps-victim n i j w e s v b pl sn at q fr t u lv kw =
       let h = keeps-victim-means i j u in
       moves-on n j w (record {
         same = s;
@@ -88,7 +90,8 @@ module _ (p : Pool) (c : ℕ) (here : c < clientCount p) (r : Reached p) where
   plain : (i j : ℕ) (w : Write) → client p c .stage ≡ i → CountersOnly p w → freeAfter (p .free) w ≡ p .free → T (onward i j) → T (keepsVictim i j)
       → T (unmapsNone i) → Knows j p (standing k j) → IsEdge (works k j w)
   plain i j w e q fr t u a kw =
-      stays k i j w e same refl refl (r .ranges .place-ok c) (r .ranges .seen-ok c) (λ _. refl) q fr t u (λ f _ _ w. absurd (not-unmapping p k i e a f w)) kw
+      keeps-victim k i j w e same refl refl (r .ranges .place-ok c) (r .ranges .seen-ok c) (λ _. refl) q fr t u
+      (λ f _ _ w. absurd (not-unmapping p k i e a f w)) kw
 
   -- a sweep looks at slot x next
   sweeps : (i start x n : ℕ) (w : Write) → client p c .stage ≡ i → x < p .size → n < p .size → CountersOnly p w → freeAfter (p .free) w ≡ p .free
@@ -110,8 +113,8 @@ module _ (p : Pool) (c : ℕ) (here : c < clientCount p) (r : Reached p) where
         fills = rw (e, fr, T-false (filling i) fl) refl;
       })
 
-  small : 0 < p .size
-  small = r .shape .size-low
+  some-slots : 0 < p .size
+  some-slots = r .shape .size-low
 
   step1 : EdgeAt 1 (λ p k. stage1 k (lookup p (k .page)))
   unfolding stage1 freeAfter
@@ -180,15 +183,15 @@ module _ (p : Pool) (c : ℕ) (here : c < clientCount p) (r : Reached p) where
   step7 : EdgeAt 7 (λ p k. stage7 k (p .hand) (p .size))
   unfolding stage7 freeAfter
   step7 e =
-      stays (withPlace k (p .hand % p .size)) 7 8 Keep e (record { page = refl; own = refl; found = refl; held = refl }) refl refl
-      (mod-lt (p .hand) small) (r .ranges .seen-ok c) never keep refl tt tt (λ f _ _ w. absurd (not-unmapping p k 7 e tt f w)) (known 7 e)
+      keeps-victim (withPlace k (p .hand % p .size)) 7 8 Keep e (record { page = refl; own = refl; found = refl; held = refl }) refl refl
+      (mod-lt (p .hand) some-slots) (r .ranges .seen-ok c) never keep refl tt tt (λ f _ _ w. absurd (not-unmapping p k 7 e tt f w)) (known 7 e)
 
   step8 : EdgeAt 8 (λ p k. stage8 k (slot p (k .place)) (p .size))
   unfolding stage8 freeAfter
   step8 e =
       by-test IsEdge (λ t. fills e (eqb-true _ _ t))
-      (λ _. stays (withPlace k (around (p .size) (k .place))) 8 8 Keep e (record { page = refl; own = refl; found = refl; held = refl }) refl refl
-      (around-ok _ _ small)
+      (λ _. keeps-victim (withPlace k (around (p .size) (k .place))) 8 8 Keep e (record { page = refl; own = refl; found = refl; held = refl }) refl refl
+      (around-ok _ _ some-slots)
       (r .ranges .seen-ok c) never keep refl tt tt (λ f _ _ w. absurd (not-unmapping p k 8 e tt f w)) (known 8 e))
 
   step9 : EdgeAt 9 (λ p k. stage9 k (p .hand))
@@ -197,12 +200,12 @@ module _ (p : Pool) (c : ℕ) (here : c < clientCount p) (r : Reached p) where
 
   step10 : EdgeAt 10 (λ p k. stage10 k (p .hand) (p .size))
   unfolding stage10 freeAfter
-  step10 e = sweeps 10 (p .hand) (p .hand % p .size) 0 Keep e (mod-lt (p .hand) small) small keep refl tt tt (not-unmapping p k 10 e tt) (known 10 e)
+  step10 e = sweeps 10 (p .hand) (p .hand % p .size) 0 Keep e (mod-lt (p .hand) some-slots) some-slots keep refl tt tt (not-unmapping p k 10 e tt) (known 10 e)
 
   -- the sweep goes on, with no entry to remove
   next : (i n : ℕ) (w : Write) → client p c .stage ≡ i → n < p .size → CountersOnly p w → freeAfter (p .free) w ≡ p .free → T (onward i 11)
       → T (not (filling i)) → T (unmapsNone i) → k .own ≢ none → IsEdge (works (sweeping k (k .start) (around (p .size) (k .place)) n) 11 w)
-  next i n w e h q fr t fl a o = sweeps i (k .start) _ n w e (around-ok _ _ small) h q fr t fl (not-unmapping p k i e a) o
+  next i n w e h q fr t fl a o = sweeps i (k .start) _ n w e (around-ok _ _ some-slots) h q fr t fl (not-unmapping p k i e a) o
 
   may-refuse11 : MayRefuse 11
   may-refuse11 = record { is-unplaced = tt; no-pin = refl; no-fill = refl; no-unmap = tt }
@@ -210,7 +213,8 @@ module _ (p : Pool) (c : ℕ) (here : c < clientCount p) (r : Reached p) where
   may-refuse12 : MayRefuse 12
   may-refuse12 = record { is-unplaced = tt; no-pin = refl; no-fill = refl; no-unmap = tt }
 
-  visit : (i : ℕ) → client p c .stage ≡ i → T (onward i 11) → T (unmapsNone i) → T (not (filling i)) → MayRefuse i → k .own ≢ none → IsEdge (busyVisit k (p .size))
+  visit : (i : ℕ) → client p c .stage ≡ i → T (onward i 11) → T (unmapsNone i) → T (not (filling i)) → MayRefuse i → k .own ≢ none
+      → IsEdge (busyVisit k (p .size))
   unfolding busyVisit freeAfter
   visit i e t a fl u o =
       by-test IsEdge (λ t. refuses (rw e u) (eqb-true _ _ t))
@@ -248,18 +252,20 @@ module _ (p : Pool) (c : ℕ) (here : c < clientCount p) (r : Reached p) where
 
   step13 : EdgeAt 13 (λ p k. stage13 k (count p (k .victim)) (p .size))
   unfolding stage13 freeAfter
-  step13 e = by-test IsEdge (λ _. plain 13 14 _ e (counts lowered) refl tt tt tt (known 13 e)) (λ _. next 13 0 _ e small (counts lowered) refl tt tt tt (known 13 e .0))
+  step13 e =
+      by-test IsEdge (λ _. plain 13 14 _ e (counts lowered) refl tt tt tt (known 13 e))
+      (λ _. next 13 0 _ e some-slots (counts lowered) refl tt tt tt (known 13 e .0))
 
   step14 : EdgeAt 14 (λ p k. stage14 k (pins p (k .victim)) (p .size))
   unfolding stage14 freeAfter
-  step14 e = by-test IsEdge (λ t. drops e (eqb-true _ _ t)) (λ _. next 14 0 Keep e small keep refl tt tt tt (known 14 e .0))
+  step14 e = by-test IsEdge (λ t. drops e (eqb-true _ _ t)) (λ _. next 14 0 Keep e some-slots keep refl tt tt tt (known 14 e .0))
 
   -- 15 goes on where the slot names another frame: no entry is to be removed
   step15 : EdgeAt 15 (λ p k. stage15 k (slot p (k .place)) (p .size))
   unfolding stage15 freeAfter
   step15 e =
       by-test IsEdge (λ t. replaces e (eqb-true _ _ t))
-      (λ t. sweeps 15 (k .start) _ 0 Keep e (around-ok _ _ small) small keep refl tt tt (moved (eqb-false _ _ t)) (known 15 e .0))
+      (λ t. sweeps 15 (k .start) _ 0 Keep e (around-ok _ _ some-slots) some-slots keep refl tt tt (moved (eqb-false _ _ t)) (known 15 e .0))
     where
       moved : slot p (k .place) ≢ k .victim → (f : ℕ) → WillUnmap p k f → ⊥
       moved n f (v, inl l) = rw e at l
@@ -268,7 +274,7 @@ module _ (p : Pool) (c : ℕ) (here : c < clientCount p) (r : Reached p) where
   step16 : EdgeAt 16 (λ p k. stage16 k (p .hand) (p .size))
   unfolding stage16 freeAfter
   step16 e =
-      stays k 16 17 _ e same refl refl (r .ranges .place-ok c) (r .ranges .seen-ok c) never hand refl tt tt (λ f _ _ w. (w .0, inl tt)) (known 16 e)
+      keeps-victim k 16 17 _ e same refl refl (r .ranges .place-ok c) (r .ranges .seen-ok c) never hand refl tt tt (λ f _ _ w. (w .0, inl tt)) (known 16 e)
 
   step17 : EdgeAt 17 (λ p k. let g = page p (k .victim) in stage17 k g (entryOf p g) (lookup p g))
   unfolding stage17 freeAfter
@@ -300,7 +306,9 @@ module _ (p : Pool) (c : ℕ) (here : c < clientCount p) (r : Reached p) where
 
   step19 : EdgeAt 19 (λ p k. stage19 k (pins p (k .found)))
   unfolding stage19 freeAfter
-  step19 e = let h = known 19 e in by-test IsEdge (λ t. plain 19 22 Keep e keep refl tt tt tt (h .0, (h .1 .0, eqb-true _ _ t))) (λ t. pins19 e (eqb-false _ _ t))
+  step19 e =
+      let h = known 19 e in
+      by-test IsEdge (λ t. plain 19 22 Keep e keep refl tt tt tt (h .0, (h .1 .0, eqb-true _ _ t))) (λ t. pins19 e (eqb-false _ _ t))
 
   -- an own frame has pins 1
   evict : (j : ℕ) → k .own ≢ none → IsEdge (works (withOwn k none) j (PutPins (k .own) evicted)) → IsEdge (evictOwn k (pins p (k .own)) j)

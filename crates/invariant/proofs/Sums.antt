@@ -89,8 +89,8 @@ sum-some g (suc n) z = go (ℕ-discrete (g n) 0) (sum-some g n)
     go (yes q) ih = let r = ih (λ w. z (omega arith)) in (r .0, omega (arith, r .1), r .2)
 
 -- a sum of tests that is not 0 has one that passes
-pub some-one : (t : ℕ → Bool) (n : ℕ) → sumTo (λ i. one (t i)) n ≢ 0 → (i : ℕ) × (i < n) × (t i ≡ true)
-some-one t n z = let r = sum-some (λ i. one (t i)) n z in (r .0, r .1, passes (t (r .0)) (r .2))
+pub sum-some-test : (t : ℕ → Bool) (n : ℕ) → sumTo (λ i. one (t i)) n ≢ 0 → (i : ℕ) × (i < n) × (t i ≡ true)
+sum-some-test t n z = let r = sum-some (λ i. one (t i)) n z in (r .0, r .1, passes (t (r .0)) (r .2))
   where
     passes : (b : Bool) → one b ≢ 0 → b ≡ true
     passes true _ = refl

@@ -28,7 +28,7 @@ use Rattle.invariant.proofs.Edges.{Edge, moves-on, found1, found18, forgets2, f
 use Rattle.invariant.proofs.Edges.{drops, removes, admits, revives, evicts20, evicts23, begins, releases}
 use Rattle.invariant.proofs.Steps.{call-edge}
 use Rattle.invariant.proofs.Valid.{valid-reached}
-use Rattle.invariant.proofs.Calls.{call-moves, call-turned}
+use Rattle.invariant.proofs.Calls.{call-moves, call-turned-down}
 use Rattle.turns.specs.Turn.{seat, seated, still, turnedBy, turn}
 
 -- ---- no answer of a reached pool ends the run
@@ -124,7 +124,7 @@ module _ (p : Pool) (call : Call) (r : Reached p) where
           }
       go (no e) (inl z) = absurd (e z)
       go (no e) (inr h) =
-          let turned = call-turned p call (turnedBy p call) the-refusal e in
+          let turned = call-turned-down p call (turnedBy p call) the-refusal e in
           record {
             pool = simp (keeps e, turned) (unchanged p _ (turnedBy p call) seat-in);
             answer = simp (keeps e, turned);
