@@ -53,22 +53,22 @@ call-of c = c .before .reading .given .0 .0
 abbrev pool-of : Told → Pool
 pool-of c = loop-of c .loop .pool
 
-abbrev InSlot : Type 0
-InSlot = tie.After-seat Inv-loop μ-loop
+abbrev Seated : Type 0
+Seated = tie.After-seat Inv-loop μ-loop
 
-abbrev told : InSlot → Told
+abbrev told : Seated → Told
 told c = c .before .before .before
 
-abbrev at-joined : tie.Joined2 Inv-loop μ-loop → InSlot
+abbrev at-joined : tie.Joined2 Inv-loop μ-loop → Seated
 at-joined c = c .before .before .before
 
-abbrev at-decide : tie.After-decide-arg8 Inv-loop μ-loop → InSlot
+abbrev at-decide : tie.After-decide-arg8 Inv-loop μ-loop → Seated
 at-decide c = at-joined (c .before .before .before .before .before .before .before .before .before)
 
 abbrev Next : Type 0
 Next = tie.After-next Inv-loop μ-loop
 
-abbrev seated : Next → InSlot
+abbrev seated : Next → Seated
 seated c = at-decide (c .before .before)
 
 abbrev move-of : Next → Move
@@ -109,17 +109,17 @@ at-line c = c .before .before .before .before
 is-call : (c : Told) → read false (from (loop-of c .loop .at) (now (loop-of c .before .before .before .args .schedule))) ≡ Asked (call-of c)
 is-call c = sym (c .before .before .before .read .ensures .0) ∙ c .before .reading .given .1
 
-seat-is : (c : InSlot) → c .seat .result ≡ seat (clientCount (pool-of (told c))) (caller (call-of (told c)))
+seat-is : (c : Seated) → c .seat .result ≡ seat (clientCount (pool-of (told c))) (caller (call-of (told c)))
 seat-is c = c .seat .ensures ∙ ap (seat (clientCount (pool-of (told c)))) (c .before .caller .ensures)
 
 -- the client's number is one of the pool's
-seat-below : (c : InSlot) → c .seat .result < clientCount (pool-of (told c))
+seat-below : (c : Seated) → c .seat .result < clientCount (pool-of (told c))
 seat-below c = omega (arith, seat-is c, seat-in (pool-of (told c)) (call-of (told c)) (loop-of (told c) .loop .inv .reached))
 
-seat-small : (c : InSlot) → c .seat .result < 16
+seat-small : (c : Seated) → c .seat .result < 16
 seat-small c = omega (arith, seat-below c, loop-of (told c) .loop .inv .reached .shape .clients-high)
 
-its-client : (c : InSlot) → client (pool-of (told c)) (c .seat .result) ≡ getD (pool-of (told c) .clients) (c .seat .result) no-client
+its-client : (c : Seated) → client (pool-of (told c)) (c .seat .result) ≡ getD (pool-of (told c) .clients) (c .seat .result) no-client
 its-client c = client-in (pool-of (told c)) (c .seat .result) (seat-below c)
 
 valid : (c : Told) → Valid.valid (pool-of c) ≡ true
