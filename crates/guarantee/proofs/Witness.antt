@@ -48,9 +48,9 @@ swap-run = events (setupOf 1 1 3 0 .pool) (admitAndRelease 9 ++ Begin 0 5 ∷ st
 zero-one : _≡_ {A = ℕ} 0 1 → ⊥
 zero-one e = omega arith
 
-pub evicted : At (Evicts 0) swap-run 18
+pub eviction : At (Evicts 0) swap-run 18
 unfolding computing
-evicted = record { client-of = 0; stage = 14; step-of = (refl, refl); one-of = tt; becomes-evicted = ((λ z. zero-one (sym z)), refl) }
+eviction = record { client-of = 0; stage = 14; step-of = (refl, refl); one-of = tt; becomes-evicted = ((λ z. zero-one (sym z)), refl) }
 
 pub taken-out : TakenOut swap-run 0 18 19
 unfolding computing
