@@ -1,5 +1,5 @@
--- A client that runs alone is refused by 15 exactly if, at its begin, its page is not resident and every slot names a held frame: `Path` followed along
--- the run, up to the answer. Assumes nothing.
+-- A client that runs alone is refused by 15 exactly if, at its begin, its page is not resident and every slot names a held frame: `RunsAlone` followed
+-- along the run, up to the answer. Assumes nothing.
 use mathlib.Core.Path.{_≡_, refl, sym, ap, subst, _∙_}
 use mathlib.Core.Logic.{_≢_, _⊎_, inl, inr, _↔_}
 use mathlib.Core.Bool.{false}
@@ -21,13 +21,13 @@ use Rattle.pool.specs.declared.Answer.the-variants.{Done, Refused}
 use Rattle.invariant.proofs.Reached.{Reached}
 use Rattle.invariant.proofs.Allowed.{allowed, only-step}
 use Rattle.invariant.proofs.Calls.{reached-call}
-use Rattle.guarantee.specs.Runs.{Event, happens, events, At, Begins}
+use Rattle.guarantee.specs.Runs.{Event, eventOf, events, At, Begins}
 use Rattle.guarantee.specs.Claims.{AllHeld, AnswersTo, TurnedDown, RefusedAlone}
-use Rattle.guarantee.proofs.Turned.{same-pool, other-answer, other-call, turned, down, by-move, went}
+use Rattle.guarantee.proofs.TurnedDown.{same-pool, other-answer, other-call, turned-down, turned, one-move, turned-or-move}
 use Rattle.guarantee.proofs.OneClient.{rest-unanswered}
-use Rattle.guarantee.proofs.SoloSteps.{begun-is, begun-rests, begun-on}
-use Rattle.guarantee.proofs.Base.{Base, base-still, pins-still}
-use Rattle.guarantee.proofs.Path.{Full, Path, at1, Next, goes-on, granted, refused, next, Works, working}
+use Rattle.guarantee.proofs.AloneSteps.{begun-is, begun-rests, begun-alone}
+use Rattle.guarantee.proofs.SinceBegin.{SameAsBegin, same-as-begin-next, counters-pins}
+use Rattle.guarantee.proofs.RunAlone.{MustRefuse, RunsAlone, at1, StepResult, goes-on, granted, refused, result, Works, working}
 
 step-same : {b c : ℕ} → Step c ≡ Step b → c ≡ b
 unfolding caller
@@ -36,51 +36,51 @@ step-same e = ap caller e
 module _ (p₀ : Pool) (b g : ℕ) (reached : Reached p₀) (rest : (c : ℕ) → client p₀ c .stage ≡ 0) where
   -- ---- along a run
 
-  abbrev Way : Pool → Type 0
-  Way p = Path p₀ b g reached rest p
+  abbrev Running : Pool → Type 0
+  Running p = RunsAlone p₀ b g reached rest p
 
-  abbrev Cond : Type 0
-  Cond = Full p₀ b g reached rest
+  abbrev Condition : Type 0
+  Condition = MustRefuse p₀ b g reached rest
 
-  abbrev Then : Outcome → Type 0
-  Then o = Next p₀ b g reached rest o
+  abbrev Result : Outcome → Type 0
+  Result o = StepResult p₀ b g reached rest o
 
-  abbrev Fair : Event → Type 0
-  Fair e = (caller (e .asked) ≡ b) ⊎ TurnedDown e
+  abbrev OwnOrTurnedDown : Event → Type 0
+  OwnOrTurnedDown e = (caller (e .asked) ≡ b) ⊎ TurnedDown e
 
-  abbrev Verdict : Event → Type 0
-  Verdict e = ((e .answer ≡ Refused 15) × Cond) ⊎ ((e .answer ≢ Refused 15) × (Cond → ⊥))
+  abbrev RefusedIff : Event → Type 0
+  RefusedIff e = ((e .answer ≡ Refused 15) × Condition) ⊎ ((e .answer ≢ Refused 15) × (Condition → ⊥))
 
   -- a call that is no step of the client changes nothing
-  idle-call : (p : Pool) (x : Call) → Works p₀ b g reached rest p → Fair (happens p x) → x ≢ Step b → callOf p x .pool ≡ p
-  idle-call p x w (inr t) n = turned p x (t .0) (t .1) (t .2) .0
+  idle-call : (p : Pool) (x : Call) → Works p₀ b g reached rest p → OwnOrTurnedDown (eventOf p x) → x ≢ Step b → callOf p x .pool ≡ p
+  idle-call p x w (inr t) n = turned-down p x (t .0) (t .1) (t .2) .0
   idle-call p x w (inl e) n =
-      elim (went p x) [
-        | down _ _ q ↦ same-pool q
-        | by-move r _ _ ↦
+      elim (turned-or-move p x) [
+        | turned _ _ q ↦ same-pool q
+        | one-move r _ _ ↦
             let works : client p (caller x) .stage ≡ suc (w .0) = ap (λ (c : ℕ). client p c .stage) e ∙ w .1 .stage in
             absurd (n (only-step p x (allowed p x r) (λ z. omega arith) ∙ ap Step e))
       ]
 
-  path-run : (p : Pool) (calls : List Call) (n : ℕ) → Way p → ((m : ℕ) → m < n → At (Begins b) (events p calls) m → ⊥)
-      → ((m : ℕ) → m < n → At Fair (events p calls) m)
-      → At (AnswersTo b) (events p calls) n → At Verdict (events p calls) n
+  run-alone : (p : Pool) (calls : List Call) (n : ℕ) → Running p → ((m : ℕ) → m < n → At (Begins b) (events p calls) m → ⊥)
+      → ((m : ℕ) → m < n → At OwnOrTurnedDown (events p calls) m)
+      → At (AnswersTo b) (events p calls) n → At RefusedIff (events p calls) n
   unfolding events At
-  path-run p [] n path nb fair a = absurd a
-  path-run p (x ∷ calls) zero path nb fair a =
-      subst (λ (y : Call). AnswersTo b (happens p y) → Verdict (happens p y)) (sym (a .0)) (ends (next p₀ b g reached rest p path)) a
+  run-alone p [] n running nb fair a = absurd a
+  run-alone p (x ∷ calls) zero running nb fair a =
+      subst (λ (y : Call). AnswersTo b (eventOf p y) → RefusedIff (eventOf p y)) (sym (a .0)) (ends (result p₀ b g reached rest p running)) a
     where
-      ends : Then (callOf p (Step b)) → AnswersTo b (happens p (Step b)) → Verdict (happens p (Step b))
+      ends : Result (callOf p (Step b)) → AnswersTo b (eventOf p (Step b)) → RefusedIff (eventOf p (Step b))
       ends (goes-on j e _) (_, inl r) = other-answer (sym e ∙ r .1) tt
       ends (goes-on j e _) (_, inr r) = other-answer (sym e ∙ r) tt
       ends (granted f e _ n) _ = inr ((λ r. other-answer (sym r ∙ e) tt), n)
       ends (refused e _ f) _ = inl (e, f)
-  path-run p (x ∷ calls) (suc n) path nb fair a =
-      go (is-step x) (λ q. path-run (callOf p x .pool) calls n q later (λ m l. fair (suc m) (omega arith)) a)
-      (λ z. rest-unanswered (callOf p x .pool) calls (reached-call p x (working p₀ b g reached rest path .1 .reached)) b n z later a)
+  run-alone p (x ∷ calls) (suc n) running nb fair a =
+      go (is-step x) (λ q. run-alone (callOf p x .pool) calls n q later (λ m l. fair (suc m) (omega arith)) a)
+      (λ z. rest-unanswered (callOf p x .pool) calls (reached-call p x (working p₀ b g reached rest running .1 .reached)) b n z later a)
     where
       Goal : Type 0
-      Goal = At Verdict (events (callOf p x .pool) calls) n
+      Goal = At RefusedIff (events (callOf p x .pool) calls) n
 
       later : (m : ℕ) → m < n → At (Begins b) (events (callOf p x .pool) calls) m → ⊥
       later m l = nb (suc m) (omega arith)
@@ -90,21 +90,21 @@ module _ (p₀ : Pool) (b g : ℕ) (reached : Reached p₀) (rest : (c : ℕ) �
       is-step (Release c h) = no (λ e. other-call e tt)
       is-step (Step c) = elim (ℕ-discrete c b) [ yes e ↦ yes (ap Step e) | no e ↦ no (λ q. e (step-same q)) ]
 
-      stepped : x ≡ Step b → Then (callOf p (Step b)) → (Way (callOf p x .pool) → Goal) → (client (callOf p x .pool) b .stage ≢ 0) → Goal
-      stepped e (goes-on j _ q) rec end = rec (subst (λ (y : Call). Way (callOf p y .pool)) (sym e) q)
+      stepped : x ≡ Step b → Result (callOf p (Step b)) → (Running (callOf p x .pool) → Goal) → (client (callOf p x .pool) b .stage ≢ 0) → Goal
+      stepped e (goes-on j _ q) rec end = rec (subst (λ (y : Call). Running (callOf p y .pool)) (sym e) q)
       stepped e (granted f _ z _) rec end = absurd (end (subst (λ (y : Call). client (callOf p y .pool) b .stage ≡ 0) (sym e) z))
       stepped e (refused _ z _) rec end = absurd (end (subst (λ (y : Call). client (callOf p y .pool) b .stage ≡ 0) (sym e) z))
 
-      go : Dec (x ≡ Step b) → (Way (callOf p x .pool) → Goal) → (client (callOf p x .pool) b .stage ≢ 0) → Goal
-      go (yes e) rec end = stepped e (next p₀ b g reached rest p path) rec end
-      go (no e) rec end = rec (subst Way (sym (idle-call p x (working p₀ b g reached rest path) (fair 0 (omega arith)) e)) path)
+      go : Dec (x ≡ Step b) → (Running (callOf p x .pool) → Goal) → (client (callOf p x .pool) b .stage ≢ 0) → Goal
+      go (yes e) rec end = stepped e (result p₀ b g reached rest p running) rec end
+      go (no e) rec end = rec (subst Running (sym (idle-call p x (working p₀ b g reached rest running) (fair 0 (omega arith)) e)) running)
 
-  verdict-iff : (es : List Event) (n : ℕ) → At Verdict es n → At (λ e. e .answer ≡ Refused 15) es n ↔ Cond
+  refused-iff : (es : List Event) (n : ℕ) → At RefusedIff es n → At (λ e. e .answer ≡ Refused 15) es n ↔ Condition
   unfolding At
-  verdict-iff [] n v = absurd v
-  verdict-iff (e ∷ es) zero (inl v) = ((λ _. v .1), (λ _. v .0))
-  verdict-iff (e ∷ es) zero (inr v) = ((λ r. absurd (v .0 r)), (λ f. absurd (v .1 f)))
-  verdict-iff (e ∷ es) (suc n) v = verdict-iff es n v
+  refused-iff [] n v = absurd v
+  refused-iff (e ∷ es) zero (inl v) = ((λ _. v .1), (λ _. v .0))
+  refused-iff (e ∷ es) zero (inr v) = ((λ r. absurd (v .0 r)), (λ f. absurd (v .1 f)))
+  refused-iff (e ∷ es) (suc n) v = refused-iff es n v
 
 -- ---- the claim
 
@@ -113,12 +113,13 @@ module _ (p : Pool) (b g : ℕ) (r : Reached p) (done : callOf p (Begin b g) .an
   all-rest c = elim (ℕ-discrete c b) [ yes e ↦ ap (λ (c : ℕ). client p c .stage) e ∙ begun-rests p b g done | no e ↦ others c e ]
 
   -- the pool after the begin
-  start : Path p b g r all-rest (callOf p (Begin b g) .pool)
+  start : RunsAlone p b g r all-rest (callOf p (Begin b g) .pool)
   unfolding apply
   start =
-      at1 (begun-on p b g done r others)
-      (begun-is p b g done (λ q. Base p q g) (base-still p b m r tt (record { slots = λ _. refl; looked = refl; size = refl; pins = λ _. refl })))
-      (begun-is p b g done (λ q. (f : ℕ) → pins q f ≡ pins p f) (pins-still p b m r tt))
+      at1 (begun-alone p b g done r others)
+      (begun-is p b g done (λ q. SameAsBegin p q g)
+      (same-as-begin-next p b m r tt (record { slots = λ _. refl; lookup = refl; size = refl; pins = λ _. refl })))
+      (begun-is p b g done (λ q. (f : ℕ) → pins q f ≡ pins p f) (counters-pins p b m r tt))
     where
       m : Move
       m = beginMove (client p b) g
@@ -133,14 +134,14 @@ refused-alone p (x ∷ calls) r q c g (suc k) (suc n) a =
       others-rest = a .others-rest;
       later = le-of-suc-le-suc (a .later);
       answered = a .answered;
-      same = λ m y z. a .same (suc m) (omega arith) (omega arith);
+      same-request = λ m y z. a .same-request (suc m) (omega arith) (omega arith);
       no-others = λ m y z. a .no-others (suc m) (omega arith) (omega arith);
     })
 refused-alone p (x ∷ calls) r q c g zero (suc n) a =
     subst (λ (y : Pool). At (λ e. e .answer ≡ Refused 15) (events (callOf p x .pool) calls) n ↔ ((resident y g ≡ false) × AllHeld y)) (a .begun .0)
-    (verdict-iff p c g r rest (events (callOf p x .pool) calls) n
-    (path-run p c g r rest (callOf p x .pool) calls n first
-    (λ m y. a .same (suc m) (omega arith) (omega arith)) (λ m y. a .no-others (suc m) (omega arith) (omega arith)) (a .answered)))
+    (refused-iff p c g r rest (events (callOf p x .pool) calls) n
+    (run-alone p c g r rest (callOf p x .pool) calls n first
+    (λ m y. a .same-request (suc m) (omega arith) (omega arith)) (λ m y. a .no-others (suc m) (omega arith) (omega arith)) (a .answered)))
   where
     done : callOf p (Begin c g) .answer ≡ Done g
     done = subst (λ (y : Call). callOf p y .answer ≡ Done g) (a .begun .1) (a .begun .2)
@@ -151,5 +152,5 @@ refused-alone p (x ∷ calls) r q c g zero (suc n) a =
     rest : (d : ℕ) → client p d .stage ≡ 0
     rest = all-rest p c g r done others
 
-    first : Path p c g r rest (callOf p x .pool)
-    first = subst (λ (y : Call). Path p c g r rest (callOf p y .pool)) (sym (a .begun .1)) (start p c g r done others)
+    first : RunsAlone p c g r rest (callOf p x .pool)
+    first = subst (λ (y : Call). RunsAlone p c g r rest (callOf p y .pool)) (sym (a .begun .1)) (start p c g r done others)

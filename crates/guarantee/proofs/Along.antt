@@ -7,7 +7,7 @@ use Rattle.pool.specs.declared.Pool.{Pool}
 use Rattle.pool.specs.declared.Call.{Call}
 use Rattle.invariant.proofs.Reached.{Reached}
 use Rattle.invariant.proofs.Calls.{reached-call}
-use Rattle.guarantee.specs.Runs.{Event, happens, events, At, Throughout}
+use Rattle.guarantee.specs.Runs.{Event, eventOf, events, At, Throughout}
 
 -- of every pool of the run
 pub throughout : (P : Pool → Type 0) → ((p : Pool) → Reached p → P p) → (p : Pool) (calls : List Call) → Reached p → Throughout P p calls
@@ -16,14 +16,14 @@ throughout P h p [] r = h p r
 throughout P h p (x ∷ calls) r = (h p r, throughout P h (callOf p x .pool) calls (reached-call p x r))
 
 -- of an event: what follows from it, and another property of it
-pub at-some : (P : Event → Type 0) (C : Type 0) → ((p : Pool) (x : Call) → Reached p → P (happens p x) → C)
+pub at-some : (P : Event → Type 0) (C : Type 0) → ((p : Pool) (x : Call) → Reached p → P (eventOf p x) → C)
     → (p : Pool) (calls : List Call) → Reached p → (n : ℕ) → At P (events p calls) n → C
 unfolding events At
 at-some P C h p [] r n a = absurd a
 at-some P C h p (x ∷ calls) r zero a = h p x r a
 at-some P C h p (x ∷ calls) r (suc n) a = at-some P C h (callOf p x .pool) calls (reached-call p x r) n a
 
-pub at-each : (P Q : Event → Type 0) → ((p : Pool) (x : Call) → Reached p → P (happens p x) → Q (happens p x))
+pub at-each : (P Q : Event → Type 0) → ((p : Pool) (x : Call) → Reached p → P (eventOf p x) → Q (eventOf p x))
     → (p : Pool) (calls : List Call) → Reached p → (n : ℕ) → At P (events p calls) n → At Q (events p calls) n
 unfolding events At
 at-each P Q h p [] r n a = a

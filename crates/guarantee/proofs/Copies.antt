@@ -17,44 +17,44 @@ use Rattle.pool.specs.declared.Call.{Call}
 use Rattle.pool.specs.declared.Answer.{Answer}
 use Rattle.invariant.proofs.Reached.{Reached, one}
 use Rattle.invariant.proofs.Sums.{one-is, sum-has}
-use Rattle.invariant.proofs.Facts.{grant-live}
+use Rattle.invariant.proofs.Facts.{grant-pinned}
 use Rattle.invariant.proofs.Grants.{grantsOf}
 use Rattle.invariant.proofs.Calls.{reached-call}
-use Rattle.guarantee.specs.Runs.{happens, events, Throughout}
+use Rattle.guarantee.specs.Runs.{eventOf, events, Throughout}
 use Rattle.guarantee.specs.Sequential as Plain
-use Rattle.guarantee.specs.Sequential.{Place, Taker, Sequential, taker, member, Keeps, StepRule, adds, admits, drops, answers, moves, refuses, Rule}
-use Rattle.guarantee.specs.Sequential.{turns, begins, releases, steps}
-use Rattle.guarantee.specs.Claims.{OneCopy, PutsOut, HeldPinned, NoHeldEvicted}
+use Rattle.guarantee.specs.Sequential.{SeqSlot, SeqClient, Sequential, seqClient, member, Keeps, StepRule, adds, admits, drops, answers, continues}
+use Rattle.guarantee.specs.Sequential.{refuses, Rule, turns-down, begins, releases, steps}
+use Rattle.guarantee.specs.Claims.{OneCopy, BecomesEvicted, HeldPinned, NoHeldEvicted}
 use Rattle.guarantee.proofs.Along.{throughout, at-each}
-use Rattle.guarantee.proofs.Mirror.{Shows, is-member, Mirrors, view, mirrors-view}
+use Rattle.guarantee.proofs.SimulationRelation.{ResidentFrame, is-member, SimulationRelation, view, view-related}
 use Rattle.guarantee.proofs.Follow.{Followed, followed}
 use Rattle.guarantee.proofs.Frames.{same-frame, Grant, held-grant, held-pinned}
-use Rattle.guarantee.proofs.Pages.{there, shows}
+use Rattle.guarantee.proofs.Pages.{page-there, page-resident}
 
 one-copy : (p : Pool) → Reached p → OneCopy p
 one-copy p r c d i j a b e =
-    let u = r .outline .grant-named c i a in
-    let v = r .outline .grant-named d j b in
-    same-frame p r (grantFrame p c i) (grantFrame p d j) (grantPage p d j) u v (r .outline .granted c i u ∙ ap suc e) (r .outline .granted d j v)
+    let u = r .mapping .grant-named c i a in
+    let v = r .mapping .grant-named d j b in
+    same-frame p r (grantFrame p c i) (grantFrame p d j) (grantPage p d j) u v (r .mapping .grant-mapped c i u ∙ ap suc e) (r .mapping .grant-mapped d j v)
 
 -- ---- a page with a grant stays
 
-step-keeps : {q : Sequential} {k : Taker} {a : Answer} {places : List Place} {next : Taker} {g f : ℕ} → StepRule q k a places next
-    → (c : ℕ) → member g (taker q c .grants) ≡ true → Keeps q g f → (i : ℕ) × (getD places i Plain.empty ≡ Plain.holds g f)
+step-keeps : {q : Sequential} {k : SeqClient} {a : Answer} {slots : List SeqSlot} {next : SeqClient} {g f : ℕ} → StepRule q k a slots next
+    → (c : ℕ) → member g (seqClient q c .grants) ≡ true → Keeps q g f → (i : ℕ) × (getD slots i Plain.empty ≡ Plain.stores g f)
 step-keeps (adds _ _) c m h = h
 step-keeps (answers _ _) c m h = h
-step-keeps (moves _ _ _) c m h = h
+step-keeps (continues _ _ _) c m h = h
 step-keeps refuses c m h = h
 step-keeps {q} {k} {g = g} (admits {f = x} _ _ _ i _ vacant) c m h =
-    let other : h .0 ≢ i = λ e. let z : _≡_ {A = ℕ} 0 1 = cc (ap (Plain.place q) e) in omega arith in
-    (h .0, getD-set-other (q .places) i (h .0) (Plain.holds (k .wants) x) Plain.empty other ∙ h .1)
+    let other : h .0 ≢ i = λ e. let z : _≡_ {A = ℕ} 0 1 = cc (ap (Plain.seqSlot q) e) in omega arith in
+    (h .0, getD-set-other (q .slots) i (h .0) (Plain.stores (k .wants) x) Plain.empty other ∙ h .1)
 step-keeps {q} {g = g} (drops {g = y} _ i full unheld) c m h =
-    let other : h .0 ≢ i = λ e. let same : y ≡ g = cc (ap (Plain.place q) e) in true≢false (sym m ∙ rw same at (unheld c)) in
-    (h .0, getD-set-other (q .places) i (h .0) Plain.empty Plain.empty other ∙ h .1)
+    let other : h .0 ≢ i = λ e. let same : y ≡ g = cc (ap (Plain.seqSlot q) e) in true≢false (sym m ∙ rw same at (unheld c)) in
+    (h .0, getD-set-other (q .slots) i (h .0) Plain.empty Plain.empty other ∙ h .1)
 
 rule-keeps : {q next : Sequential} {x : Call} {a : Answer} {g f : ℕ} → Rule q x a next
-    → (c : ℕ) → member g (taker q c .grants) ≡ true → Keeps q g f → Keeps next g f
-rule-keeps (turns _ _) c m h = h
+    → (c : ℕ) → member g (seqClient q c .grants) ≡ true → Keeps q g f → Keeps next g f
+rule-keeps (turns-down _ _) c m h = h
 rule-keeps (begins _) c m h = h
 rule-keeps (releases _) c m h = h
 rule-keeps (steps _ s) c m h = step-keeps s c m h
@@ -63,7 +63,7 @@ rule-keeps (steps _ s) c m h = step-keeps s c m h
 
 not-evicted : (p : Pool) (x : Call) (f : ℕ) → Reached p → held p f ≡ true → pins (callOf p x .pool) f ≢ evicted
 unfolding grantsOf
-not-evicted p x f r h out = v .live (ap (pins (callOf p x .pool)) (v .frame) ∙ out)
+not-evicted p x f r h out = v .not-evicted (ap (pins (callOf p x .pool)) (v .frame) ∙ out)
   where
     grant : Grant p f
     grant = held-grant p f h
@@ -72,38 +72,38 @@ not-evicted p x f r h out = v .live (ap (pins (callOf p x .pool)) (v .frame) ∙
     c = grant .client-of
 
     i : ℕ
-    i = grant .place
+    i = grant .index
 
     g : ℕ
     g = grantPage p c i
 
-    mirror : Mirrors p (view p)
-    mirror = mirrors-view p (r .shape)
+    related : SimulationRelation p (view p)
+    related = view-related p (r .shape)
 
     named : grantFrame p c i ≢ none
-    named = r .outline .grant-named c i (grant .inside)
+    named = r .mapping .grant-named c i (grant .inside)
 
     kept : Keeps (view p) g f
-    kept = rw (grant .names) at (there r mirror named (λ z. omega (arith, grant-live p r c i named)) (r .outline .granted c i named))
+    kept = rw (grant .names) at (page-there r related named (λ z. omega (arith, grant-pinned p r c i named)) (r .mapping .grant-mapped c i named))
 
-    granted : member g (taker (view p) c .grants) ≡ true
+    granted : member g (seqClient (view p) c .grants) ≡ true
     granted =
         let n = sum-has (λ j. one (eqb (grantPage p c j) g)) (client p c .held) i (grant .inside) in
-        is-member g _ (λ z. omega (arith, mirror .takers c .grants g, one-is g))
+        is-member g _ (λ z. omega (arith, related .clients c .grants g, one-is g))
 
     after : Followed (view p) x (callOf p x)
-    after = followed r mirror x
+    after = followed r related x
 
     still : Keeps (after .state) g f
     still = rule-keeps (after .rule) c granted kept
 
-    v : Shows (callOf p x .pool) (slot (callOf p x .pool) (still .0)) g f
-    v = shows (reached-call p x r) (after .mirrors) still
+    v : ResidentFrame (callOf p x .pool) (slot (callOf p x .pool) (still .0)) g f
+    v = page-resident (reached-call p x r) (after .related) still
 
 pub no-held-evicted : (p : Pool) (calls : List Call) → Reached p → NoHeldEvicted (events p calls)
-no-held-evicted p calls r f = at-each (PutsOut f) (λ e. held (e .before) f ≡ false) (λ p x r h. go p x r h (held p f) refl) p calls r
+no-held-evicted p calls r f = at-each (BecomesEvicted f) (λ e. held (e .before) f ≡ false) (λ p x r h. go p x r h (held p f) refl) p calls r
   where
-    go : (p : Pool) (x : Call) → Reached p → PutsOut f (happens p x) → (b : Bool) → held p f ≡ b → b ≡ false
+    go : (p : Pool) (x : Call) → Reached p → BecomesEvicted f (eventOf p x) → (b : Bool) → held p f ≡ b → b ≡ false
     go p x r h true e = absurd (not-evicted p x f r e (h .1))
     go p x r h false e = refl
 

@@ -1,4 +1,4 @@
--- A call of the pool is one of the sequential pool that mirrors it, with the same answer. Both turn the same calls down, as stages, page wanted and
+-- A call of the pool is one of a related sequential pool, with the same answer. Both turn the same calls down, as stages, page wanted and
 -- numbers of grants are alike; a begin and a release change the client alone; and a step is a step there (`SimulateMoves`). Assumes nothing.
 use mathlib.Core.Path.{_≡_, refl, sym, ap, _∙_}
 use mathlib.Core.Logic.{_≢_, inl}
@@ -29,42 +29,42 @@ use Rattle.invariant.proofs.Reached.{Reached, one}
 use Rattle.invariant.proofs.After.{pins-in}
 use Rattle.invariant.proofs.Sums.{sum-zero, sum-has}
 use Rattle.invariant.proofs.Searches.{grantOf-found}
-use Rattle.invariant.proofs.Facts.{grant-live}
-use Rattle.invariant.proofs.Grants.{grantsOf, keeps, ends, grantsOf-keeps, grantsOf-ends}
+use Rattle.invariant.proofs.Facts.{grant-pinned}
+use Rattle.invariant.proofs.Grants.{grantsOf, grants-stay, grant-ends, grantsOf-keeps, grantsOf-ends}
 use Rattle.invariant.proofs.Valid.{valid-reached}
 use Rattle.invariant.proofs.Allowed.{Allowed, allowed, may-begin, may-step, may-release}
 use Rattle.invariant.proofs.Edges.{Edge}
 use Rattle.invariant.proofs.Steps.{call-edge}
-use Rattle.invariant.proofs.Calls.{did, call-moves, call-turned}
-use Rattle.guarantee.specs.Sequential.{Taker, Sequential, taker, member, without, turnedBy, Rule, turns, begins, releases, steps}
-use Rattle.guarantee.proofs.Turned.{moved}
-use Rattle.guarantee.proofs.Mirror.{times, not-member, is-member, without-times, without-length, Mirrors, open-many, open-grants}
-use Rattle.guarantee.proofs.Weights.{Weighs}
-use Rattle.guarantee.proofs.Shown.{as-was, pins-put}
-use Rattle.guarantee.proofs.Simulate.{Acting, same-places}
-use Rattle.guarantee.proofs.Takers.{rests}
+use Rattle.invariant.proofs.Calls.{outcomeOf, call-moves, call-turned-down}
+use Rattle.guarantee.specs.Sequential.{SeqClient, Sequential, seqClient, member, without, seqRefusal, Rule, turns-down, begins, releases, steps}
+use Rattle.guarantee.proofs.TurnedDown.{moved}
+use Rattle.guarantee.proofs.SimulationRelation.{times, not-member, is-member, without-times, without-length, SimulationRelation, open-many, open-grants}
+use Rattle.guarantee.proofs.PageCount.{PageCountChange}
+use Rattle.guarantee.proofs.ViewAfter.{counters-view, pins-view}
+use Rattle.guarantee.proofs.Simulate.{Acting, same-slots}
+use Rattle.guarantee.proofs.SeqClients.{related-resting}
 use Rattle.guarantee.proofs.SimulateMoves.{simulated}
 
 -- what a call leaves is what a rule of the sequential pool leaves
 pub record Followed (q : Sequential) (x : Call) (o : Outcome) : Type 0 where
   pub state : Sequential
   pub rule : Rule q x (o .answer) state
-  pub weighs : Weighs (o .counted) (q .places) (state .places)
-  pub mirrors : Mirrors (o .pool) state
+  pub page-count : PageCountChange (o .counted) (q .slots) (state .slots)
+  pub related : SimulationRelation (o .pool) state
 
 choose-alike : {A : Type 0} (t : Bool) {x y v w : A} → (t ≡ true → x ≡ v) → (t ≡ false → y ≡ w) → choose t x y ≡ choose t v w
 unfolding choose
 choose-alike true a b = a refl
 choose-alike false a b = b refl
 
-module _ {p : Pool} {q : Sequential} (r : Reached p) (mirror : Mirrors p q) where
+module _ {p : Pool} {q : Sequential} (r : Reached p) (related : SimulationRelation p q) where
   -- ---- both turn the same calls down
 
   -- a grant of a page is found where there is one
-  no-grant : (c g : ℕ) → client p c .stage ≡ 0 → grantOf p c g ≡ none → member g (taker q c .grants) ≡ false
+  no-grant : (c g : ℕ) → client p c .stage ≡ 0 → grantOf p c g ≡ none → member g (seqClient q c .grants) ≡ false
   unfolding grantOf grantsOf
   no-grant c g s e =
-      not-member g _ (open-grants (mirror .takers c) (rw s refl) g ∙ sum-zero _ (client p c .held)
+      not-member g _ (open-grants (related .clients c) (rw s refl) g ∙ sum-zero _ (client p c .held)
       (λ i h. ap one (first-none (λ j. eqb (grantPage p c j) g) (client p c .held) (omega (arith, r .ranges .held-ok c)) e i h)))
 
   some-grant : (c g : ℕ) → grantOf p c g ≢ none → 1 ≤ grantsOf p c g
@@ -74,74 +74,74 @@ module _ {p : Pool} {q : Sequential} (r : Reached p) (mirror : Mirrors p q) wher
       let h = sum-has (λ i. one (eqb (grantPage p c i) g)) (client p c .held) (grantOf p c g) (f .0) in
       omega (arith, ap one (eq-eqb _ _ (f .1)))
 
-  turned-alike : (x : Call) → refusal p x ≡ turnedBy q x
-  unfolding refusal refusalAt caller turnedBy
-  turned-alike (Begin c g) =
+  refusal-alike : (x : Call) → refusal p x ≡ seqRefusal q x
+  unfolding refusal refusalAt caller seqRefusal
+  refusal-alike (Begin c g) =
       chosen _ _ _ (valid-reached p r)
-      ∙ rw (mirror .count, mirror .takers c .stage)
+      ∙ rw (related .count, related .clients c .stage)
       (choose-alike (ltb c (clientCount p))
       (λ _. choose-alike (eqb (client p c .stage) 0) (λ s. full (eqb-true _ _ s)) (λ _. refl)) (λ _. refl))
     where
-      full : client p c .stage ≡ 0 → _≡_ {A = ℕ} (choose (ltb (client p c .held) 8) 0 12) (choose (ltb (length (taker q c .grants)) 8) 0 12)
-      full s = rw (open-many (mirror .takers c) (rw s refl)) refl
-  turned-alike (Step c) = chosen _ _ _ (valid-reached p r) ∙ rw (mirror .count, mirror .takers c .stage) refl
-  turned-alike (Release c g) =
+      full : client p c .stage ≡ 0 → _≡_ {A = ℕ} (choose (ltb (client p c .held) 8) 0 12) (choose (ltb (length (seqClient q c .grants)) 8) 0 12)
+      full s = rw (open-many (related .clients c) (rw s refl)) refl
+  refusal-alike (Step c) = chosen _ _ _ (valid-reached p r) ∙ rw (related .count, related .clients c .stage) refl
+  refusal-alike (Release c g) =
       chosen _ _ _ (valid-reached p r)
-      ∙ rw (mirror .count, mirror .takers c .stage)
+      ∙ rw (related .count, related .clients c .stage)
       (choose-alike (ltb c (clientCount p))
       (λ _. choose-alike (eqb (client p c .stage) 0) (λ s. asked (eqb-true _ _ s) (ℕ-discrete (grantOf p c g) none)) (λ _. refl)) (λ _. refl))
     where
       asked : client p c .stage ≡ 0 → Dec (grantOf p c g ≡ none)
-          → _≡_ {A = ℕ} (choose (eqb (grantOf p c g) none) 13 0) (choose (member g (taker q c .grants)) 0 13)
+          → _≡_ {A = ℕ} (choose (eqb (grantOf p c g) none) 13 0) (choose (member g (seqClient q c .grants)) 0 13)
       asked s (yes e) = chosen _ _ _ (eq-eqb _ _ e) ∙ sym (passed _ _ _ (no-grant c g s e))
       asked s (no z) =
           passed _ _ _ (ne-eqb _ _ z)
-          ∙ sym (chosen _ _ _ (is-member g _ (λ w. omega (arith, open-grants (mirror .takers c) (rw s refl) g, some-grant c g z))))
+          ∙ sym (chosen _ _ _ (is-member g _ (λ w. omega (arith, open-grants (related .clients c) (rw s refl) g, some-grant c g z))))
 
-  turned : (x : Call) (n : ℕ) → turnedBy q x ≡ n → n ≢ 0 → Followed q x (turnedDown n p)
-  turned x n e z = record { state = q; rule = turns e z; weighs = refl; mirrors = mirror }
+  turned-follows : (x : Call) (n : ℕ) → seqRefusal q x ≡ n → n ≢ 0 → Followed q x (turnedDown n p)
+  turned-follows x n e z = record { state = q; rule = turns-down e z; page-count = refl; related = related }
 
   -- ---- and make the same moves
 
   module _ (c : ℕ) (here : c < clientCount p) where
     acting : Acting p c q
-    acting = record { here = here; reached = r; mirror = mirror }
+    acting = record { here = here; reached = r; related = related }
 
     abbrev k : Client
     k = client p c
 
-    abbrev t : Taker
-    t = taker q c
+    abbrev t : SeqClient
+    t = seqClient q c
 
     abbrev few : (d : ℕ) → client p d .held ≤ 8
     few = r .ranges .held-ok
 
-    begun : (g : ℕ) → turnedBy q (Begin c g) ≡ 0 → k .stage ≡ 0 → Followed q (Begin c g) (moved p (Begin c g))
+    begun : (g : ℕ) → seqRefusal q (Begin c g) ≡ 0 → k .stage ≡ 0 → Followed q (Begin c g) (moved p (Begin c g))
     unfolding moveOf caller
     begun g e s =
         record {
           state = _;
           rule = begins e;
-          weighs = refl;
-          mirrors =
-              same-places acting m _ (keeps refl refl)
+          page-count = refl;
+          related =
+              same-slots acting m _ (grants-stay refl refl)
               (record {
                 stage = refl;
                 wants = λ _. refl;
-                many = open-many (mirror .takers c) (rw s refl) ∙ omega arith;
-                grants = λ h. open-grants (mirror .takers c) (rw s refl) h ∙ (sym (grantsOf-keeps p c m (r .shape) here few refl refl h) ∙ omega arith);
-              }) (as-was p c m r tt);
+                many = open-many (related .clients c) (rw s refl) ∙ omega arith;
+                grants = λ h. open-grants (related .clients c) (rw s refl) h ∙ (sym (grantsOf-keeps p c m (r .shape) here few refl refl h) ∙ omega arith);
+              }) (counters-view p c m r tt);
         }
       where
         m : Move
         m = beginMove k g
 
-    stepped : turnedBy q (Step c) ≡ 0 → k .stage ≢ 0 → Edge p c (moveOf p (Step c)) → Followed q (Step c) (moved p (Step c))
+    stepped : seqRefusal q (Step c) ≡ 0 → k .stage ≢ 0 → Edge p c (moveOf p (Step c)) → Followed q (Step c) (moved p (Step c))
     unfolding caller
-    stepped e busy w = let s = simulated acting busy w in record { state = _; rule = steps e (s .rule); weighs = s .weighs; mirrors = s .mirrors }
+    stepped e busy w = let s = simulated acting busy w in record { state = _; rule = steps e (s .rule); page-count = s .page-count; related = s .related }
 
     -- the last grant goes to the place of the one that ends
-    released : (g : ℕ) → turnedBy q (Release c g) ≡ 0 → k .stage ≡ 0 → grantOf p c g ≢ none → Followed q (Release c g) (moved p (Release c g))
+    released : (g : ℕ) → seqRefusal q (Release c g) ≡ 0 → k .stage ≡ 0 → grantOf p c g ≢ none → Followed q (Release c g) (moved p (Release c g))
     unfolding moveOf caller releaseMove
     released g e s z = by-test Ends (λ t. absurd (omega (arith, two, eqb-true n evicted t))) (λ _. ended)
       where
@@ -155,7 +155,7 @@ module _ {p : Pool} {q : Sequential} (r : Reached p) (mirror : Mirrors p q) wher
         n = pins p f
 
         Ends : Move → Type 0
-        Ends m = Followed q (Release c g) (did p c m)
+        Ends m = Followed q (Release c g) (outcomeOf p c m)
 
         m : Move
         m = completes g (holding k (k .held - 1)) (End i (k .held - 1)) (PutPins f (n - 1))
@@ -164,26 +164,26 @@ module _ {p : Pool} {q : Sequential} (r : Reached p) (mirror : Mirrors p q) wher
         found = grantOf-found p c g z
 
         two : pinned 1 ≤ n
-        two = grant-live p r c i (r .outline .grant-named c i (found .0))
+        two = grant-pinned p r c i (r .mapping .grant-named c i (found .0))
 
         some : times g (t .grants) ≢ 0
-        some w = omega (arith, open-grants (mirror .takers c) (rw s refl) g, some-grant c g z)
+        some w = omega (arith, open-grants (related .clients c) (rw s refl) g, some-grant c g z)
 
         fewer : (h : ℕ) → times h (without g (t .grants)) ≡ grantsOf (apply p c m) c h
         fewer h =
             let now = grantsOf-ends p c m (r .shape) here few i refl refl (found .0) h in
-            omega (arith, without-times g h (t .grants) some, open-grants (mirror .takers c) (rw s refl) h, ap (λ (x : ℕ). one (eqb x h)) (found .1))
+            omega (arith, without-times g h (t .grants) some, open-grants (related .clients c) (rw s refl) h, ap (λ (x : ℕ). one (eqb x h)) (found .1))
 
         ended : Ends m
         ended =
             record {
               state = _;
               rule = releases e;
-              weighs = refl;
-              mirrors =
-                  same-places acting m _ (ends i refl refl (found .0))
-                  (rests s (omega (arith, without-length g (t .grants) some, open-many (mirror .takers c) (rw s refl))) fewer)
-                  (pins-put p c m r f (n - 1) refl (pins-in p f (λ w. omega (arith, two)))
+              page-count = refl;
+              related =
+                  same-slots acting m _ (grant-ends i refl refl (found .0))
+                  (related-resting s (omega (arith, without-length g (t .grants) some, open-many (related .clients c) (rw s refl))) fewer)
+                  (pins-view p c m r f (n - 1) refl (pins-in p f (λ w. omega (arith, two)))
                   (inl (ne-eqb (n - 1) evicted (λ w. omega (arith, two)) ∙ sym (ne-eqb n evicted (λ w. omega (arith, two))))));
             }
 
@@ -191,9 +191,9 @@ module _ {p : Pool} {q : Sequential} (r : Reached p) (mirror : Mirrors p q) wher
 
   made : (x : Call) → refusal p x ≡ 0 → Followed q x (moved p x)
   unfolding caller
-  made x e = go x (allowed p x e) (sym (turned-alike x) ∙ e) (call-edge p x r e .1)
+  made x e = go x (allowed p x e) (sym (refusal-alike x) ∙ e) (call-edge p x r e .1)
     where
-      go : (x : Call) → Allowed p x → turnedBy q x ≡ 0 → Edge p (caller x) (moveOf p x) → Followed q x (moved p x)
+      go : (x : Call) → Allowed p x → seqRefusal q x ≡ 0 → Edge p (caller x) (moveOf p x) → Followed q x (moved p x)
       go (Begin c g) a n w = begun c (a .here) g n (may-begin p (client p c) c g (a .may) .0)
       go (Step c) a n w = stepped c (a .here) n (may-step p (client p c) c (a .may)) w
       go (Release c g) a n w = let s = may-release p (client p c) c g (a .may) in released c (a .here) g n (s .0) (s .1)
@@ -203,4 +203,4 @@ module _ {p : Pool} {q : Sequential} (r : Reached p) (mirror : Mirrors p q) wher
     where
       go : Dec (refusal p x ≡ 0) → Followed q x (callOf p x)
       go (yes e) = rw (call-moves p x r e) (made x e)
-      go (no z) = rw (call-turned p x (refusal p x) refl z) (turned x (refusal p x) (sym (turned-alike x)) z)
+      go (no z) = rw (call-turned-down p x (refusal p x) refl z) (turned-follows x (refusal p x) (sym (refusal-alike x)) z)

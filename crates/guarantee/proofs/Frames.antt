@@ -10,37 +10,37 @@ use Rattle.pool.specs.State.{none, pinned, clientCount, pins, client, grantFram
 use Rattle.pool.specs.Grants.{holds, held}
 use Rattle.pool.specs.declared.Pool.{Pool}
 use Rattle.pool.specs.declared.Client.{Client}
-use Rattle.invariant.proofs.Reached.{Reached, mapped, pinsFound, Knows, Live}
+use Rattle.invariant.proofs.Reached.{Reached, mapped, pinsFound, Knows, FoundMapped}
 use Rattle.laws.specs.Scans.{some-true}
-use Rattle.invariant.proofs.Never.{know}
-use Rattle.invariant.proofs.Facts.{grant-live, found-live}
+use Rattle.invariant.proofs.NeverFails.{know}
+use Rattle.invariant.proofs.Facts.{grant-pinned, found-pinned}
 use Rattle.invariant.proofs.Table.{mapped-lookup}
 use Rattle.guarantee.specs.Claims.{HeldPinned}
 
 -- a held frame has a grant
 pub record Grant (p : Pool) (f : ℕ) : Type 0 where
   pub client-of : ℕ
-  pub place : ℕ
-  pub inside : place < client p client-of .held
-  pub names : grantFrame p client-of place ≡ f
+  pub index : ℕ
+  pub inside : index < client p client-of .held
+  pub names : grantFrame p client-of index ≡ f
 
 pub held-grant : (p : Pool) (f : ℕ) → held p f ≡ true → Grant p f
 unfolding held holds
 held-grant p f h =
     let c = some-true (holds p f) (clientCount p) h in
     let i = some-true (λ j. eqb (grantFrame p (c .0) j) f) (client p (c .0) .held) (c .2) in
-    record { client-of = c .0; place = i .0; inside = i .1; names = eqb-true _ _ (i .2) }
+    record { client-of = c .0; index = i .0; inside = i .1; names = eqb-true _ _ (i .2) }
 
 pub held-pinned : (p : Pool) → Reached p → HeldPinned p
 held-pinned p r f h =
     let g = held-grant p f h in
-    rw (g .names) at (grant-live p r (g .client-of) (g .place) (r .outline .grant-named (g .client-of) (g .place) (g .inside)))
+    rw (g .names) at (grant-pinned p r (g .client-of) (g .index) (r .mapping .grant-named (g .client-of) (g .index) (g .inside)))
 
 module _ (p : Pool) (r : Reached p) where
   -- a page has one frame
   pub same-frame : (f h g : ℕ) → f ≢ none → h ≢ none → mapped p f ≡ suc g → mapped p h ≡ suc g → f ≡ h
   same-frame f h g a b x y =
-      let frame-of = mapped-lookup p (r .shape) (r .outline .pages-apart) in
+      let frame-of = mapped-lookup p (r .shape) (r .mapping .pages-distinct) in
       sym (frame-of f g a x .1) ∙ frame-of h g b y .1
 
   module _ (c : ℕ) (e : pinsFound (client p c .stage) ≡ true) where
@@ -48,8 +48,8 @@ module _ (p : Pool) (r : Reached p) where
     k = client p c
 
     -- a client for which its found frame is pinned: the frame is its page's
-    pub live-found : Live p k
-    live-found = go (eqb s 3) (eqb s 20) (eqb s 21) refl refl refl e
+    pub found-mapped : FoundMapped p k
+    found-mapped = go (eqb s 3) (eqb s 20) (eqb s 21) refl refl refl e
       where
         s : ℕ
         s = k .stage
@@ -57,11 +57,11 @@ module _ (p : Pool) (r : Reached p) where
         at : (i : ℕ) → eqb s i ≡ true → Knows i p k
         at i t = know p r c i (eqb-true s i t)
 
-        go : (x y z : Bool) → eqb s 3 ≡ x → eqb s 20 ≡ y → eqb s 21 ≡ z → x || y || z ≡ true → Live p k
+        go : (x y z : Bool) → eqb s 3 ≡ x → eqb s 20 ≡ y → eqb s 21 ≡ z → x || y || z ≡ true → FoundMapped p k
         go true y z a b d u = at 3 a
         go false true z a b d u = at 20 b .1
         go false false true a b d u = at 21 d
         go false false false a b d u = absurd (true≢false (sym u))
 
-    pub found-pinned : pinned 1 ≤ pins p (k .found)
-    found-pinned = found-live p r c (rw e tt) (live-found .0)
+    pub found-has-pin : pinned 1 ≤ pins p (k .found)
+    found-has-pin = found-pinned p r c (rw e tt) (found-mapped .0)

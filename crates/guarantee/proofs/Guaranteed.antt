@@ -12,7 +12,7 @@ use Rattle.pool.specs.declared.Pool.{Pool}
 use Rattle.invariant.proofs.Reached.{Reached}
 use Rattle.invariant.proofs.After.{client-here}
 use Rattle.invariant.proofs.Valid.{valid-reached}
-use Rattle.invariant.proofs.Never.{finds}
+use Rattle.invariant.proofs.NeverFails.{finds}
 use Rattle.guarantee.specs.Claims.{Claim-point3, Claim-answers, Guarantee}
 use Rattle.guarantee.proofs.Along.{throughout}
 use Rattle.guarantee.proofs.Copies.{one-copies, helds-pinned, no-held-evicted}
@@ -22,14 +22,14 @@ use Rattle.guarantee.proofs.Once.{taken-out-once}
 use Rattle.guarantee.proofs.OneEffect.{one-effect}
 use Rattle.guarantee.proofs.Alone.{refused-alone}
 use Rattle.guarantee.proofs.Listed.{listed}
-use Rattle.guarantee.proofs.Turned.{turned, refused}
-use Rattle.guarantee.proofs.Solo.{limits}
-use Rattle.guarantee.proofs.Start.{starts}
+use Rattle.guarantee.proofs.TurnedDown.{turned-down, refused}
+use Rattle.guarantee.proofs.Limits.{limits}
+use Rattle.guarantee.proofs.SetupDone.{setup-done}
 
 point3 : Claim-point3
 point3 s t c h e calls =
     let p = setupOf s t c h .pool in
-    let r = starts s t c h e .reached in
+    let r = setup-done s t c h e .reached in
     record {
       one-copy = one-copies p calls r;
       no-held-evicted = no-held-evicted p calls r;
@@ -47,7 +47,7 @@ finds-frame p r d at4 = finds p r d (client-here p (λ k. k .stage ≡ 4) d at4 
 answers : Claim-answers
 answers s t c h e calls =
     let p = setupOf s t c h .pool in
-    let r = starts s t c h e .reached in
+    let r = setup-done s t c h e .reached in
     record {
       in-range = throughout (λ q. valid q ≡ true) valid-reached p calls r;
       finds = throughout (λ q. (d : ℕ) → client q d .stage ≡ 4 → freeFrame q < total q) finds-frame p calls r;
@@ -55,4 +55,4 @@ answers s t c h e calls =
     }
 
 pub guarantee : Guarantee
-guarantee = record { point3 = point3; answers = answers; turned = turned; refused = refused; sum = sum; limits = limits }
+guarantee = record { point3 = point3; answers = answers; turned-down = turned-down; refused = refused; sum = sum; limits = limits }

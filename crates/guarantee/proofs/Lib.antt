@@ -1,19 +1,19 @@
 -- The proofs of specs/Claims.antt, in reading order. All of them rest on the invariant, `Reached`, of crate `invariant`.
 -- every pool of a run is reached, from the setup on, and what holds of reached pools holds along the run
-pub mod Start
+pub mod SetupDone
 pub mod Along
 -- what a call answers, by stage, of every pool; that it is turned down or is one move; the listed answers
 pub mod Stages
-pub mod Turned
+pub mod TurnedDown
 pub mod Listed
--- claim d: the sequential pool that mirrors a pool, its pages, its clients, its number of pages
-pub mod Mirror
+-- claim d: the simulation relation; the sequential pool's pages, its clients, its number of pages
+pub mod SimulationRelation
 pub mod Frames
 pub mod Pages
-pub mod Takers
-pub mod Weights
--- what each write shows of the places; each move is a step of the sequential pool; so each call and each list of calls
-pub mod Shown
+pub mod SeqClients
+pub mod PageCount
+-- the view after each write; each move is a step of the sequential pool; so each call and each list of calls
+pub mod ViewAfter
 pub mod Simulate
 pub mod SimulateMoves
 pub mod Follow
@@ -27,11 +27,11 @@ pub mod Once
 pub mod OneClient
 pub mod OneEffect
 -- a client stepped alone: its moves, the limits, the sweep, and claim e
-pub mod SoloSteps
-pub mod Solo
+pub mod AloneSteps
+pub mod Limits
 pub mod Sweep
-pub mod Base
-pub mod Path
+pub mod SinceBegin
+pub mod RunAlone
 pub mod Alone
 -- the premises of the claims can be met; all of it, as the record `Guarantee`
 pub mod Witness

@@ -20,13 +20,13 @@ use Rattle.pool.specs.declared.Call.the-variants.{Begin, Step, Release}
 use Rattle.pool.specs.declared.Answer.the-variants.{Refused}
 use Rattle.laws.specs.Choices.{by-test}
 use Rattle.invariant.proofs.Reached.{Knows, Reached}
-use Rattle.invariant.proofs.Flags.{and-parts}
-use Rattle.invariant.proofs.Calls.{never-stuck, call-moves, call-turned, refusal-not-8}
+use Rattle.invariant.proofs.StageTests.{and-parts}
+use Rattle.invariant.proofs.Calls.{never-stuck, call-moves, call-turned-down, refusal-not-8}
 use Rattle.guarantee.specs.Runs.{Event, events, At}
 use Rattle.guarantee.specs.Claims.{Listed}
 use Rattle.guarantee.proofs.Along.{at-some}
-use Rattle.guarantee.proofs.Stages.{granting, among, given, on-edges, on-grants, goes, grants, refuses, sticks, fits}
-use Rattle.guarantee.proofs.Turned.{ends, halts, released}
+use Rattle.guarantee.proofs.Stages.{granting, among, given, on-successors, on-grants, goes, grants, refuses, sticks, stage-answer}
+use Rattle.guarantee.proofs.TurnedDown.{is-done, is-stuck, done-or-stuck}
 
 -- the numbers that a call is turned down by, 8 aside
 record Numbered (p : Pool) (x : Call) (n : ℕ) : Type 0 where
@@ -56,7 +56,7 @@ given-in : (p : Pool) (c : ℕ) → Reached p → T (among (client p c .stage) g
 given-in p c r h =
     on-grants (λ i. Knows i p k → given i k < total p)
     (λ w. r .ranges .found-ok c (w .0)) (λ w. r .ranges .own-ok c (w .0)) (λ w. r .ranges .found-ok c (w .0)) (λ w. r .ranges .own-ok c (w .0 .0))
-    (k .stage) h (r .outline .knowing c)
+    (k .stage) h (r .mapping .knowing c)
   where
     k : Client
     k = client p c
@@ -65,11 +65,11 @@ listed-move : (p : Pool) (x : Call) → Reached p → refusalOf (moveOf p x .ans
 unfolding moveOf refusalOf Listed
 listed-move p (Begin c g) r z = inl refl
 listed-move p (Release c g) r z =
-    elim (released p c g) [ ends e _ ↦ inl e | halts e ↦ absurd (z (ap (λ (m : Move). refusalOf (m .answer)) e)) ]
+    elim (done-or-stuck p c g) [ is-done e _ ↦ inl e | is-stuck e ↦ absurd (z (ap (λ (m : Move). refusalOf (m .answer)) e)) ]
 listed-move p (Step c) r z =
-    elim (fits p (client p c)) [
+    elim (stage-answer p (client p c)) [
       | goes j l e _ ↦
-          let t = and-parts (leb 1 j) (leb j 23) (on-edges (λ i j. leb 1 j && leb j 23) tt (client p c .stage) j l) in
+          let t = and-parts (leb 1 j) (leb j 23) (on-successors (λ i j. leb 1 j && leb j 23) tt (client p c .stage) j l) in
           inl (j, e, leb→le 1 j (t .0), leb→le j 23 (t .1))
       | grants f l w e _ ↦ inr (inl (f, e, rw w (given-in p c r l)))
       | refuses e ↦ inr (inr (inr (inr (ap (λ (m : Move). m .answer) e))))
@@ -80,7 +80,7 @@ listed-call : (p : Pool) (x : Call) → Reached p → Listed p x (callOf p x .an
 listed-call p x r =
     elim (ℕ-discrete (refusal p x) 0) [
       | yes e ↦ is (call-moves p x r e) (listed-move p x r (never-stuck p x r e))
-      | no z ↦ is (call-turned p x (refusal p x) refl z) (numbered p x .is z (refusal-not-8 p x r))
+      | no z ↦ is (call-turned-down p x (refusal p x) refl z) (numbered p x .is z (refusal-not-8 p x r))
     ]
   where
     is : {o : Outcome} → callOf p x ≡ o → Listed p x (o .answer) → Listed p x (callOf p x .answer)

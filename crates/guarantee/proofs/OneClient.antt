@@ -19,45 +19,46 @@ use Rattle.invariant.proofs.Reached.{Shape, Reached}
 use Rattle.invariant.proofs.After.{client-same, client-other}
 use Rattle.invariant.proofs.Allowed.{Allowed, allowed, may-step}
 use Rattle.invariant.proofs.Calls.{reached-call}
-use Rattle.guarantee.specs.Runs.{happens, events, At, Begins}
+use Rattle.guarantee.specs.Runs.{eventOf, events, At, Begins}
 use Rattle.guarantee.specs.Claims.{AnswersTo, TurnedDown}
-use Rattle.guarantee.proofs.Turned.{same-answer, same-stage, other-answer, other-call, moved, Went, down, by-move, went, down-by, ends, halts, released}
+use Rattle.guarantee.proofs.TurnedDown.{same-answer, same-stage, other-answer, other-call, moved, TurnedOrMove, turned, one-move, turned-or-move}
+use Rattle.guarantee.proofs.TurnedDown.{turned-down-not-15, is-done, is-stuck, done-or-stuck}
 
 refused-same : {m n : ℕ} → Refused m ≡ Refused n → m ≡ n
 unfolding refusalOf
 refused-same e = ap refusalOf e
 
--- ---- the view
+-- ---- the client after a call
 
-pub data Seen (p : Pool) (x : Call) (c : ℕ) : Type 0 where
-  same : client (callOf p x .pool) c ≡ client p c → (caller x ≡ c → TurnedDown (happens p x)) → Seen p x c
-  mine : caller x ≡ c → Allowed p x → callOf p x ≡ moved p x → client (callOf p x .pool) c ≡ moveOf p x .next → Seen p x c
+pub data ClientAfter (p : Pool) (x : Call) (c : ℕ) : Type 0 where
+  same : client (callOf p x .pool) c ≡ client p c → (caller x ≡ c → TurnedDown (eventOf p x)) → ClientAfter p x c
+  mine : caller x ≡ c → Allowed p x → callOf p x ≡ moved p x → client (callOf p x .pool) c ≡ moveOf p x .next → ClientAfter p x c
 
-pub seen : (p : Pool) (x : Call) (c : ℕ) → Shape p → Seen p x c
-seen p x c s = go (went p x) (ℕ-discrete c (caller x))
+pub client-after : (p : Pool) (x : Call) (c : ℕ) → Shape p → ClientAfter p x c
+client-after p x c s = go (turned-or-move p x) (ℕ-discrete c (caller x))
   where
-    go : Went p x (callOf p x) → Dec (c ≡ caller x) → Seen p x c
-    go (down n z e) _ = same (ap (λ (o : Outcome). client (o .pool) c) e) (λ _. (n, same-answer e, down-by p x n z))
-    go (by-move r _ e) (no q) = same (ap (λ (o : Outcome). client (o .pool) c) e ∙ client-other p (caller x) (moveOf p x) c q) (λ w. absurd (q (sym w)))
-    go (by-move r _ e) (yes q) =
+    go : TurnedOrMove p x (callOf p x) → Dec (c ≡ caller x) → ClientAfter p x c
+    go (turned n z e) _ = same (ap (λ (o : Outcome). client (o .pool) c) e) (λ _. (n, same-answer e, turned-down-not-15 p x n z))
+    go (one-move r _ e) (no q) = same (ap (λ (o : Outcome). client (o .pool) c) e ∙ client-other p (caller x) (moveOf p x) c q) (λ w. absurd (q (sym w)))
+    go (one-move r _ e) (yes q) =
         let a = allowed p x r in
         mine (sym q) a e (ap (λ (o : Outcome). client (o .pool) c) e ∙ (ap (client (moved p x .pool)) q ∙ client-same p (caller x) (moveOf p x) s (a .here)))
 
 -- ---- a resting client: it rests on, or its begin is done; its steps are turned down
 
-abbrev Rests : Pool → Call → ℕ → Type 0
-Rests p x c = ((client (callOf p x .pool) c .stage ≡ 0) × (x ≡ Step c → TurnedDown (happens p x))) ⊎ Begins c (happens p x)
+abbrev RestsOrBegins : Pool → Call → ℕ → Type 0
+RestsOrBegins p x c = ((client (callOf p x .pool) c .stage ≡ 0) × (x ≡ Step c → TurnedDown (eventOf p x))) ⊎ Begins c (eventOf p x)
 
-rests : (p : Pool) (x : Call) (c : ℕ) → Shape p → client p c .stage ≡ 0 → Rests p x c
+rests-or-begins : (p : Pool) (x : Call) (c : ℕ) → Shape p → client p c .stage ≡ 0 → RestsOrBegins p x c
 unfolding caller moveOf
-rests p x c s z = go x (seen p x c s)
+rests-or-begins p x c s z = go x (client-after p x c s)
   where
-    go : (x : Call) → Seen p x c → Rests p x c
+    go : (x : Call) → ClientAfter p x c → RestsOrBegins p x c
     go x (same e d) = inl (same-stage e ∙ z, λ q. d (ap caller q))
     go (Begin d g) (mine e a o n) = inr (g, ap (λ (i : ℕ). Begin i g) e, same-answer o)
     go (Step d) (mine e a o n) = absurd (may-step p (client p d) d (a .may) (ap (λ (i : ℕ). client p i .stage) e ∙ z))
     go (Release d g) (mine e a o n) =
-        inl (same-stage n ∙ (elim (released p d g) [ ends _ q ↦ q ∙ zd | halts q ↦ ap (λ (m : Move). m .next .stage) q ∙ zd ]), λ q. other-call q tt)
+        inl (same-stage n ∙ (elim (done-or-stuck p d g) [ is-done _ q ↦ q ∙ zd | is-stuck q ↦ ap (λ (m : Move). m .next .stage) q ∙ zd ]), λ q. other-call q tt)
       where
         zd : client p d .stage ≡ 0
         zd = ap (λ (i : ℕ). client p i .stage) e ∙ z
@@ -68,11 +69,11 @@ pub rest-unanswered : (p : Pool) (calls : List Call) → Reached p → (c n : �
 unfolding events At
 rest-unanswered p [] r c n z nb a = a
 rest-unanswered p (x ∷ calls) r c zero z nb a =
-    elim (rests p x c (r .shape) z) [ inl w ↦ not-both (w .1 (a .0)) (a .1) | inr b ↦ other-call (sym (b .1) ∙ a .0) tt ]
+    elim (rests-or-begins p x c (r .shape) z) [ inl w ↦ not-both (w .1 (a .0)) (a .1) | inr b ↦ other-call (sym (b .1) ∙ a .0) tt ]
   where
-    not-both : TurnedDown (happens p x) → ((f : ℕ) × (callOf p x .answer ≡ Granted f)) ⊎ (callOf p x .answer ≡ Refused 15) → ⊥
+    not-both : TurnedDown (eventOf p x) → ((f : ℕ) × (callOf p x .answer ≡ Granted f)) ⊎ (callOf p x .answer ≡ Refused 15) → ⊥
     not-both t (inl g) = other-answer (sym (t .1) ∙ g .1) tt
     not-both t (inr g) = t .2 (refused-same (sym (t .1) ∙ g))
 rest-unanswered p (x ∷ calls) r c (suc n) z nb a =
     let ih = rest-unanswered (callOf p x .pool) calls (reached-call p x r) c n in
-    elim (rests p x c (r .shape) z) [ inl w ↦ ih (w .0) (λ m l. nb (suc m) (omega arith)) a | inr b ↦ nb 0 (omega arith) b ]
+    elim (rests-or-begins p x c (r .shape) z) [ inl w ↦ ih (w .0) (λ m l. nb (suc m) (omega arith)) a | inr b ↦ nb 0 (omega arith) b ]

@@ -1,4 +1,4 @@
--- The sequential pool's pages with their frames are exactly the resident ones with theirs: a place shows a slot's frame if it is resident, and every
+-- The sequential pool's pages with their frames are exactly the resident ones with theirs: a slot of it shows a slot's frame if that is resident, and every
 -- resident frame stands in a slot. Assumes nothing.
 use mathlib.Core.Path.{_≡_, refl, sym, ap, _∙_}
 use mathlib.Core.Logic.{_≢_}
@@ -11,21 +11,21 @@ use Rattle.pool.specs.Table.{lookup, resident}
 use Rattle.pool.specs.declared.Pool.{Pool}
 use Rattle.invariant.proofs.Reached.{Reached, mapped}
 use Rattle.invariant.proofs.Table.{suc-not, lookup-mapped, mapped-lookup}
-use Rattle.invariant.proofs.Searches.{live-named}
+use Rattle.invariant.proofs.Searches.{pins-named}
 use Rattle.guarantee.specs.Sequential.{Sequential, Keeps}
 use Rattle.guarantee.specs.Claims.{SamePages}
-use Rattle.guarantee.proofs.Mirror.{seen, seen-full, Shows, seen-shows, Mirrors}
+use Rattle.guarantee.proofs.SimulationRelation.{viewFrame, view-mapped, ResidentFrame, view-resident, SimulationRelation}
 
-module _ {p : Pool} {q : Sequential} (r : Reached p) (mirror : Mirrors p q) where
+module _ {p : Pool} {q : Sequential} (r : Reached p) (related : SimulationRelation p q) where
   -- a resident frame's page is there
-  pub there : {f g : ℕ} → f ≢ none → pins p f ≢ evicted → mapped p f ≡ suc g → Keeps q g f
-  there {f} {g} z live e =
-      let s = r .outline .resident f z live (suc-not e) in
-      (s .0, mirror .places (s .0) ∙ (ap (seen p) (s .1) ∙ seen-full p f live e))
+  pub page-there : {f g : ℕ} → f ≢ none → pins p f ≢ evicted → mapped p f ≡ suc g → Keeps q g f
+  page-there {f} {g} z live e =
+      let s = r .mapping .resident-in-slot f z live (suc-not e) in
+      (s .0, related .slots (s .0) ∙ (ap (viewFrame p) (s .1) ∙ view-mapped p f live e))
 
   -- a page that is there is a resident frame's
-  pub shows : {g f : ℕ} → (h : Keeps q g f) → Shows p (slot p (h .0)) g f
-  shows h = seen-shows p (slot p (h .0)) (sym (mirror .places (h .0)) ∙ h .1)
+  pub page-resident : {g f : ℕ} → (h : Keeps q g f) → ResidentFrame p (slot p (h .0)) g f
+  page-resident h = view-resident p (slot p (h .0)) (sym (related .slots (h .0)) ∙ h .1)
 
   pub same-pages : SamePages p q
   unfolding resident
@@ -33,13 +33,13 @@ module _ {p : Pool} {q : Sequential} (r : Reached p) (mirror : Mirrors p q) wher
     where
       to : Keeps q g f → (not (eqb (pins p (lookup p g)) evicted) ≡ true) × (lookup p g ≡ f)
       to h =
-          let v = shows h in
+          let v = page-resident h in
           let s : ℕ = slot p (h .0) in
-          let e : lookup p g ≡ s = mapped-lookup p (r .shape) (r .outline .pages-apart) s g (live-named p (r .shape) s (v .live)) (v .entry) .1 in
-          (rw (e, ne-eqb (pins p s) evicted (v .live)) refl, e ∙ v .frame)
+          let e : lookup p g ≡ s = mapped-lookup p (r .shape) (r .mapping .pages-distinct) s g (pins-named p (r .shape) s (v .not-evicted)) (v .entry) .1 in
+          (rw (e, ne-eqb (pins p s) evicted (v .not-evicted)) refl, e ∙ v .frame)
 
       back : (not (eqb (pins p (lookup p g)) evicted) ≡ true) × (lookup p g ≡ f) → Keeps q g f
       back (h, e) =
           let live : pins p (lookup p g) ≢ evicted = eqb-false _ _ (not-true _ h) in
-          let z = live-named p (r .shape) (lookup p g) live in
-          rw e at (there z live (lookup-mapped p (r .shape) (r .outline .entries-apart) g z))
+          let z = pins-named p (r .shape) (lookup p g) live in
+          rw e at (page-there z live (lookup-mapped p (r .shape) (r .mapping .entries-distinct) g z))

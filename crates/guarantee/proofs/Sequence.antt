@@ -1,4 +1,4 @@
--- The sequential pool follows every list of calls: it mirrors the fresh pool when both are empty, and each call leaves two pools that are alike again
+-- The sequential pool follows every list of calls: it is related to the fresh pool when both are empty, and each call leaves two pools that are related again
 -- (`Follow`). Assumes nothing.
 use mathlib.Core.Path.{_≡_, refl, ap}
 use mathlib.Core.Bool.{true}
@@ -13,21 +13,21 @@ use Rattle.pool.specs.declared.Pool.{Pool}
 use Rattle.pool.specs.declared.Call.{Call}
 use Rattle.pool.specs.declared.Answer.the-variants.{Done}
 use Rattle.invariant.proofs.Reached.{Reached}
-use Rattle.invariant.proofs.Setup.{pins-none, rests}
+use Rattle.invariant.proofs.Setup.{setup-evicted, setup-rests}
 use Rattle.invariant.proofs.Calls.{reached-call}
-use Rattle.guarantee.specs.Sequential.{Sequential, empty, resting, start}
-use Rattle.guarantee.specs.Claims.{Follows, ends, goes}
-use Rattle.guarantee.proofs.Mirror.{seen, seen-evicted, Mirrors, upTo, downFrom, viewTaker, view, mirrors-view}
+use Rattle.guarantee.specs.Sequential.{Sequential, empty, seqResting, start}
+use Rattle.guarantee.specs.Claims.{Follows, at-end, at-call}
+use Rattle.guarantee.proofs.SimulationRelation.{viewFrame, view-evicted, SimulationRelation, upTo, downFrom, viewClient, view, view-related}
 use Rattle.guarantee.proofs.Pages.{same-pages}
-use Rattle.guarantee.proofs.Start.{starts}
+use Rattle.guarantee.proofs.SetupDone.{setup-done}
 use Rattle.guarantee.proofs.Follow.{followed}
 
--- from any pool that the sequential pool mirrors
-follows-on : {p : Pool} {q : Sequential} (calls : List Call) → Reached p → Mirrors p q → Follows p q calls
-follows-on [] r mirror = ends (same-pages r mirror) (λ c. mirror .takers c .stage)
-follows-on {p} {q} (x ∷ calls) r mirror =
-    let f = followed r mirror x in
-    goes (same-pages r mirror) (λ c. mirror .takers c .stage) (f .rule) (follows-on calls (reached-call p x r) (f .mirrors))
+-- from any two pools that are related
+follows-on : {p : Pool} {q : Sequential} (calls : List Call) → Reached p → SimulationRelation p q → Follows p q calls
+follows-on [] r related = at-end (same-pages r related) (λ c. related .clients c .stage)
+follows-on {p} {q} (x ∷ calls) r related =
+    let f = followed r related x in
+    at-call (same-pages r related) (λ c. related .clients c .stage) (f .rule) (follows-on calls (reached-call p x r) (f .related))
 
 -- ---- from setup
 
@@ -37,24 +37,24 @@ all-same f zero a e = refl
 all-same f (suc n) a e = rw (e 0) (ap (λ (l : List _). a ∷ l) (all-same (λ i. f (suc i)) n a (λ i. e (suc i))))
 
 view-start : (s t c h : ℕ) → numbersOk s t c ≡ true → view (fresh s t c h) ≡ start s t
-unfolding view viewTaker downFrom choose
-view-start s t c h ok = λ i. record { places = all-same _ s empty vacant i; takers = all-same _ t (resting []) idle i }
+unfolding view viewClient downFrom choose
+view-start s t c h ok = λ i. record { slots = all-same _ s empty vacant i; clients = all-same _ t (seqResting []) idle i }
   where
     p : Pool
     p = fresh s t c h
 
-    vacant : (i : ℕ) → seen p (slot p i) ≡ empty
-    vacant i = seen-evicted p (slot p i) (pins-none s t c h ok (slot p i))
+    vacant : (i : ℕ) → viewFrame p (slot p i) ≡ empty
+    vacant i = view-evicted p (slot p i) (setup-evicted s t c h ok (slot p i))
 
-    idle : (d : ℕ) → viewTaker (client p d) (downFrom (grantPage p d) (client p d .held)) ≡ resting []
-    idle d = rw (rests s t c h ok d) refl
+    idle : (d : ℕ) → viewClient (client p d) (downFrom (grantPage p d) (client p d .held)) ≡ seqResting []
+    idle d = rw (setup-rests s t c h ok d) refl
 
--- at a setup that is done the sequential pool that has just started mirrors the pool
-pub mirrors-start : (s t c h : ℕ) → setupOf s t c h .answer ≡ Done s → Mirrors (setupOf s t c h .pool) (start s t)
-mirrors-start s t c h e =
-    let first = starts s t c h e in
+-- at a setup that is done the sequential pool that has just started is related to the pool
+pub start-related : (s t c h : ℕ) → setupOf s t c h .answer ≡ Done s → SimulationRelation (setupOf s t c h .pool) (start s t)
+start-related s t c h e =
+    let first = setup-done s t c h e in
     let shape = rw (first .fresh-pool) at (first .reached .shape) in
-    rw (first .fresh-pool) (rw (view-start s t c h (first .ok)) at (mirrors-view (fresh s t c h) shape))
+    rw (first .fresh-pool) (rw (view-start s t c h (first .ok)) at (view-related (fresh s t c h) shape))
 
 pub sequential : (s t c h : ℕ) → setupOf s t c h .answer ≡ Done s → (calls : List Call) → Follows (setupOf s t c h .pool) (start s t) calls
-sequential s t c h e calls = follows-on calls (starts s t c h e .reached) (mirrors-start s t c h e)
+sequential s t c h e calls = follows-on calls (setup-done s t c h e .reached) (start-related s t c h e)

@@ -1,5 +1,5 @@
--- A move of the pool as a step of the sequential pool that mirrors it. Each is one of six kinds: it is quiet, adds a grant, answers one, admits a
--- page, drops a page, or refuses; and each write leaves every place as it was, or changes one. The premises of the sequential rules are clauses of the
+-- A move of the pool as a step of a related sequential pool. Each is one of six kinds: it only continues, adds a grant, answers one, admits a
+-- page, drops a page, or refuses; and each write leaves the view of every slot, or changes one. The premises of the sequential rules are clauses of the
 -- invariant: the wanted page is there because its frame is not evicted, absent because the look-up finds none or an evicted frame, and a dropped page
 -- has no grants because its frame has no pins. Assumes nothing.
 use mathlib.Core.Path.{_≡_, refl, sym, ap, _∙_}
@@ -22,38 +22,40 @@ use Rattle.pool.specs.declared.Counted.{Counted}
 use Rattle.pool.specs.declared.Counted.the-variants.{Nothing, Drop}
 use Rattle.pool.specs.declared.GrantChange.the-variants.{Same}
 use Rattle.pool.specs.declared.Write.the-variants.{PutPins, PutEntry}
-use Rattle.invariant.proofs.Reached.{Reached, one, mapped, pinsFound, Seated, Live, Placed, Orphan}
+use Rattle.invariant.proofs.Reached.{Reached, one, mapped, pinsFound, InSlot, FoundMapped, Placed, Orphan}
 use Rattle.invariant.proofs.After.{client-same, client-other, pins-in}
-use Rattle.invariant.proofs.Writes.{silent}
+use Rattle.invariant.proofs.Writes.{countersOnly}
 use Rattle.invariant.proofs.Sums.{sum-zero}
-use Rattle.invariant.proofs.Facts.{own-pins, grant-live}
-use Rattle.invariant.proofs.Grants.{grantsOf, Granting, keeps, opens, grantsOf-other, grantsOf-keeps, grantsOf-opens}
+use Rattle.invariant.proofs.Facts.{own-pins, grant-pinned}
+use Rattle.invariant.proofs.Grants.{grantsOf, GrantsOk, grants-stay, grant-opens, grantsOf-other, grantsOf-keeps, grantsOf-opens}
 use Rattle.invariant.proofs.Table.{suc-not, some-suc}
-use Rattle.invariant.proofs.Searches.{live-named}
-use Rattle.guarantee.specs.Sequential.{Place, empty, holds, Taker, Sequential, place, resting, taker, member, Absent, Unused, adding, admitting}
-use Rattle.guarantee.specs.Sequential.{answering, StepRule, adds, admits, drops, answers, moves, refuses}
-use Rattle.guarantee.proofs.Mirror.{seen, seen-unmapped, seen-full, not-member, Taken, open-many, open-grants, taken-as, Mirrors}
-use Rattle.guarantee.proofs.Takers.{Outward, outward, working, gotten, denied, Quiet, Stays, Gets, rests, stays, pins-more, answered, admitted}
-use Rattle.guarantee.proofs.Frames.{same-frame, live-found, found-pinned}
-use Rattle.guarantee.proofs.Pages.{there, shows}
-use Rattle.guarantee.proofs.Weights.{full, kept-set, gained, lost, Weighs}
-use Rattle.guarantee.proofs.Shown.{Kept, Changed, as-was, pins-put, pins-out, entry-new}
+use Rattle.invariant.proofs.Searches.{pins-named}
+use Rattle.guarantee.specs.Sequential.{SeqSlot, empty, stores, SeqClient, Sequential, seqSlot, seqResting, seqClient, member, Absent, Unused, adding}
+use Rattle.guarantee.specs.Sequential.{admitting, answering, StepRule, adds, admits, drops, answers, continues, refuses}
+use Rattle.guarantee.proofs.SimulationRelation.{viewFrame, view-unmapped, view-mapped, not-member, ClientRelation, open-many, open-grants}
+use Rattle.guarantee.proofs.SimulationRelation.{client-relation-as, SimulationRelation}
+use Rattle.guarantee.proofs.SeqClients.{Observable, observable, workingMove, grantedMove, refusedMove, Continuing, WorksOn, IsGranted, related-resting}
+use Rattle.guarantee.proofs.SeqClients.{related-working, related-pinned, related-answered, related-admitted}
+use Rattle.guarantee.proofs.Frames.{same-frame, found-mapped, found-has-pin}
+use Rattle.guarantee.proofs.Pages.{page-there, page-resident}
+use Rattle.guarantee.proofs.PageCount.{occupancy, pageCount-set, gained, lost, PageCountChange}
+use Rattle.guarantee.proofs.ViewAfter.{SameView, ViewChanged, counters-view, pins-view, evict-view, map-view}
 
--- the move is a step of the sequential pool, and the two pools after it are alike again
+-- the move is a step of the sequential pool, and the two pools after it are related again
 pub record Simulates (p : Pool) (c : ℕ) (q : Sequential) (m : Move) : Type 0 where
-  pub places : List Place
-  pub next : Taker
-  pub rule : StepRule q (taker q c) (m .answer) places next
-  pub weighs : Weighs (m .counted) (q .places) places
-  pub mirrors : Mirrors (apply p c m) (record { places = places; takers = set (q .takers) c next })
+  pub slots : List SeqSlot
+  pub next : SeqClient
+  pub rule : StepRule q (seqClient q c) (m .answer) slots next
+  pub page-count : PageCountChange (m .counted) (q .slots) slots
+  pub related : SimulationRelation (apply p c m) (record { slots = slots; clients = set (q .clients) c next })
 
 -- ---- the two pools after a move
 
--- client c of pool p acts, and q mirrors p
+-- client c of pool p acts, and q is related to p
 pub record Acting (p : Pool) (c : ℕ) (q : Sequential) : Type 0 where
   pub here : c < clientCount p
   pub reached : Reached p
-  pub mirror : Mirrors p q
+  pub related : SimulationRelation p q
 
 module _ {p : Pool} {c : ℕ} {q : Sequential} (acting : Acting p c q) where
   here : c < clientCount p
@@ -62,197 +64,201 @@ module _ {p : Pool} {c : ℕ} {q : Sequential} (acting : Acting p c q) where
   r : Reached p
   r = acting .reached
 
-  mirror : Mirrors p q
-  mirror = acting .mirror
+  related : SimulationRelation p q
+  related = acting .related
 
   abbrev k : Client
   k = client p c
 
-  abbrev t : Taker
-  t = taker q c
+  abbrev t : SeqClient
+  t = seqClient q c
 
-  abbrev After : Move → List Place → Taker → Type 0
-  After m places next = Mirrors (apply p c m) (record { places = places; takers = set (q .takers) c next })
+  abbrev RelatedAfter : Move → List SeqSlot → SeqClient → Type 0
+  RelatedAfter m slots next = SimulationRelation (apply p c m) (record { slots = slots; clients = set (q .clients) c next })
 
-  taken : Taken k (grantsOf p c) t
-  taken = mirror .takers c
+  client-related : ClientRelation k (grantsOf p c) t
+  client-related = related .clients c
 
-  -- the pools after a move are alike if the places and the acting client are
-  module _ (m : Move) (next : Taker) (how : Granting p c m) (new : Taken (m .next) (grantsOf (apply p c m) c) next) where
-    takers-now : (d : ℕ) → Taken (client (apply p c m) d) (grantsOf (apply p c m) d) (getD (set (q .takers) c next) d (resting []))
-    takers-now d = go (ℕ-discrete d c)
+  -- the pools after a move are related if the slots and the acting client are
+  module _ (m : Move) (next : SeqClient) (how : GrantsOk p c m) (new : ClientRelation (m .next) (grantsOf (apply p c m) c) next) where
+    clients-now : (d : ℕ) → ClientRelation (client (apply p c m) d) (grantsOf (apply p c m) d) (getD (set (q .clients) c next) d (seqResting []))
+    clients-now d = go (ℕ-discrete d c)
       where
-        go : Dec (d ≡ c) → Taken (client (apply p c m) d) (grantsOf (apply p c m) d) (getD (set (q .takers) c next) d (resting []))
-        go (yes e) = rw (e, client-same p c m (r .shape) here, getD-set-same (q .takers) c next (resting []) (omega (arith, mirror .count))) new
+        go : Dec (d ≡ c) → ClientRelation (client (apply p c m) d) (grantsOf (apply p c m) d) (getD (set (q .clients) c next) d (seqResting []))
+        go (yes e) = rw (e, client-same p c m (r .shape) here, getD-set-same (q .clients) c next (seqResting []) (omega (arith, related .count))) new
         go (no z) =
-            rw (client-other p c m d z, getD-set-other (q .takers) c d next (resting []) z)
-            (taken-as (grantsOf-other p c m (r .shape) here (r .ranges .held-ok) how d z) (mirror .takers d))
+            rw (client-other p c m d z, getD-set-other (q .clients) c d next (seqResting []) z)
+            (client-relation-as (grantsOf-other p c m (r .shape) here (r .ranges .held-ok) how d z) (related .clients d))
 
-    with-places : (places : List Place) → length places ≡ length (q .places)
-        → ((i : ℕ) → getD places i empty ≡ seen (apply p c m) (slot (apply p c m) i)) → After m places next
+    with-slots : (slots : List SeqSlot) → length slots ≡ length (q .slots)
+        → ((i : ℕ) → getD slots i empty ≡ viewFrame (apply p c m) (slot (apply p c m) i)) → RelatedAfter m slots next
     unfolding apply
-    with-places places n e =
-        record { size = n ∙ mirror .size; places = e; count = length-set (q .takers) c next ∙ mirror .count; takers = takers-now }
+    with-slots slots n e =
+        record { size = n ∙ related .size; slots = e; count = length-set (q .clients) c next ∙ related .count; clients = clients-now }
 
-    pub same-places : Kept p c m → After m (q .places) next
-    same-places same = with-places (q .places) refl (λ i. mirror .places i ∙ sym (same i))
+    pub same-slots : SameView p c m → RelatedAfter m (q .slots) next
+    same-slots same = with-slots (q .slots) refl (λ i. related .slots i ∙ sym (same i))
 
-    one-place : {j : ℕ} {x : Place} → Changed p c m j x → After m (set (q .places) j x) next
-    one-place {j} {x} h = with-places (set (q .places) j x) (length-set (q .places) j x) (λ i. at i (ℕ-discrete i j))
+    one-slot : {j : ℕ} {x : SeqSlot} → ViewChanged p c m j x → RelatedAfter m (set (q .slots) j x) next
+    one-slot {j} {x} h = with-slots (set (q .slots) j x) (length-set (q .slots) j x) (λ i. at i (ℕ-discrete i j))
       where
-        at : (i : ℕ) → Dec (i ≡ j) → getD (set (q .places) j x) i empty ≡ seen (apply p c m) (slot (apply p c m) i)
-        at i (yes e) = rw e (getD-set-same (q .places) j x empty (omega (arith, mirror .size, h .inside)) ∙ sym (h .there))
-        at i (no z) = getD-set-other (q .places) j i x empty z ∙ (mirror .places i ∙ sym (h .others i z))
+        at : (i : ℕ) → Dec (i ≡ j) → getD (set (q .slots) j x) i empty ≡ viewFrame (apply p c m) (slot (apply p c m) i)
+        at i (yes e) = rw e (getD-set-same (q .slots) j x empty (omega (arith, related .size, h .inside)) ∙ sym (h .there))
+        at i (no z) = getD-set-other (q .slots) j i x empty z ∙ (related .slots i ∙ sym (h .others i z))
 
   -- ---- the acting client after a move
 
   few : (d : ℕ) → client p d .held ≤ 8
   few = r .ranges .held-ok
 
-  module _ (m : Move) (j : ℕ) (u : Counted) (o : outward m ≡ working k j u) where
+  module _ (m : Move) (j : ℕ) (u : Counted) (o : observable m ≡ workingMove k j u) where
     same-held : m .next .held ≡ k .held
-    same-held = ap (λ (x : Outward). x .held) o
+    same-held = ap (λ (x : Observable). x .held) o
 
-    keeping : Granting p c m
-    keeping = keeps (ap (λ (x : Outward). x .grants) o) same-held
+    keeping : GrantsOk p c m
+    keeping = grants-stay (ap (λ (x : Observable). x .grants) o) same-held
 
-    works-on : k .stage ≢ 0 → Stays k (m .next) (grantsOf p c) (grantsOf (apply p c m) c) j
+    works-on : k .stage ≢ 0 → WorksOn k (m .next) (grantsOf p c) (grantsOf (apply p c m) c) j
     works-on busy =
         record {
           works = busy;
-          at-stage = ap (λ (x : Outward). x .stage) o;
-          same-page = ap (λ (x : Outward). x .page) o;
+          at-stage = ap (λ (x : Observable). x .stage) o;
+          same-page = ap (λ (x : Observable). x .page) o;
           same-held = same-held;
-          same-grants = grantsOf-keeps p c m (r .shape) here few (ap (λ (x : Outward). x .grants) o) same-held;
+          same-grants = grantsOf-keeps p c m (r .shape) here few (ap (λ (x : Observable). x .grants) o) same-held;
         }
 
-  module _ (m : Move) (f : ℕ) (u : Counted) (o : outward m ≡ gotten k f u) (room : k .held < 8) where
+  module _ (m : Move) (f : ℕ) (u : Counted) (o : observable m ≡ grantedMove k f u) (room : k .held < 8) where
     more-held : m .next .held ≡ k .held + 1
-    more-held = ap (λ (x : Outward). x .held) o
+    more-held = ap (λ (x : Observable). x .held) o
 
-    opening : Granting p c m
-    opening = opens (k .page) f (ap (λ (x : Outward). x .grants) o) more-held room
+    opening : GrantsOk p c m
+    opening = grant-opens (k .page) f (ap (λ (x : Observable). x .grants) o) more-held room
 
-    gets : Gets k (m .next) (grantsOf p c) (grantsOf (apply p c m) c)
-    gets =
+    is-granted : IsGranted k (m .next) (grantsOf p c) (grantsOf (apply p c m) c)
+    is-granted =
         record {
-          at-rest = ap (λ (x : Outward). x .stage) o;
+          at-rest = ap (λ (x : Observable). x .stage) o;
           more-held = more-held;
-          more-grants = grantsOf-opens p c m (r .shape) here few (k .page) f (ap (λ (x : Outward). x .grants) o) more-held room;
+          more-grants = grantsOf-opens p c m (r .shape) here few (k .page) f (ap (λ (x : Observable). x .grants) o) more-held room;
         }
 
   -- ---- the six kinds of move
 
   module _ (busy : k .stage ≢ 0) where
-    pub quietly : (i j : ℕ) → k .stage ≡ i → {m : Move} → outward m ≡ working k j Nothing → Quiet i j → Kept p c m → Simulates p c q m
-    quietly i j e {m} o w same =
+    pub continues-one : (i j : ℕ) → k .stage ≡ i → {m : Move} → observable m ≡ workingMove k j Nothing → Continuing i j → SameView p c m → Simulates p c q m
+    continues-one i j e {m} o w same =
         record {
-          places = q .places;
+          slots = q .slots;
           next = record { stage = j; wants = t .wants; grants = t .grants };
-          rule = rw (ap (λ (x : Outward). x .answer) o) (moves {j = j} (rw (taken .stage ∙ e) (w .still)) (w .low) (w .high));
-          weighs = rw (ap (λ (x : Outward). x .counted) o) refl;
-          mirrors = same-places m _ (keeping m j Nothing o) (stays taken (works-on m j Nothing o busy) (rw e (w .pins-alike))) same;
+          rule = rw (ap (λ (x : Observable). x .answer) o) (continues {j = j} (rw (client-related .stage ∙ e) (w .plain-step)) (w .low) (w .high));
+          page-count = rw (ap (λ (x : Observable). x .counted) o) refl;
+          related = same-slots m _ (keeping m j Nothing o) (related-working client-related (works-on m j Nothing o busy) (rw e (w .pins-alike))) same;
         }
 
-    pub adds-one : (i j : ℕ) → k .stage ≡ i → T (adding i j) → pinsFound i ≡ false → pinsFound j ≡ true → Live p k → pins p (k .found) ≢ evicted
-        → {m : Move} → outward m ≡ working k j Nothing → m .write ≡ PutPins (k .found) (pins p (k .found) + 1) → Simulates p c q m
+    pub adds-one : (i j : ℕ) → k .stage ≡ i → T (adding i j) → pinsFound i ≡ false → pinsFound j ≡ true → FoundMapped p k → pins p (k .found) ≢ evicted
+        → {m : Move} → observable m ≡ workingMove k j Nothing → m .write ≡ PutPins (k .found) (pins p (k .found) + 1) → Simulates p c q m
     adds-one i j e h pi pj know live {m} o w =
         let n : ℕ = pins p (k .found) in
         record {
-          places = q .places;
+          slots = q .slots;
           next = record { stage = j; wants = t .wants; grants = t .wants ∷ t .grants };
           rule =
-              rw (ap (λ (x : Outward). x .answer) o)
-              (adds {j = j} {f = k .found} (rw (taken .stage ∙ e) h) (rw (taken .wants busy) (there r mirror (know .0) live (know .1 live))));
-          weighs = rw (ap (λ (x : Outward). x .counted) o) refl;
-          mirrors =
-              same-places m _ (keeping m j Nothing o) (pins-more taken (works-on m j Nothing o busy) pj (rw e pi))
-              (pins-put p c m r (k .found) (n + 1) w (pins-in p (k .found) live) (inl (ne-eqb (n + 1) 0 (λ z. omega arith) ∙ sym (ne-eqb n 0 live))));
+              rw (ap (λ (x : Observable). x .answer) o)
+              (adds {j = j} {f = k .found} (rw (client-related .stage ∙ e) h)
+              (rw (client-related .wants busy) (page-there r related (know .0) live (know .1 live))));
+          page-count = rw (ap (λ (x : Observable). x .counted) o) refl;
+          related =
+              same-slots m _ (keeping m j Nothing o) (related-pinned client-related (works-on m j Nothing o busy) pj (rw e pi))
+              (pins-view p c m r (k .found) (n + 1) w (pins-in p (k .found) live) (inl (ne-eqb (n + 1) 0 (λ z. omega arith) ∙ sym (ne-eqb n 0 live))));
         }
 
-    pub answers-one : (i : ℕ) (u : Counted) → k .stage ≡ i → T (answering i) → pinsFound i ≡ true → gained u ≡ 0 → lost u ≡ 0 → Live p k → k .held < 8
-        → {m : Move} → outward m ≡ gotten k (k .found) u → T (silent (m .write)) → Simulates p c q m
+    pub answers-one : (i : ℕ) (u : Counted) → k .stage ≡ i → T (answering i) → pinsFound i ≡ true → gained u ≡ 0 → lost u ≡ 0 → FoundMapped p k → k .held < 8
+        → {m : Move} → observable m ≡ grantedMove k (k .found) u → T (countersOnly (m .write)) → Simulates p c q m
     answers-one i u e h pi no-gain no-loss know room {m} o s =
-        let live : pins p (k .found) ≢ evicted = λ z. omega (arith, found-pinned p r c (rw e pi)) in
+        let live : pins p (k .found) ≢ evicted = λ z. omega (arith, found-has-pin p r c (rw e pi)) in
         record {
-          places = q .places;
-          next = resting (t .grants);
+          slots = q .slots;
+          next = seqResting (t .grants);
           rule =
-              rw (ap (λ (x : Outward). x .answer) o)
-              (answers {f = k .found} (rw (taken .stage ∙ e) h) (rw (taken .wants busy) (there r mirror (know .0) live (know .1 live))));
-          weighs = rw (ap (λ (x : Outward). x .counted) o, no-gain, no-loss) refl;
-          mirrors = same-places m _ (opening m (k .found) u o room) (answered taken (gets m (k .found) u o room) (rw e pi)) (as-was p c m r s);
+              rw (ap (λ (x : Observable). x .answer) o)
+              (answers {f = k .found} (rw (client-related .stage ∙ e) h)
+              (rw (client-related .wants busy) (page-there r related (know .0) live (know .1 live))));
+          page-count = rw (ap (λ (x : Observable). x .counted) o, no-gain, no-loss) refl;
+          related =
+              same-slots m _ (opening m (k .found) u o room)
+              (related-answered client-related (is-granted m (k .found) u o room) (rw e pi)) (counters-view p c m r s);
         }
 
     -- the wanted page's frames are evicted, and so is the frame of the entry that the own frame gets
     pub admits-one : (i : ℕ) (u : Counted) → k .stage ≡ i → T (admitting i) → pinsFound i ≡ false → gained u ≡ 1 → lost u ≡ 0 → Placed p k → k .held < 8
         → ((f : ℕ) → f ≢ none → mapped p f ≡ suc (k .page) → pins p f ≡ evicted) → (j : ℕ) → j < total p → pins p (entryFrame p j) ≡ evicted
-        → {m : Move} → outward m ≡ gotten k (k .own) u → m .write ≡ PutEntry j (k .page) (k .own) → Simulates p c q m
+        → {m : Move} → observable m ≡ grantedMove k (k .own) u → m .write ≡ PutEntry j (k .page) (k .own) → Simulates p c q m
     admits-one i u e h pi gain no-loss own room gone j low out {m} o w =
         record {
-          places = set (q .places) s x;
-          next = resting (t .wants ∷ t .grants);
-          rule = rw (ap (λ (x : Outward). x .answer) o) (admits (rw (taken .stage ∙ e) h) absent unused s inside vacant);
-          weighs = rw (ap (λ (x : Outward). x .counted) o, gain, no-loss) (omega (arith, kept-set (q .places) s x inside, ap full vacant));
-          mirrors = one-place m _ (opening m (k .own) u o room) (admitted taken (gets m (k .own) u o room) busy (rw e pi)) changed;
+          slots = set (q .slots) s x;
+          next = seqResting (t .wants ∷ t .grants);
+          rule = rw (ap (λ (x : Observable). x .answer) o) (admits (rw (client-related .stage ∙ e) h) absent unused s inside vacant);
+          page-count = rw (ap (λ (x : Observable). x .counted) o, gain, no-loss) (omega (arith, pageCount-set (q .slots) s x inside, ap occupancy vacant));
+          related = one-slot m _ (opening m (k .own) u o room) (related-admitted client-related (is-granted m (k .own) u o room) busy (rw e pi)) changed;
         }
       where
         s : ℕ
         s = own .1 .0
 
-        x : Place
-        x = holds (t .wants) (k .own)
+        x : SeqSlot
+        x = stores (t .wants) (k .own)
 
         unmapped : mapped p (k .own) ≡ 0
         unmapped = r .private .own-unmapped c (own .0)
 
-        changed : Changed p c m s x
+        changed : ViewChanged p c m s x
         changed =
-            rw (taken .wants busy)
-            (entry-new p c m r j (k .page) (k .own) w low out (own .0) unmapped (λ z. omega (arith, own-pins p r c (own .0))) s (own .1 .1))
+            rw (client-related .wants busy)
+            (map-view p c m r j (k .page) (k .own) w low out (own .0) unmapped (λ z. omega (arith, own-pins p r c (own .0))) s (own .1 .1))
 
-        inside : s < length (q .places)
-        inside = omega (arith, mirror .size, changed .inside)
+        inside : s < length (q .slots)
+        inside = omega (arith, related .size, changed .inside)
 
-        vacant : place q s ≡ empty
-        vacant = mirror .places s ∙ (ap (seen p) (own .1 .1) ∙ seen-unmapped p (k .own) unmapped)
+        vacant : seqSlot q s ≡ empty
+        vacant = related .slots s ∙ (ap (viewFrame p) (own .1 .1) ∙ view-unmapped p (k .own) unmapped)
 
         absent : Absent q (t .wants)
         absent f at =
-            let v = shows r mirror at in
-            v .live (gone (slot p (at .0)) (live-named p (r .shape) _ (v .live)) (v .entry ∙ ap suc (taken .wants busy)))
+            let v = page-resident r related at in
+            v .not-evicted (gone (slot p (at .0)) (pins-named p (r .shape) _ (v .not-evicted)) (v .entry ∙ ap suc (client-related .wants busy)))
 
         unused : Unused q (k .own)
-        unused g at = let v = shows r mirror at in suc-not (v .entry) (ap (mapped p) (v .frame) ∙ unmapped)
+        unused g at = let v = page-resident r related at in suc-not (v .entry) (ap (mapped p) (v .frame) ∙ unmapped)
 
-    pub refuses-one : (i : ℕ) → k .stage ≡ i → pinsFound i ≡ false → {m : Move} → outward m ≡ denied k → T (silent (m .write)) → Simulates p c q m
+    pub refuses-one : (i : ℕ) → k .stage ≡ i → pinsFound i ≡ false → {m : Move} → observable m ≡ refusedMove k → T (countersOnly (m .write)) → Simulates p c q m
     refuses-one i e pi {m} o s =
         record {
-          places = q .places;
-          next = resting (t .grants);
-          rule = rw (ap (λ (x : Outward). x .answer) o) refuses;
-          weighs = rw (ap (λ (x : Outward). x .counted) o) refl;
-          mirrors =
-              same-places m _ (keeps grants held)
-              (rests (ap (λ (x : Outward). x .stage) o) (open-many taken pk ∙ sym held)
-              (λ g. open-grants taken pk g ∙ sym (grantsOf-keeps p c m (r .shape) here few grants held g))) (as-was p c m r s);
+          slots = q .slots;
+          next = seqResting (t .grants);
+          rule = rw (ap (λ (x : Observable). x .answer) o) refuses;
+          page-count = rw (ap (λ (x : Observable). x .counted) o) refl;
+          related =
+              same-slots m _ (grants-stay grants held)
+              (related-resting (ap (λ (x : Observable). x .stage) o) (open-many client-related pk ∙ sym held)
+              (λ g. open-grants client-related pk g ∙ sym (grantsOf-keeps p c m (r .shape) here few grants held g))) (counters-view p c m r s);
         }
       where
         grants : m .grants ≡ Same
-        grants = ap (λ (x : Outward). x .grants) o
+        grants = ap (λ (x : Observable). x .grants) o
 
         held : m .next .held ≡ k .held
-        held = ap (λ (x : Outward). x .held) o
+        held = ap (λ (x : Observable). x .held) o
 
         pk : pinsFound (k .stage) ≡ false
         pk = rw e pi
 
     -- a frame with no pin: its page has no grants
-    unheld : (f g : ℕ) → f ≢ none → pins p f ≡ pinned 0 → mapped p f ≡ suc g → (d : ℕ) → member g (taker q d .grants) ≡ false
+    unheld : (f g : ℕ) → f ≢ none → pins p f ≡ pinned 0 → mapped p f ≡ suc g → (d : ℕ) → member g (seqClient q d .grants) ≡ false
     unfolding grantsOf
     unheld f g z unpinned e d =
         let none-open = sum-zero (λ i. one (eqb (grantPage p d i) g)) (client p d .held) (λ i h. ap one (ne-eqb _ _ (no-grant i h))) in
-        not-member g (taker q d .grants) (mirror .takers d .grants g ∙ omega (arith, wanted (pinsFound (client p d .stage)) refl))
+        not-member g (seqClient q d .grants) (related .clients d .grants g ∙ omega (arith, wanted (pinsFound (client p d .stage)) refl))
       where
         only : (h : ℕ) → h ≢ none → pinned 1 ≤ pins p h → mapped p h ≡ suc g → ⊥
         only h n two w =
@@ -261,19 +267,19 @@ module _ {p : Pool} {c : ℕ} {q : Sequential} (acting : Acting p c q) where
 
         no-grant : (i : ℕ) → i < client p d .held → grantPage p d i ≢ g
         no-grant i h w =
-            let n = r .outline .grant-named d i h in
-            only (grantFrame p d i) n (grant-live p r d i n) (r .outline .granted d i n ∙ ap suc w)
+            let n = r .mapping .grant-named d i h in
+            only (grantFrame p d i) n (grant-pinned p r d i n) (r .mapping .grant-mapped d i n ∙ ap suc w)
 
         wanted : (b : Bool) → pinsFound (client p d .stage) ≡ b → one (b && eqb (client p d .page) g) ≡ 0
         wanted false _ = refl
         wanted true s =
-            let two = found-pinned p r d s in
-            let know = live-found p r d s in
+            let two = found-has-pin p r d s in
+            let know = found-mapped p r d s in
             ap one (ne-eqb _ _ (λ w. only (client p d .found) (know .0) two (know .1 (λ x. omega arith) ∙ ap suc w)))
 
-    pub drops-one : k .stage ≡ 14 → k .victim ≢ none → pins p (k .victim) ≡ pinned 0 → Seated p (k .victim)
-        → {m : Move} → outward m ≡ working k 15 Drop → m .write ≡ PutPins (k .victim) evicted → Simulates p c q m
-    drops-one e z unpinned seat {m} o w = by-known (r .outline .known f z live)
+    pub drops-one : k .stage ≡ 14 → k .victim ≢ none → pins p (k .victim) ≡ pinned 0 → InSlot p (k .victim)
+        → {m : Move} → observable m ≡ workingMove k 15 Drop → m .write ≡ PutPins (k .victim) evicted → Simulates p c q m
+    drops-one e z unpinned in-slot {m} o w = by-owner (r .mapping .mapped-or-owned f z live)
       where
         f : ℕ
         f = k .victim
@@ -282,27 +288,27 @@ module _ {p : Pool} {c : ℕ} {q : Sequential} (acting : Acting p c q) where
         live n = omega arith
 
         s : ℕ
-        s = seat .0
+        s = in-slot .0
 
-        changed : Changed p c m s empty
-        changed = pins-out p c m r f evicted w refl (pins-in p f live) z s (seat .1)
+        changed : ViewChanged p c m s empty
+        changed = evict-view p c m r f evicted w refl (pins-in p f live) z s (in-slot .1)
 
         drop : (g : ℕ) → mapped p f ≡ suc g → Simulates p c q m
         drop g n =
-            let holding : place q s ≡ holds g f = mirror .places s ∙ (ap (seen p) (seat .1) ∙ seen-full p f live n) in
+            let holding : seqSlot q s ≡ stores g f = related .slots s ∙ (ap (viewFrame p) (in-slot .1) ∙ view-mapped p f live n) in
             record {
-              places = set (q .places) s empty;
+              slots = set (q .slots) s empty;
               next = record { stage = 15; wants = t .wants; grants = t .grants };
-              rule = rw (ap (λ (x : Outward). x .answer) o) (drops {j = 15} (rw (taken .stage ∙ e) tt) s holding (unheld f g z unpinned n));
-              weighs =
-                  rw (ap (λ (x : Outward). x .counted) o)
-                  (omega (arith, kept-set (q .places) s empty (omega (arith, mirror .size, changed .inside)), ap full holding));
-              mirrors = one-place m _ (keeping m 15 Drop o) (stays taken (works-on m 15 Drop o busy) (rw e refl)) changed;
+              rule = rw (ap (λ (x : Observable). x .answer) o) (drops {j = 15} (rw (client-related .stage ∙ e) tt) s holding (unheld f g z unpinned n));
+              page-count =
+                  rw (ap (λ (x : Observable). x .counted) o)
+                  (omega (arith, pageCount-set (q .slots) s empty (omega (arith, related .size, changed .inside)), ap occupancy holding));
+              related = one-slot m _ (keeping m 15 Drop o) (related-working client-related (works-on m 15 Drop o busy) (rw e refl)) changed;
             }
 
-        by-known : (mapped p f ≢ 0) ⊎ (((d : ℕ) × (client p d .own ≡ f)) ⊎ Orphan p f) → Simulates p c q m
-        by-known (inl n) = let g = some-suc (mapped p f) n in drop (g .0) (g .1)
-        by-known (inr (inl d)) =
+        by-owner : (mapped p f ≢ 0) ⊎ (((d : ℕ) × (client p d .own ≡ f)) ⊎ Orphan p f) → Simulates p c q m
+        by-owner (inl n) = let g = some-suc (mapped p f) n in drop (g .0) (g .1)
+        by-owner (inr (inl d)) =
             let two : pins p f ≡ pinned 1 = rw (d .1) at (own-pins p r (d .0) (λ n. z (sym (d .1) ∙ n))) in
             absurd (omega arith)
-        by-known (inr (inr lone)) = absurd (lone .no-slot s (seat .1))
+        by-owner (inr (inr lone)) = absurd (lone .no-slot s (in-slot .1))

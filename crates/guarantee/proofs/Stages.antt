@@ -1,5 +1,5 @@
--- What each stage answers and where its client stands then, of every pool, a handed one too: one line for each of the 23. `edges` says which stages an
--- answer `Working` leads to and `granting` which stages grant; a fact about these is then checked on the lists alone (`on-edges`, `on-grants`).
+-- What each stage answers and where its client stands then, of every pool, a handed one too: one line for each of the 23. `successors` says which stages an
+-- answer `Working` leads to and `granting` which stages grant; a fact about these is then checked on the lists alone (`on-successors`, `on-grants`).
 -- Assumes nothing.
 use mathlib.Core.Path.{_≡_, refl}
 use mathlib.Core.Bool.{Bool, true, false, cond, _&&_, _||_}
@@ -19,14 +19,14 @@ use Rattle.pool.specs.declared.Write.{Write}
 use Rattle.pool.specs.declared.Answer.the-variants.{Working, Granted}
 use Rattle.pool.specs.declared.Counted.{Counted}
 use Rattle.laws.specs.Choices.{by-test}
-use Rattle.invariant.proofs.Flags.{and-parts}
+use Rattle.invariant.proofs.StageTests.{and-parts}
 use Rattle.invariant.proofs.Each.{Each, fin, _also_, each-at}
 
--- ---- the edges between the stages
+-- ---- the stages that follow each stage
 
 -- for stage 0, 1, 2 and so on: where an answer `Working` leaves the client
-abbrev pub edges : List (List ℕ)
-edges =
+abbrev pub successors : List (List ℕ)
+successors =
     [] ∷ (2 ∷ 4 ∷ []) ∷ (3 ∷ 4 ∷ []) ∷ [] ∷ (5 ∷ []) ∷ (6 ∷ 10 ∷ []) ∷ (5 ∷ 7 ∷ []) ∷ (8 ∷ []) ∷ (8 ∷ 9 ∷ []) ∷ (18 ∷ []) ∷ (11 ∷ []) ∷ (11 ∷ 12 ∷ []) ∷
     (11 ∷ 13 ∷ 15 ∷ []) ∷ (11 ∷ 14 ∷ []) ∷ (11 ∷ 15 ∷ []) ∷ (11 ∷ 16 ∷ []) ∷ (17 ∷ []) ∷ (18 ∷ []) ∷
     (19 ∷ []) ∷ (20 ∷ 22 ∷ []) ∷ (21 ∷ []) ∷ [] ∷ (23 ∷ []) ∷ (4 ∷ []) ∷ []
@@ -40,13 +40,13 @@ among j [] = false
 among j (x ∷ xs) = cond (eqb j x) true (among j xs)
 
 abbrev pub leads : ℕ → ℕ → Bool
-leads i j = among j (getD edges i [])
+leads i j = among j (getD successors i [])
 
 -- "Granted at 3 or 21 answers the wanted page's frame", the one found; at 18 or 22 the own frame
 abbrev pub given : ℕ → Client → ℕ
 given i k = cond (eqb i 3 || eqb i 21) (k .found) (k .own)
 
--- ---- what holds at each granting stage, and a test that each edge passes
+-- ---- what holds at each granting stage, and a test that each stage and successor pass
 
 abbrev AllOf : (ℕ → Type 0) → List ℕ → Type 0
 AllOf P [] = Unit {0}
@@ -67,57 +67,60 @@ abbrev forAll : (ℕ → Bool) → List ℕ → Bool
 forAll t [] = true
 forAll t (x ∷ xs) = t x && forAll t xs
 
-abbrev forEdges : (ℕ → ℕ → Bool) → ℕ → List (List ℕ) → Bool
-forEdges t i [] = true
-forEdges t i (l ∷ ls) = forAll (t i) l && forEdges t (suc i) ls
+abbrev forSuccessors : (ℕ → ℕ → Bool) → ℕ → List (List ℕ) → Bool
+forSuccessors t i [] = true
+forSuccessors t i (l ∷ ls) = forAll (t i) l && forSuccessors t (suc i) ls
 
 all-of : (t : ℕ → Bool) (l : List ℕ) → T (forAll t l) → AllOf (λ x. T (t x)) l
 all-of t [] a = tt
 all-of t (x ∷ xs) a = let p = and-parts (t x) (forAll t xs) a in (p .0, all-of t xs (p .1))
 
-edges-from : (t : ℕ → ℕ → Bool) (ls : List (List ℕ)) (i : ℕ) → T (forEdges t i ls) → Each (λ i l. AllOf (λ x. T (t i x)) l) i ls
-edges-from t [] i a = fin
-edges-from t (l ∷ ls) i a = let p = and-parts (forAll (t i) l) (forEdges t (suc i) ls) a in all-of (t i) l (p .0) also edges-from t ls (suc i) (p .1)
+successors-from : (t : ℕ → ℕ → Bool) (ls : List (List ℕ)) (i : ℕ) → T (forSuccessors t i ls) → Each (λ i l. AllOf (λ x. T (t i x)) l) i ls
+successors-from t [] i a = fin
+successors-from t (l ∷ ls) i a =
+    let p = and-parts (forAll (t i) l) (forSuccessors t (suc i) ls) a in
+    all-of (t i) l (p .0) also successors-from t ls (suc i) (p .1)
 
-pub on-edges : (t : ℕ → ℕ → Bool) → T (forEdges t 0 edges) → (i j : ℕ) → T (leads i j) → T (t i j)
-on-edges t a i j h =
-    among-all (λ x. T (t i x)) (getD edges i []) (each-at (λ i l. AllOf (λ x. T (t i x)) l) [] (λ _. tt) edges (edges-from t edges 0 a) i) j h
+pub on-successors : (t : ℕ → ℕ → Bool) → T (forSuccessors t 0 successors) → (i j : ℕ) → T (leads i j) → T (t i j)
+on-successors t a i j h =
+    among-all (λ x. T (t i x)) (getD successors i [])
+    (each-at (λ i l. AllOf (λ x. T (t i x)) l) [] (λ _. tt) successors (successors-from t successors 0 a) i) j h
 
 -- ---- the stages
 
-pub data Fits (k : Client) (m : Move) : Type 0 where
-  goes : (j : ℕ) → T (leads (k .stage) j) → m .answer ≡ Working j → m .next .stage ≡ j → Fits k m
-  grants : (f : ℕ) → T (among (k .stage) granting) → f ≡ given (k .stage) k → m .answer ≡ Granted f → m .next .stage ≡ 0 → Fits k m
-  refuses : m ≡ refused15 k → Fits k m
-  sticks : m ≡ stuck k → Fits k m
+pub data StageAnswer (k : Client) (m : Move) : Type 0 where
+  goes : (j : ℕ) → T (leads (k .stage) j) → m .answer ≡ Working j → m .next .stage ≡ j → StageAnswer k m
+  grants : (f : ℕ) → T (among (k .stage) granting) → f ≡ given (k .stage) k → m .answer ≡ Granted f → m .next .stage ≡ 0 → StageAnswer k m
+  refuses : m ≡ refused15 k → StageAnswer k m
+  sticks : m ≡ stuck k → StageAnswer k m
 
-abbrev FitsAt : ℕ → Stage → Type 0
-FitsAt i f = (p : Pool) (k : Client) → k .stage ≡ i → Fits k (f p k)
+abbrev StageAnswerAt : ℕ → Stage → Type 0
+StageAnswerAt i f = (p : Pool) (k : Client) → k .stage ≡ i → StageAnswer k (f p k)
 
 module _ {k : Client} {i : ℕ} (e : k .stage ≡ i) where
   -- the move leads on to stage j
-  to : {m : Move} (j : ℕ) → T (leads i j) → m .answer ≡ Working j → m .next .stage ≡ j → Fits k m
+  to : {m : Move} (j : ℕ) → T (leads i j) → m .answer ≡ Working j → m .next .stage ≡ j → StageAnswer k m
   to j h a n = goes j (rw e h) a n
 
-  gives : (f : ℕ) (w : Write) (u : Counted) → T (among i granting) → f ≡ given i k → Fits k (granted k f w u)
+  gives : (f : ℕ) (w : Write) (u : Counted) → T (among i granting) → f ≡ given i k → StageAnswer k (granted k f w u)
   unfolding granted
-  gives f w u h g = by-test (Fits k) (λ _. grants f (rw e h) (rw e g) refl refl) (λ _. sticks refl)
+  gives f w u h g = by-test (StageAnswer k) (λ _. grants f (rw e h) (rw e g) refl refl) (λ _. sticks refl)
 
-  busy : (size : ℕ) → T (leads i 11) → Fits k (busyVisit k size)
+  busy : (size : ℕ) → T (leads i 11) → StageAnswer k (busyVisit k size)
   unfolding busyVisit
-  busy size h = by-test (Fits k) (λ _. refuses refl) (λ _. to 11 h refl refl)
+  busy size h = by-test (StageAnswer k) (λ _. refuses refl) (λ _. to 11 h refl refl)
 
-  evicts : (n j : ℕ) → T (leads i j) → Fits k (evictOwn k n j)
+  evicts : (n j : ℕ) → T (leads i j) → StageAnswer k (evictOwn k n j)
   unfolding evictOwn
-  evicts n j h = by-test (Fits k) (λ _. to j h refl refl) (λ _. to j h refl refl)
+  evicts n j h = by-test (StageAnswer k) (λ _. to j h refl refl) (λ _. to j h refl refl)
 
-fork : {k : Client} (t : Bool) {x y : Move} → Fits k x → Fits k y → Fits k (choose t x y)
-fork {k} t a b = by-test (Fits k) (λ _. a) (λ _. b)
+fork : {k : Client} (t : Bool) {x y : Move} → StageAnswer k x → StageAnswer k y → StageAnswer k (choose t x y)
+fork {k} t a b = by-test (StageAnswer k) (λ _. a) (λ _. b)
 
-fits-stages : Each FitsAt 0 stages
+stage-answers : Each StageAnswerAt 0 stages
 unfolding stage1 stage2 stage3 stage4 stage5 stage6 stage7 stage8 stage9 stage10 stage11 stage12 stage13
     stage14 stage15 stage16 stage17 stage18 stage19 stage20 stage21 stage22 stage23
-fits-stages =
+stage-answers =
     (λ p k e. sticks refl)
     also (λ p k e. fork _ (to e 4 tt refl refl) (to e 2 tt refl refl))
     also (λ p k e. fork _ (to e 4 tt refl refl) (to e 3 tt refl refl))
@@ -144,6 +147,6 @@ fits-stages =
     also (λ p k e. evicts e _ 4 tt)
     also fin
 
-pub fits : (p : Pool) (k : Client) → Fits k (stageMove p k)
+pub stage-answer : (p : Pool) (k : Client) → StageAnswer k (stageMove p k)
 unfolding stageMove
-fits p k = each-at FitsAt noStage (λ _ p k _. sticks refl) stages fits-stages (k .stage) p k refl
+stage-answer p k = each-at StageAnswerAt noStage (λ _ p k _. sticks refl) stages stage-answers (k .stage) p k refl

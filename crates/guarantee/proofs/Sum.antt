@@ -1,4 +1,4 @@
--- The tally's sum. The sequential pool gains a page where one is admitted or revived and loses one where one is dropped (`Weighs`), and it keeps
+-- The tally's sum. The sequential pool gains a page where one is admitted or revived and loses one where one is dropped (`PageCountChange`), and it keeps
 -- as many pages as are resident: each resident frame stands in one slot and in one entry. Assumes nothing.
 use mathlib.Core.Path.{_≡_, refl, sym, ap, _∙_}
 use mathlib.Core.Logic.{_≢_}
@@ -19,21 +19,21 @@ use Rattle.pool.specs.declared.Call.{Call}
 use Rattle.pool.specs.declared.Counted.{Counted}
 use Rattle.pool.specs.declared.Counted.the-variants.{Nothing, Hit, Join, Admitted, Revived, Drop, Refusal}
 use Rattle.laws.specs.Choices.{by-test, chosen, passed}
-use Rattle.invariant.proofs.Reached.{Reached, Apart, one, sumTo, mapped}
+use Rattle.invariant.proofs.Reached.{Reached, Distinct, one, sumTo, mapped}
 use Rattle.invariant.proofs.After.{few-frames, slot-in, pins-in, entry-in}
 use Rattle.invariant.proofs.Sums.{sum-same}
-use Rattle.invariant.proofs.Searches.{live-named}
+use Rattle.invariant.proofs.Searches.{pins-named}
 use Rattle.invariant.proofs.Table.{mapped-entry, mapped-is}
 use Rattle.invariant.proofs.Calls.{reached-call}
-use Rattle.invariant.proofs.Pigeon.{below, equal, below-all, equal-has, equal-none, equal-least}
+use Rattle.invariant.proofs.Pigeonhole.{below, equal, below-all, equal-has, equal-none, equal-at-most}
 use Rattle.guarantee.specs.Runs.{Event, events}
-use Rattle.guarantee.specs.Sequential.{Sequential, place}
-use Rattle.guarantee.specs.Claims.{tallyOf, Below, Claim-sum}
-use Rattle.guarantee.proofs.Mirror.{seen, seen-evicted, seen-unmapped, seen-full, Mirrors}
-use Rattle.guarantee.proofs.Weights.{occupied, full, kept, kept-sum, kept-none, gained, lost}
+use Rattle.guarantee.specs.Sequential.{Sequential, seqSlot}
+use Rattle.guarantee.specs.Claims.{tallyOf, BelowLargest, Claim-sum}
+use Rattle.guarantee.proofs.SimulationRelation.{viewFrame, view-evicted, view-unmapped, view-mapped, SimulationRelation}
+use Rattle.guarantee.proofs.PageCount.{occupied, occupancy, pageCount, pageCount-sum, pageCount-none, gained, lost}
 use Rattle.guarantee.proofs.Follow.{followed}
-use Rattle.guarantee.proofs.Sequence.{mirrors-start}
-use Rattle.guarantee.proofs.Start.{starts}
+use Rattle.guarantee.proofs.Sequence.{start-related}
+use Rattle.guarantee.proofs.SetupDone.{setup-done}
 
 -- ---- a numbering that gives each number with a property once gives as many of them as there are
 
@@ -54,7 +54,7 @@ module _ (P : ℕ → Bool) (g : ℕ → ℕ) (n b : ℕ) (few : b ≤ none) (lo
       go true a e = record { has = a; is = e }
       go false a e = absurd (omega arith)
 
-  same-count : Apart g none → ((f : ℕ) → P f ≡ true → (i : ℕ) × (i < n) × (g i ≡ f)) → sumTo (λ f. one (P f)) b ≡ sumTo (λ i. one (P (g i))) n
+  same-count : Distinct g none → ((f : ℕ) → P f ≡ true → (i : ℕ) × (i < n) × (g i ≡ f)) → sumTo (λ f. one (P f)) b ≡ sumTo (λ i. one (P (g i))) n
   unfolding below
   same-count apart stands =
       sum-same (equal picked n) _ b (λ f h. once f h (P f) refl)
@@ -67,7 +67,7 @@ module _ (P : ℕ → Bool) (g : ℕ → ℕ) (n b : ℕ) (few : b ≤ none) (lo
           omega (
             arith,
             equal-has picked n f (s .0) (s .1) at,
-            equal-least picked n f
+            equal-at-most picked n f
                 (λ i j _ _ x y. let u = pick i f h x in let v = pick j f h y in apart i j (λ w. omega (arith, u .is)) (u .is ∙ sym (v .is))),
           )
       once f h false e =
@@ -88,48 +88,49 @@ how-many t (suc n) = go (t n) (how-many t n)
     go true e = omega arith
     go false e = omega arith
 
-residents-kept : (p : Pool) (q : Sequential) → Reached p → Mirrors p q → residents p ≡ kept (q .places)
+residents-counted : (p : Pool) (q : Sequential) → Reached p → SimulationRelation p q → residents p ≡ pageCount (q .slots)
 unfolding residents
-residents-kept p q r mirror =
+residents-counted p q r related =
     how-many _ (total p)
     ∙ (sum-same (λ i. one (P (entryFrame p i))) _ (total p) (λ i _. entry-full i (eqb (pins p (entryFrame p i)) evicted) refl)
-    ∙ (sym (counted (entryFrame p) (total p) (r .outline .entries-apart) in-entry)
-    ∙ (counted (slot p) (p .size) (r .places .slots-apart) in-slot
-    ∙ sym shown)))
+    ∙ (sym (counted (entryFrame p) (total p) (r .mapping .entries-distinct) in-entry)
+    ∙ (counted (slot p) (p .size) (r .places .slots-distinct) in-slot
+    ∙ sym viewed)))
   where
     P : ℕ → Bool
-    P f = occupied (seen p f)
+    P f = occupied (viewFrame p f)
 
     live : (f : ℕ) → P f ≡ true → pins p f ≢ evicted
-    live f h e = true≢false (sym h ∙ ap occupied (seen-evicted p f e))
+    live f h e = true≢false (sym h ∙ ap occupied (view-evicted p f e))
 
     entered : (f : ℕ) → P f ≡ true → mapped p f ≢ 0
-    entered f h e = true≢false (sym h ∙ ap occupied (seen-unmapped p f e))
+    entered f h e = true≢false (sym h ∙ ap occupied (view-unmapped p f e))
 
-    counted : (g : ℕ → ℕ) (n : ℕ) → Apart g none → ((f : ℕ) → P f ≡ true → (i : ℕ) × (i < n) × (g i ≡ f))
+    counted : (g : ℕ → ℕ) (n : ℕ) → Distinct g none → ((f : ℕ) → P f ≡ true → (i : ℕ) × (i < n) × (g i ≡ f))
         → sumTo (λ f. one (P f)) (total p) ≡ sumTo (λ i. one (P (g i))) n
     counted g n = same-count P g n (total p) (omega (arith, few-frames p (r .shape))) (λ f h. pins-in p f (live f h))
 
     in-entry : (f : ℕ) → P f ≡ true → (i : ℕ) × (i < total p) × (entryFrame p i ≡ f)
     in-entry f h =
         let e = mapped-entry p f (entered f h) in
-        (e .0, entry-in p (e .0) (λ z. live-named p (r .shape) f (live f h) (sym (e .1) ∙ z)), e .1)
+        (e .0, entry-in p (e .0) (λ z. pins-named p (r .shape) f (live f h) (sym (e .1) ∙ z)), e .1)
 
     in-slot : (f : ℕ) → P f ≡ true → (i : ℕ) × (i < p .size) × (slot p i ≡ f)
     in-slot f h =
-        let z = live-named p (r .shape) f (live f h) in
-        let s = r .outline .resident f z (live f h) (entered f h) in
+        let z = pins-named p (r .shape) f (live f h) in
+        let s = r .mapping .resident-in-slot f z (live f h) (entered f h) in
         (s .0, slot-in p (s .0) (λ w. z (sym (s .1) ∙ w)), s .1)
 
     -- an entry's frame that is not evicted is resident
     entry-full : (i : ℕ) (t : Bool) → eqb (pins p (entryFrame p i)) evicted ≡ t → one (not t) ≡ one (P (entryFrame p i))
-    entry-full i true e = ap full (sym (seen-evicted p (entryFrame p i) (eqb-true _ _ e)))
+    entry-full i true e = ap occupancy (sym (view-evicted p (entryFrame p i) (eqb-true _ _ e)))
     entry-full i false e =
         let l : pins p (entryFrame p i) ≢ evicted = eqb-false _ _ e in
-        ap full (sym (seen-full p (entryFrame p i) l (mapped-is p (entryFrame p i) (r .outline .entries-apart) (live-named p (r .shape) _ l) i refl)))
+        ap occupancy (sym (view-mapped p (entryFrame p i) l (mapped-is p (entryFrame p i) (r .mapping .entries-distinct) (pins-named p (r .shape) _ l) i refl)))
 
-    shown : kept (q .places) ≡ sumTo (λ i. one (P (slot p i))) (p .size)
-    shown = kept-sum (q .places) ∙ (ap (sumTo (λ i. full (place q i))) (mirror .size) ∙ sum-same _ _ (p .size) (λ i _. ap full (mirror .places i)))
+    viewed : pageCount (q .slots) ≡ sumTo (λ i. one (P (slot p i))) (p .size)
+    viewed =
+        pageCount-sum (q .slots) ∙ (ap (sumTo (λ i. occupancy (seqSlot q i))) (related .size) ∙ sum-same _ _ (p .size) (λ i _. ap occupancy (related .slots i)))
 
 -- ---- a count that is below its largest value was raised by one
 
@@ -140,11 +141,11 @@ up-exact n =
     (λ t h. (refl, ltb-true n largest t)) (λ t h. absurd (omega (arith, ltb-false n largest t)))
 
 record Raised (u : Counted) (t n : Tally) : Type 0 where
-  before : Below t
+  before : BelowLargest t
   gains : n .admitted + n .revived ≡ t .admitted + t .revived + gained u
   loses : n .drops ≡ t .drops + lost u
 
-raised : (u : Counted) (t : Tally) → Below (tallied u t) → Raised u t (tallied u t)
+raised : (u : Counted) (t : Tally) → BelowLargest (tallied u t) → Raised u t (tallied u t)
 unfolding tallied
 raised Nothing t h = record { before = h; gains = omega arith; loses = omega arith }
 raised Hit t h = let e = up-exact (t .hits) (h .0) in record { before = (e .1, h .1, h .2, h .3, h .4, h .5); gains = omega arith; loses = omega arith }
@@ -159,20 +160,21 @@ raised Refusal t h = let e = up-exact (t .refused) (h .5) in record { before = (
 
 -- ---- along a run
 
-below-first : (t : Tally) (es : List Event) → Below (tallyOf t es) → Below t
+below-first : (t : Tally) (es : List Event) → BelowLargest (tallyOf t es) → BelowLargest t
 unfolding tallyOf
 below-first t [] h = h
 below-first t (e ∷ es) h = raised (e .counted) t (below-first (tallied (e .counted) t) es h) .before
 
-sum-run : {p : Pool} {q : Sequential} (calls : List Call) (t : Tally) → Reached p → Mirrors p q → kept (q .places) + t .drops ≡ t .admitted + t .revived
-    → let n = tallyOf t (events p calls) in Below n → residents (poolAfter p calls) + n .drops ≡ n .admitted + n .revived
+sum-run : {p : Pool} {q : Sequential} (calls : List Call) (t : Tally) → Reached p → SimulationRelation p q
+    → pageCount (q .slots) + t .drops ≡ t .admitted + t .revived
+    → let n = tallyOf t (events p calls) in BelowLargest n → residents (poolAfter p calls) + n .drops ≡ n .admitted + n .revived
 unfolding events tallyOf poolAfter
-sum-run {p} {q} [] t r mirror e h = omega (arith, residents-kept p q r mirror)
-sum-run {p} {q} (x ∷ calls) t r mirror e h =
-    let f = followed r mirror x in
+sum-run {p} {q} [] t r related e h = omega (arith, residents-counted p q r related)
+sum-run {p} {q} (x ∷ calls) t r related e h =
+    let f = followed r related x in
     let u = callOf p x .counted in
     let one-up = raised u t (below-first (tallied u t) (events (callOf p x .pool) calls) h) in
-    sum-run calls (tallied u t) (reached-call p x r) (f .mirrors) (omega (arith, e, f .weighs, one-up .gains, one-up .loses)) h
+    sum-run calls (tallied u t) (reached-call p x r) (f .related) (omega (arith, e, f .page-count, one-up .gains, one-up .loses)) h
 
 pub sum : Claim-sum
-sum s t c h e calls low = sum-run calls zeroTally (starts s t c h e .reached) (mirrors-start s t c h e) (omega (arith, kept-none s)) low
+sum s t c h e calls low = sum-run calls zeroTally (setup-done s t c h e .reached) (start-related s t c h e) (omega (arith, pageCount-none s)) low

@@ -26,8 +26,8 @@ use Rattle.pool.specs.declared.Client.{Client}
 use Rattle.pool.specs.declared.Call.the-variants.{Begin, Step}
 use Rattle.invariant.proofs.After.{client-past}
 use Rattle.guarantee.specs.Runs.{Event, events, At, Begins}
-use Rattle.guarantee.specs.Claims.{Evicts, TakenOut, takesEffect, Effects, TurnedDown, Alone}
-use Rattle.guarantee.proofs.Turned.{other-call}
+use Rattle.guarantee.specs.Claims.{Evicts, TakenOut, takesEffect, TakesEffect, TurnedDown, Alone}
+use Rattle.guarantee.proofs.TurnedDown.{other-call}
 
 -- all that a run computes
 unfoldable computing : ℕ
@@ -42,33 +42,33 @@ unfolding choose both either scan howMany refusalOf within slot page pins count 
 computing = 0
 
 -- page 9 is admitted and released, and page 5 takes its slot: event 18 is the stage 14, event 19 the stage 15, event 22 the answer
-abbrev pub swap : List Event
-swap = events (setupOf 1 1 3 0 .pool) (admitAndRelease 9 ++ Begin 0 5 ∷ steps 0 12)
+abbrev pub swap-run : List Event
+swap-run = events (setupOf 1 1 3 0 .pool) (admitAndRelease 9 ++ Begin 0 5 ∷ steps 0 12)
 
 zero-one : _≡_ {A = ℕ} 0 1 → ⊥
 zero-one e = omega arith
 
-pub evicted : At (Evicts 0) swap 18
+pub eviction : At (Evicts 0) swap-run 18
 unfolding computing
-evicted = record { client-of = 0; stage = 14; step-of = (refl, refl); one-of = tt; puts-out = ((λ z. zero-one (sym z)), refl) }
+eviction = record { client-of = 0; stage = 14; step-of = (refl, refl); one-of = tt; becomes-evicted = ((λ z. zero-one (sym z)), refl) }
 
-pub taken-out : TakenOut swap 0 18 19
+pub taken-out : TakenOut swap-run 0 18 19
 unfolding computing
 taken-out =
     record {
       later = omega arith;
-      out = record { client-of = 0; step-of = (refl, refl); place = 0; named = refl; names-no-more = λ z. zero-one (sym z) };
+      replaces = record { client-of = 0; step-of = (refl, refl); at-slot = 0; named = refl; names-no-more = λ z. zero-one (sym z) };
       not-anew = λ m a b _. let none : ⊥ = omega arith in none;
     }
 
 -- the request that is begun at event 10 takes effect at event 22
-pub takes-effect : At (Effects 0) swap 22
+pub takes-effect : At (TakesEffect 0) swap-run 22
 unfolding computing
 takes-effect = (refl, tt)
 
 -- page 9 is held in the one slot: the request for page 5 that is begun at event 9 is refused by 15 at event 15
-abbrev pub held-up : List Event
-held-up = events (setupOf 1 1 3 0 .pool) (admit 9 ++ Begin 0 5 ∷ steps 0 6)
+abbrev pub refused-run : List Event
+refused-run = events (setupOf 1 1 3 0 .pool) (admit 9 ++ Begin 0 5 ∷ steps 0 6)
 
 module _ (c : ℕ) where
   -- among the client's own steps there is no begin
@@ -87,16 +87,16 @@ module _ (c : ℕ) where
 abbrev ten : ℕ → ℕ
 ten j = suc (suc (suc (suc (suc (suc (suc (suc (suc (suc j)))))))))
 
-pub alone-met : Alone held-up (poolAfter (setupOf 1 1 3 0 .pool) (admit 9)) 0 5 9 15
+pub alone-holds : Alone refused-run (poolAfter (setupOf 1 1 3 0 .pool) (admit 9)) 0 5 9 15
 unfolding computing
-alone-met =
+alone-holds =
     record {
       begun = (refl, refl, refl);
       others-rest = λ d z. ap (λ (k : Client). k .stage) (client-past (poolAfter (setupOf 1 1 3 0 .pool) (admit 9)) d (omega arith));
       later = omega arith;
       answered = (refl, inr refl);
-      same = λ m a b. subst (λ (i : ℕ). At (Begins 0) held-up i → ⊥) (ten-is m a) (no-begin 0 _ 6 (m - 10));
-      no-others = λ m a b. subst (At (λ e. (caller (e .asked) ≡ 0) ⊎ TurnedDown e) held-up) (ten-is m a) (own-calls 0 _ 6 (m - 10) (omega arith));
+      same-request = λ m a b. subst (λ (i : ℕ). At (Begins 0) refused-run i → ⊥) (ten-is m a) (no-begin 0 _ 6 (m - 10));
+      no-others = λ m a b. subst (At (λ e. (caller (e .asked) ≡ 0) ⊎ TurnedDown e) refused-run) (ten-is m a) (own-calls 0 _ 6 (m - 10) (omega arith));
     }
   where
     ten-is : (m : ℕ) → 9 < m → ten (m - 10) ≡ m

@@ -23,8 +23,8 @@ use Rattle.pool.specs.declared.Call.the-variants.{Begin, Step, Release}
 use Rattle.pool.specs.declared.Answer.{Answer}
 use Rattle.pool.specs.declared.Answer.the-variants.{Done, Working, Granted, Refused}
 use Rattle.pool.specs.declared.Counted.the-variants.{Nothing}
-use Rattle.guarantee.specs.Runs.{Event, happens, events, At, Throughout, StepAt, Begins, GrantedTo}
-use Rattle.guarantee.specs.Sequential.{Sequential, Keeps, taker, start, Rule, adding, admitting}
+use Rattle.guarantee.specs.Runs.{Event, eventOf, events, At, Throughout, StepAt, Begins, GrantedTo}
+use Rattle.guarantee.specs.Sequential.{Sequential, Keeps, seqClient, start, Rule, adding, admitting}
 
 -- ---- a. "any two grants of one page that were ever open together name the same frame"
 
@@ -35,11 +35,11 @@ OneCopy p =
 -- ---- b. "no held frame was evicted"
 
 -- a call leaves a frame evicted that was not
-abbrev pub PutsOut : ℕ → Event → Type 0
-PutsOut f e = (pins (e .before) f ≢ evicted) × (pins (e .next) f ≡ evicted)
+abbrev pub BecomesEvicted : ℕ → Event → Type 0
+BecomesEvicted f e = (pins (e .before) f ≢ evicted) × (pins (e .next) f ≡ evicted)
 
 abbrev pub NoHeldEvicted : List Event → Type 0
-NoHeldEvicted es = (f n : ℕ) → At (PutsOut f) es n → At (λ e. held (e .before) f ≡ false) es n
+NoHeldEvicted es = (f n : ℕ) → At (BecomesEvicted f) es n → At (λ e. held (e .before) f ≡ false) es n
 
 abbrev pub HeldPinned : Pool → Type 0
 HeldPinned p = (f : ℕ) → held p f ≡ true → pinned 1 ≤ pins p f
@@ -52,15 +52,15 @@ pub record Evicts (f : ℕ) (e : Event) : Type 0 where
   pub stage : ℕ
   pub step-of : StepAt client-of stage e
   pub one-of : T (eqb stage 14 || eqb stage 20 || eqb stage 23)
-  pub puts-out : PutsOut f e
+  pub becomes-evicted : BecomesEvicted f e
 
 -- "it is taken out of its slot each time a stage 15 replaces that frame in a slot before a stage 4 takes it anew"
 pub record Replaces (f : ℕ) (e : Event) : Type 0 where
   pub client-of : ℕ
   pub step-of : StepAt client-of 15 e
-  pub place : ℕ
-  pub named : slot (e .before) place ≡ f
-  pub names-no-more : slot (e .next) place ≢ f
+  pub at-slot : ℕ
+  pub named : slot (e .before) at-slot ≡ f
+  pub names-no-more : slot (e .next) at-slot ≢ f
 
 pub record Takes (f : ℕ) (e : Event) : Type 0 where
   pub client-of : ℕ
@@ -70,7 +70,7 @@ pub record Takes (f : ℕ) (e : Event) : Type 0 where
 -- the eviction of frame f at event k is taken out of its slot at event n
 pub record TakenOut (es : List Event) (f k n : ℕ) : Type 0 where
   pub later : k < n
-  pub out : At (Replaces f) es n
+  pub replaces : At (Replaces f) es n
   pub not-anew : (m : ℕ) → k < m → m < n → At (Takes f) es m → ⊥
 
 abbrev pub TakenOutOnce : List Event → Type 0
@@ -84,25 +84,25 @@ SamePages p q = (g f : ℕ) → Keeps q g f ↔ ((resident p g ≡ true) × (loo
 
 -- and its clients stand where the real ones stand
 abbrev pub SameStages : Pool → Sequential → Type 0
-SameStages p q = (c : ℕ) → taker q c .stage ≡ client p c .stage
+SameStages p q = (c : ℕ) → seqClient q c .stage ≡ client p c .stage
 
 -- the sequential pool, from state q, can answer each call as the pool p and its successors do
 pub data Follows : Pool → Sequential → List Call → Type 0 where
-  ends : {p : Pool} {q : Sequential} → SamePages p q → SameStages p q → Follows p q []
-  goes : {p : Pool} {q q′ : Sequential} {x : Call} {calls : List Call}
+  at-end : {p : Pool} {q : Sequential} → SamePages p q → SameStages p q → Follows p q []
+  at-call : {p : Pool} {q q′ : Sequential} {x : Call} {calls : List Call}
       → SamePages p q → SameStages p q → Rule q x (callOf p x .answer) q′ → Follows (callOf p x .pool) q′ calls → Follows p q (x ∷ calls)
 
 -- "each grant takes effect at exactly one action after its begin and no later than its answer"; "A grant takes effect where it is added or
 -- admitted.": the steps of which the sequential pool's rules `adds` and `admits` speak, by the stage and the answer, which both pools share
--- (`SameStages`, and the answer in `goes`)
+-- (`SameStages`, and the answer in `at-call`)
 unfoldable pub takesEffect : ℕ → Answer → Bool
 takesEffect i (Done n) = false
 takesEffect i (Working j) = adding i j
 takesEffect i (Granted f) = admitting i
 takesEffect i (Refused n) = false
 
-abbrev pub Effects : ℕ → Event → Type 0
-Effects c e = (e .asked ≡ Step c) × T (takesEffect (client (e .before) c .stage) (e .answer))
+abbrev pub TakesEffect : ℕ → Event → Type 0
+TakesEffect c e = (e .asked ≡ Step c) × T (takesEffect (client (e .before) c .stage) (e .answer))
 
 -- Client c's request that is begun at event k is open up to event n: no later begin of the client is done before n.
 abbrev pub SameRequest : List Event → ℕ → ℕ → ℕ → Type 0
@@ -114,7 +114,7 @@ ExactlyOne P es k n = (j : ℕ) × (k < j) × (j ≤ n) × At P es j × ((i : �
 
 abbrev pub OneEffect : List Event → Type 0
 OneEffect es =
-    (c k n : ℕ) → At (Begins c) es k → k < n → At (GrantedTo c) es n → SameRequest es c k n → ExactlyOne (Effects c) es k n
+    (c k n : ℕ) → At (Begins c) es k → k < n → At (GrantedTo c) es n → SameRequest es c k n → ExactlyOne (TakesEffect c) es k n
 
 -- ---- e. "A request in the list that is begun and answered while all other benches rest and release nothing is refused for want of a frame
 -- exactly when, at its begin, its page is absent and every slot names a held frame."
@@ -137,7 +137,7 @@ pub record Alone (es : List Event) (p : Pool) (c g k n : ℕ) : Type 0 where
   pub others-rest : (d : ℕ) → d ≢ c → client p d .stage ≡ 0
   pub later : k < n
   pub answered : At (AnswersTo c) es n
-  pub same : SameRequest es c k n
+  pub same-request : SameRequest es c k n
   pub no-others : (m : ℕ) → k < m → m < n → At (λ e. (caller (e .asked) ≡ c) ⊎ TurnedDown e) es m
 
 abbrev pub RefusedAlone : List Event → Type 0
@@ -179,8 +179,8 @@ abbrev pub Claim-answers : Type 0
 Claim-answers = (s t c h : ℕ) → setupOf s t c h .answer ≡ Done s → (calls : List Call) → Answered (setupOf s t c h .pool) calls
 
 -- "All but 15 change no pool, tally or list.": of every pool, from wherever it was handed
-abbrev pub Claim-turned : Type 0
-Claim-turned =
+abbrev pub Claim-turned-down : Type 0
+Claim-turned-down =
     (p : Pool) (x : Call) (n : ℕ) → callOf p x .answer ≡ Refused n → n ≢ 15 → (callOf p x .pool ≡ p) × (callOf p x .counted ≡ Nothing)
 
 -- "15 puts the bench to rest with its grants kept, forgets its frames, counts one refusal, and keeps earlier actions' effects.": nothing else changes
@@ -197,8 +197,8 @@ tallyOf t [] = t
 tallyOf t (e ∷ es) = tallyOf (tallied (e .counted) t) es
 
 -- "none of its counts is at that value"
-abbrev pub Below : Tally → Type 0
-Below t =
+abbrev pub BelowLargest : Tally → Type 0
+BelowLargest t =
     (t .hits < largest) × (t .joins < largest) × (t .admitted < largest) × (t .revived < largest) × (t .drops < largest) × (t .refused < largest)
 
 -- "resident pages = admitted + revived - drops"
@@ -207,7 +207,7 @@ Claim-sum =
     (s t c h : ℕ) → setupOf s t c h .answer ≡ Done s → (calls : List Call)
     → let p = setupOf s t c h .pool in
     let tally = tallyOf zeroTally (events p calls) in
-    Below tally → residents (poolAfter p calls) + tally .drops ≡ tally .admitted + tally .revived
+    BelowLargest tally → residents (poolAfter p calls) + tally .drops ≡ tally .admitted + tally .revived
 
 -- ---- "Stepped alone, all others resting, a hit takes at most 3 steps, and an admission to an empty slot at most S + 7."
 
@@ -233,7 +233,7 @@ Claim-limits =
 pub record Guarantee : Type 0 where
   pub point3 : Claim-point3
   pub answers : Claim-answers
-  pub turned : Claim-turned
+  pub turned-down : Claim-turned-down
   pub refused : Claim-refused
   pub sum : Claim-sum
   pub limits : Claim-limits

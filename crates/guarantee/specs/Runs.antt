@@ -19,13 +19,13 @@ pub record Event : Type 0 where
   pub counted : Counted
   pub next : Pool
 
-abbrev pub happens : Pool → Call → Event
-happens p x = let o = callOf p x in record { before = p; asked = x; answer = o .answer; counted = o .counted; next = o .pool }
+abbrev pub eventOf : Pool → Call → Event
+eventOf p x = let o = callOf p x in record { before = p; asked = x; answer = o .answer; counted = o .counted; next = o .pool }
 
 -- "each later call gets the pool the last one returned"
 unfoldable pub events : Pool → List Call → List Event
 events p [] = []
-events p (x ∷ calls) = happens p x ∷ events (callOf p x .pool) calls
+events p (x ∷ calls) = eventOf p x ∷ events (callOf p x .pool) calls
 
 -- the list has an element at place n, counted from 0, and that element has the property
 unfoldable pub At : {A : Type 0} → (A → Type 0) → List A → ℕ → Type 0

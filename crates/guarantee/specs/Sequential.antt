@@ -16,39 +16,39 @@ use Rattle.pool.specs.declared.Answer.the-variants.{Done, Working, Granted, Ref
 -- ---- its state
 
 -- room for one page: empty, or a page with its frame
-pub data Place : Type 0 where
-  empty : Place
-  holds : (page frame : ℕ) → Place
+pub data SeqSlot : Type 0 where
+  empty : SeqSlot
+  stores : (page frame : ℕ) → SeqSlot
 
 -- A client: the stage it stands at, 0 where it rests; the page it wants; and the page of each grant it has, as often as it has one.
 -- So a page's grants by client are how often the page stands in each client's list.
-pub record Taker : Type 0 where
+pub record SeqClient : Type 0 where
   pub stage : ℕ
   pub wants : ℕ
   pub grants : List ℕ
 
 -- "It keeps at most S pages, each with a frame and its grants by bench, and for each bench the page wanted and the stage it stands at, or that
--- it rests.": S places, so never more than S pages, and T clients.
+-- it rests.": S slots, so never more than S pages, and T clients.
 pub record Sequential : Type 0 where
-  pub places : List Place
-  pub takers : List Taker
+  pub slots : List SeqSlot
+  pub clients : List SeqClient
 
-abbrev pub place : Sequential → ℕ → Place
-place q i = getD (q .places) i empty
+abbrev pub seqSlot : Sequential → ℕ → SeqSlot
+seqSlot q i = getD (q .slots) i empty
 
-abbrev pub resting : List ℕ → Taker
-resting grants = record { stage = 0; wants = 0; grants = grants }
+abbrev pub seqResting : List ℕ → SeqClient
+seqResting grants = record { stage = 0; wants = 0; grants = grants }
 
-abbrev pub taker : Sequential → ℕ → Taker
-taker q c = getD (q .takers) c (resting [])
+abbrev pub seqClient : Sequential → ℕ → SeqClient
+seqClient q c = getD (q .clients) c (seqResting [])
 
 -- "Its size is S, it has T benches, and it starts with no pages and every bench resting."
 abbrev pub start : ℕ → ℕ → Sequential
-start s t = record { places = replicate s empty; takers = replicate t (resting []) }
+start s t = record { slots = replicate s empty; clients = replicate t (seqResting []) }
 
 -- a page is there, with a frame; it is absent; no page has the frame
 abbrev pub Keeps : Sequential → ℕ → ℕ → Type 0
-Keeps q g f = (i : ℕ) × (place q i ≡ holds g f)
+Keeps q g f = (i : ℕ) × (seqSlot q i ≡ stores g f)
 
 abbrev pub Absent : Sequential → ℕ → Type 0
 Absent q g = (f : ℕ) → Keeps q g f → ⊥
@@ -68,12 +68,12 @@ without g [] = []
 without g (x ∷ xs) = choose (eqb x g) xs (x ∷ without g xs)
 
 -- the number by which a call is turned down, 0 where it is not
-unfoldable pub turnedBy : Sequential → Call → ℕ
-turnedBy q (Begin c g) =
-    choose (ltb c (length (q .takers))) (choose (eqb (taker q c .stage) 0) (choose (ltb (length (taker q c .grants)) 8) 0 12) 10) 9
-turnedBy q (Step c) = choose (ltb c (length (q .takers))) (choose (eqb (taker q c .stage) 0) 11 0) 9
-turnedBy q (Release c g) =
-    choose (ltb c (length (q .takers))) (choose (eqb (taker q c .stage) 0) (choose (member g (taker q c .grants)) 0 13) 10) 9
+unfoldable pub seqRefusal : Sequential → Call → ℕ
+seqRefusal q (Begin c g) =
+    choose (ltb c (length (q .clients))) (choose (eqb (seqClient q c .stage) 0) (choose (ltb (length (seqClient q c .grants)) 8) 0 12) 10) 9
+seqRefusal q (Step c) = choose (ltb c (length (q .clients))) (choose (eqb (seqClient q c .stage) 0) 11 0) 9
+seqRefusal q (Release c g) =
+    choose (ltb c (length (q .clients))) (choose (eqb (seqClient q c .stage) 0) (choose (member g (seqClient q c .grants)) 0 13) 10) 9
 
 -- ---- its steps
 
@@ -90,36 +90,36 @@ answering i = eqb i 3 || eqb i 21
 abbrev pub dropping : ℕ → ℕ → Bool
 dropping i j = eqb i 14 && eqb j 15
 
--- A step of a client, k: the answer, and the places and the client after it. "The bench then stands at the answer's stage; granted or refused
+-- A step of a client, k: the answer, and the slots and the client after it. "The bench then stands at the answer's stage; granted or refused
 -- by 15, it rests."
-pub data StepRule (q : Sequential) (k : Taker) : Answer → List Place → Taker → Type 0 where
+pub data StepRule (q : Sequential) (k : SeqClient) : Answer → List SeqSlot → SeqClient → Type 0 where
   -- "adds a grant to the wanted page, which must be there"
   adds : {j f : ℕ} → T (adding (k .stage) j) → Keeps q (k .wants) f
-      → StepRule q k (Working j) (q .places) (record { stage = j; wants = k .wants; grants = k .wants ∷ k .grants })
+      → StepRule q k (Working j) (q .slots) (record { stage = j; wants = k .wants; grants = k .wants ∷ k .grants })
   -- "admits that page, which must be absent, with one grant and the answer's frame, which no other page may have; there must be fewer than S
-  -- pages": place i is empty
-  admits : {f : ℕ} → T (admitting (k .stage)) → Absent q (k .wants) → Unused q f → (i : ℕ) → i < length (q .places) → place q i ≡ empty
-      → StepRule q k (Granted f) (set (q .places) i (holds (k .wants) f)) (resting (k .wants ∷ k .grants))
+  -- pages": slot i is empty
+  admits : {f : ℕ} → T (admitting (k .stage)) → Absent q (k .wants) → Unused q f → (i : ℕ) → i < length (q .slots) → seqSlot q i ≡ empty
+      → StepRule q k (Granted f) (set (q .slots) i (stores (k .wants) f)) (seqResting (k .wants ∷ k .grants))
   -- "drops some page without grants"
-  drops : {j g f : ℕ} → T (dropping (k .stage) j) → (i : ℕ) → place q i ≡ holds g f → ((c : ℕ) → member g (taker q c .grants) ≡ false)
-      → StepRule q k (Working j) (set (q .places) i empty) (record { stage = j; wants = k .wants; grants = k .grants })
+  drops : {j g f : ℕ} → T (dropping (k .stage) j) → (i : ℕ) → seqSlot q i ≡ stores g f → ((c : ℕ) → member g (seqClient q c .grants) ≡ false)
+      → StepRule q k (Working j) (set (q .slots) i empty) (record { stage = j; wants = k .wants; grants = k .grants })
   -- "Granted at 3 or 21 answers the wanted page's frame."
-  answers : {f : ℕ} → T (answering (k .stage)) → Keeps q (k .wants) f → StepRule q k (Granted f) (q .places) (resting (k .grants))
+  answers : {f : ℕ} → T (answering (k .stage)) → Keeps q (k .wants) f → StepRule q k (Granted f) (q .slots) (seqResting (k .grants))
   -- "Any other step, refusal 15 too, moves no page."
-  moves : {j : ℕ} → T (not (adding (k .stage) j || dropping (k .stage) j)) → 1 ≤ j → j ≤ 23
-      → StepRule q k (Working j) (q .places) (record { stage = j; wants = k .wants; grants = k .grants })
-  refuses : StepRule q k (Refused 15) (q .places) (resting (k .grants))
+  continues : {j : ℕ} → T (not (adding (k .stage) j || dropping (k .stage) j)) → 1 ≤ j → j ≤ 23
+      → StepRule q k (Working j) (q .slots) (record { stage = j; wants = k .wants; grants = k .grants })
+  refuses : StepRule q k (Refused 15) (q .slots) (seqResting (k .grants))
 
-abbrev pub withTaker : Sequential → ℕ → Taker → Sequential
-withTaker q c k = record { places = q .places; takers = set (q .takers) c k }
+abbrev pub withSeqClient : Sequential → ℕ → SeqClient → Sequential
+withSeqClient q c k = record { slots = q .slots; clients = set (q .clients) c k }
 
 pub data Rule (q : Sequential) : Call → Answer → Sequential → Type 0 where
-  turns : {x : Call} {n : ℕ} → turnedBy q x ≡ n → n ≢ 0 → Rule q x (Refused n) q
+  turns-down : {x : Call} {n : ℕ} → seqRefusal q x ≡ n → n ≢ 0 → Rule q x (Refused n) q
   -- "Begin: the bench wants the page and stands at 1; done."
-  begins : {c g : ℕ} → turnedBy q (Begin c g) ≡ 0
-      → Rule q (Begin c g) (Done g) (withTaker q c (record { stage = 1; wants = g; grants = taker q c .grants }))
+  begins : {c g : ℕ} → seqRefusal q (Begin c g) ≡ 0
+      → Rule q (Begin c g) (Done g) (withSeqClient q c (record { stage = 1; wants = g; grants = seqClient q c .grants }))
   -- "Release: one grant of the bench on the page ends; done."
-  releases : {c g : ℕ} → turnedBy q (Release c g) ≡ 0
-      → Rule q (Release c g) (Done g) (withTaker q c (resting (without g (taker q c .grants))))
-  steps : {c : ℕ} {a : Answer} {places : List Place} {k : Taker} → turnedBy q (Step c) ≡ 0 → StepRule q (taker q c) a places k
-      → Rule q (Step c) a (record { places = places; takers = set (q .takers) c k })
+  releases : {c g : ℕ} → seqRefusal q (Release c g) ≡ 0
+      → Rule q (Release c g) (Done g) (withSeqClient q c (seqResting (without g (seqClient q c .grants))))
+  steps : {c : ℕ} {a : Answer} {slots : List SeqSlot} {k : SeqClient} → seqRefusal q (Step c) ≡ 0 → StepRule q (seqClient q c) a slots k
+      → Rule q (Step c) a (record { slots = slots; clients = set (q .clients) c k })

@@ -16,19 +16,19 @@ use Rattle.pool.specs.declared.Client.{Client}
 use Rattle.pool.specs.declared.Call.{Call}
 use Rattle.pool.specs.declared.Call.the-variants.{Begin, Step, Release}
 use Rattle.laws.specs.Choices.{by-test}
-use Rattle.invariant.proofs.Flags.{differ}
+use Rattle.invariant.proofs.StageTests.{differ}
 
 -- the checks after 8 turn down by 9 to 13
-abbrev Late : ℕ → Type 0
-Late n = (n < 14) × (n ≢ 8)
+abbrev After8 : ℕ → Type 0
+After8 n = (n < 14) × (n ≢ 8)
 
-pub refusal-at : (p : Pool) (k : Client) (x : Call) → Late (refusalAt p k x)
+pub refusal-at : (p : Pool) (k : Client) (x : Call) → After8 (refusalAt p k x)
 unfolding refusalAt
 refusal-at p k (Begin c g) =
-    by-test Late (λ _. by-test Late (λ _. (omega arith, differ 0 8 tt)) (λ _. (omega arith, differ 12 8 tt))) (λ _. (omega arith, differ 10 8 tt))
-refusal-at p k (Step c) = by-test Late (λ _. (omega arith, differ 11 8 tt)) (λ _. (omega arith, differ 0 8 tt))
+    by-test After8 (λ _. by-test After8 (λ _. (omega arith, differ 0 8 tt)) (λ _. (omega arith, differ 12 8 tt))) (λ _. (omega arith, differ 10 8 tt))
+refusal-at p k (Step c) = by-test After8 (λ _. (omega arith, differ 11 8 tt)) (λ _. (omega arith, differ 0 8 tt))
 refusal-at p k (Release c g) =
-    by-test Late (λ _. by-test Late (λ _. (omega arith, differ 13 8 tt)) (λ _. (omega arith, differ 0 8 tt))) (λ _. (omega arith, differ 10 8 tt))
+    by-test After8 (λ _. by-test After8 (λ _. (omega arith, differ 13 8 tt)) (λ _. (omega arith, differ 0 8 tt))) (λ _. (omega arith, differ 10 8 tt))
 
 pub refusal-low : (p : Pool) (x : Call) → refusal p x < 14
 unfolding refusal

@@ -22,7 +22,7 @@ use Rattle.laws.specs.Choices.{by-test, chosen, passed}
 use Rattle.laws.specs.Scans.{both-yes}
 use Rattle.invariant.proofs.Reached.{Reached}
 use Rattle.invariant.proofs.After.{shape-next}
-use Rattle.invariant.proofs.Flags.{differ}
+use Rattle.invariant.proofs.StageTests.{differ}
 use Rattle.invariant.proofs.Allowed.{refusal-at}
 use Rattle.invariant.proofs.Edges.{Edge}
 use Rattle.invariant.proofs.Steps.{call-edge}
@@ -30,9 +30,9 @@ use Rattle.invariant.proofs.Effects.{Effect, effect}
 use Rattle.invariant.proofs.Ranges.{ranges-next}
 use Rattle.invariant.proofs.Places.{places-next}
 use Rattle.invariant.proofs.Private.{private-next}
-use Rattle.invariant.proofs.Counts.{counts-next}
-use Rattle.invariant.proofs.Outline.{outline-next}
-use Rattle.invariant.proofs.Calm.{calm-next}
+use Rattle.invariant.proofs.PinCounts.{pin-counts-next}
+use Rattle.invariant.proofs.Mapping.{mapping-next}
+use Rattle.invariant.proofs.Evictions.{evictions-next}
 use Rattle.invariant.proofs.Valid.{valid-reached}
 use Rattle.invariant.proofs.Setup.{reached-setup}
 
@@ -46,42 +46,42 @@ reached-move p c m h r e =
       ranges = ranges-next e x;
       places = places-next x;
       private = private-next x;
-      counts = counts-next p c r e x;
-      outline = outline-next p c r e x;
-      calm = calm-next p c r e x;
+      pin-counts = pin-counts-next p c r e x;
+      mapping = mapping-next p c r e x;
+      evictions = evictions-next p c r e x;
     }
 
 -- ---- a call
 
 -- what a call leaves that is the move m of client c
-abbrev pub did : Pool → ℕ → Move → Outcome
-did p c m = record { answer = m .answer; counted = m .counted; pool = apply p c m }
+abbrev pub outcomeOf : Pool → ℕ → Move → Outcome
+outcomeOf p c m = record { answer = m .answer; counted = m .counted; pool = apply p c m }
 
 module _ (p : Pool) (x : Call) where
   pub never-stuck : Reached p → refusal p x ≡ 0 → refusalOf (moveOf p x .answer) ≢ 8
-  never-stuck r e = let w = call-edge p x r e in differ (refusalOf (moveOf p x .answer)) 8 (effect p (caller x) (w .0) r (w .1) .sound)
+  never-stuck r e = let w = call-edge p x r e in differ (refusalOf (moveOf p x .answer)) 8 (effect p (caller x) (w .0) r (w .1) .not-stuck)
 
   reached-next : Reached p → refusal p x ≡ 0 → Reached (apply p (caller x) (moveOf p x))
   reached-next r e = let w = call-edge p x r e in reached-move p (caller x) (moveOf p x) (w .0) r (w .1)
 
   -- a call that is not turned down makes its move
-  pub call-moves : Reached p → refusal p x ≡ 0 → callOf p x ≡ did p (caller x) (moveOf p x)
+  pub call-moves : Reached p → refusal p x ≡ 0 → callOf p x ≡ outcomeOf p (caller x) (moveOf p x)
   unfolding callOf finished
   call-moves r e =
       chosen _ _ _ (eq-eqb _ _ e) ∙
       chosen _ _ _ (both-yes _ _ (rw (ne-eqb (refusalOf (moveOf p x .answer)) 8 (never-stuck r e))) (valid-reached _ (reached-next r e)))
 
   -- one that is turned down changes nothing
-  pub call-turned : (n : ℕ) → refusal p x ≡ n → n ≢ 0 → callOf p x ≡ turnedDown n p
+  pub call-turned-down : (n : ℕ) → refusal p x ≡ n → n ≢ 0 → callOf p x ≡ turnedDown n p
   unfolding callOf
-  call-turned n e z = passed _ _ _ (ne-eqb _ _ (λ w. z (sym e ∙ w))) ∙ ap (λ (n : ℕ). turnedDown n p) e
+  call-turned-down n e z = passed _ _ _ (ne-eqb _ _ (λ w. z (sym e ∙ w))) ∙ ap (λ (n : ℕ). turnedDown n p) e
 
   pub reached-call : Reached p → Reached (callOf p x .pool)
   reached-call r = go (ℕ-discrete (refusal p x) 0)
     where
       go : Dec (refusal p x ≡ 0) → Reached (callOf p x .pool)
       go (yes e) = subst (λ (o : Outcome). Reached (o .pool)) (sym (call-moves r e)) (reached-next r e)
-      go (no e) = subst (λ (o : Outcome). Reached (o .pool)) (sym (call-turned (refusal p x) refl e)) r
+      go (no e) = subst (λ (o : Outcome). Reached (o .pool)) (sym (call-turned-down (refusal p x) refl e)) r
 
   -- 8 is no refusal of a reached pool
   pub refusal-not-8 : Reached p → refusal p x ≢ 8

@@ -1,5 +1,5 @@
 -- The moves that a call makes in a reached pool, one constructor for each kind, with what its tests found. A stuck move is none of them: no reached
--- pool makes one. Most steps only move the client on, with its frames and grants as they were and the slots, frames and table untouched: `on`.
+-- pool makes one. Most steps only move the client on, with its frames and grants as they were and the slots, frames and table untouched: `moves-on`.
 -- Definitions only. Assumes nothing.
 use mathlib.Core.Path.{_≡_}
 use mathlib.Core.Logic.{_≢_, _⊎_}
@@ -22,30 +22,30 @@ use Rattle.pool.specs.declared.Counted.the-variants.{Hit, Join, Admitted, Reviv
 use Rattle.pool.specs.declared.GrantChange.the-variants.{Open, End}
 use Rattle.pool.specs.declared.Write.{Write}
 use Rattle.pool.specs.declared.Write.the-variants.{Keep, PutSlot, PutPins, PutCount, TakeFrame, PutEntry, PutHand, PutFree}
-use Rattle.invariant.proofs.Reached.{one, mapped, victimless, filling, hunting, Knows, Leaves}
-use Rattle.invariant.proofs.Flags.{Onward, Visits}
+use Rattle.invariant.proofs.Reached.{one, mapped, victimless, filling, examining, Knows, WillUnmap}
+use Rattle.invariant.proofs.StageTests.{Onward, MayRefuse}
 
--- a write that the slots, the frames' pages and pins, and the table do not see
-pub data Quiet (p : Pool) : Write → Type 0 where
-  keep : Quiet p Keep
-  hand : {h : ℕ} → Quiet p (PutHand h)
-  counts : {f x : ℕ} → x ≤ p .cap → Quiet p (PutCount f x)
-  free : {x : ℕ} → x ≤ p .size → Quiet p (PutFree x)
+-- a write of counters alone: the slots, the frames' pages and pins, and the table do not see it
+pub data CountersOnly (p : Pool) : Write → Type 0 where
+  keep : CountersOnly p Keep
+  hand : {h : ℕ} → CountersOnly p (PutHand h)
+  counts : {f x : ℕ} → x ≤ p .cap → CountersOnly p (PutCount f x)
+  free : {x : ℕ} → x ≤ p .size → CountersOnly p (PutFree x)
 
-pub record Alike (k n : Client) : Type 0 where
+pub record SameFrames (k n : Client) : Type 0 where
   pub page : n .page ≡ k .page
   pub own : n .own ≡ k .own
   pub found : n .found ≡ k .found
   pub held : n .held ≡ k .held
 
--- a hunting client n that was k hunts the frame that it hunted at that place, or the one that stands at its place now
-abbrev pub Hunts : Pool → Client → Client → Type 0
-Hunts p k n = ((n .victim ≡ k .victim) × (n .place ≡ k .place) × T (hunting (k .stage))) ⊎ (n .victim ≡ slot p (n .place))
+-- a client n that was k and examines a victim: the frame that it examined at that place, or the one that stands at its place now
+abbrev pub Examines : Pool → Client → Client → Type 0
+Examines p k n = ((n .victim ≡ k .victim) × (n .place ≡ k .place) × T (examining (k .stage))) ⊎ (n .victim ≡ slot p (n .place))
 
 -- client k goes on to stage j as n
-pub record Passes (p : Pool) (k n : Client) (j : ℕ) (w : Write) : Type 0 where
-  pub same : Alike k n
-  pub quiet : Quiet p w
+pub record MovesOn (p : Pool) (k n : Client) (j : ℕ) (w : Write) : Type 0 where
+  pub same : SameFrames k n
+  pub counters-only : CountersOnly p w
   pub stages : Onward (k .stage) j
   pub place-ok : n .place < p .size
   pub busy-ok : n .busy < p .size
@@ -53,9 +53,9 @@ pub record Passes (p : Pool) (k n : Client) (j : ℕ) (w : Write) : Type 0 where
   pub victim-ok : n .victim ≢ none → n .victim < total p
   pub knows : Knows j p (standing n j)
   pub no-victim : T (victimless j) → n .victim ≡ none
-  pub six : j ≡ 6 → n .seen ≢ 0
-  pub hunts : T (hunting j) → Hunts p k n
-  pub leaves : (f : ℕ) → f ≢ none → mapped p f ≢ 0 → Leaves p k f → Leaves p (standing n j) f
+  pub six-seen : j ≡ 6 → n .seen ≢ 0
+  pub examines : T (examining j) → Examines p k n
+  pub will-unmap : (f : ℕ) → f ≢ none → mapped p f ≢ 0 → WillUnmap p k f → WillUnmap p (standing n j) f
   pub fills : p .free + one (filling (k .stage)) ≡ freeAfter (p .free) w + one (filling j)
 
 -- client k, which is to rest, is granted frame f
@@ -74,13 +74,13 @@ module _ (p : Pool) (c : ℕ) where
       completes g (holding k (k .held - 1)) (End i (k .held - 1)) (PutPins f (pins p f - 1))
 
   pub data Edge : Move → Type 0 where
-    on : (n : Client) (j : ℕ) (w : Write) → Passes p k n j w → Edge (works n j w)
+    moves-on : (n : Client) (j : ℕ) (w : Write) → MovesOn p k n j w → Edge (works n j w)
     -- 1, 18: the look-up found a frame
     found1 : k .stage ≡ 1 → lookup p (k .page) ≢ none → Edge (works (withFound k (lookup p (k .page))) 2 Keep)
     found18 : k .stage ≡ 18 → lookup p (k .page) ≢ none → Edge (works (withFound k (lookup p (k .page))) 19 Keep)
     -- 2: the found frame is evicted. 22: the page is mapped to another
-    lost2 : k .stage ≡ 2 → pins p (k .found) ≡ evicted → Edge (works (withFound k none) 4 Keep)
-    lost22 : k .stage ≡ 22 → lookup p (k .page) ≢ k .found → Edge (works (withFound k none) 23 Keep)
+    forgets2 : k .stage ≡ 2 → pins p (k .found) ≡ evicted → Edge (works (withFound k none) 4 Keep)
+    forgets22 : k .stage ≡ 22 → lookup p (k .page) ≢ k .found → Edge (works (withFound k none) 23 Keep)
     -- 2, 19: the found frame is pinned
     pins2 : k .stage ≡ 2 → pins p (k .found) ≢ evicted → Edge (works k 3 (PutPins (k .found) (pins p (k .found) + 1)))
     pins19 : k .stage ≡ 19 → pins p (k .found) ≢ evicted → Edge (works k 20 (PutPins (k .found) (pins p (k .found) + 1)))
@@ -90,9 +90,9 @@ module _ (p : Pool) (c : ℕ) where
     takes : k .stage ≡ 4 → freeFrame p ≢ none → Edge (works (withOwn k (freeFrame p)) 5 (TakeFrame (freeFrame p) (k .page) (pinned 1) 1))
     -- 8, 15: the own frame is put into the slot
     fills : k .stage ≡ 8 → slot p (k .place) ≡ none → Edge (works k 9 (PutSlot (k .place) (k .own)))
-    swaps : k .stage ≡ 15 → slot p (k .place) ≡ k .victim → Edge (works k 16 (PutSlot (k .place) (k .own)))
+    replaces : k .stage ≡ 15 → slot p (k .place) ≡ k .victim → Edge (works k 16 (PutSlot (k .place) (k .own)))
     -- 11, 12: the S-th busy visit
-    gives-up : Visits (k .stage) → k .busy + 1 ≡ p .size → Edge (refused15 k)
+    refuses : MayRefuse (k .stage) → k .busy + 1 ≡ p .size → Edge (refused15 k)
     drops : k .stage ≡ 14 → pins p (k .victim) ≡ pinned 0 → Edge (worksAs k Drop 15 (PutPins (k .victim) evicted))
     removes : k .stage ≡ 17 → lookup p (page p (k .victim)) ≡ k .victim
         → Edge (works (withVictim k none) 18 (PutEntry (entryOf p (page p (k .victim))) (page p (k .victim)) none))

@@ -24,27 +24,27 @@ use Rattle.pool.specs.declared.GrantChange.the-variants.{Same, Open, End}
 use Rattle.pool.specs.declared.Write.{Write}
 use Rattle.pool.specs.declared.Write.the-variants.{PutSlot, PutPins, PutCount, TakeFrame, PutEntry}
 use Rattle.invariant.proofs.After.{SlotsStay, PinsStay, PinsPut, PagesStay, PagesPut, CountsStay, CountsPut, EntryPagesStay, EntryFramesStay}
-use Rattle.invariant.proofs.Writes.{silent, Untouched, untouched}
-use Rattle.invariant.proofs.Reached.{Reached, mapped, Seated, Knows, unplaced, pinsFound, leaving}
+use Rattle.invariant.proofs.Writes.{countersOnly, Untouched, untouched}
+use Rattle.invariant.proofs.Reached.{Reached, mapped, InSlot, Knows, unplaced, pinsFound, unmapping}
 use Rattle.invariant.proofs.Searches.{lookup-found, lookup-none, unused-found, grantOf-found, free-found}
 use Rattle.invariant.proofs.Table.{suc-not, lookup-mapped}
-use Rattle.invariant.proofs.Grants.{Granting, keeps, opens, ends}
-use Rattle.invariant.proofs.Never.{know}
-use Rattle.invariant.proofs.Flags.{differ, imp}
-use Rattle.invariant.proofs.Facts.{raised-ok, grant-live, found-live, one-more}
-use Rattle.invariant.proofs.Edges.{Quiet, keep, hand, counts, free, Edge, on, grants, found1, found18, lost2, lost22, pins2, pins19, gets3, gets21}
-use Rattle.invariant.proofs.Edges.{takes, fills, swaps, gives-up, drops, removes, admits, revives, evicts20, evicts23, begins, releases}
+use Rattle.invariant.proofs.Grants.{GrantsOk, grants-stay, grant-opens, grant-ends}
+use Rattle.invariant.proofs.NeverFails.{know}
+use Rattle.invariant.proofs.StageTests.{differ, imp}
+use Rattle.invariant.proofs.Facts.{raised-ok, grant-pinned, found-pinned, one-more-pin}
+use Rattle.invariant.proofs.Edges.{CountersOnly, keep, hand, counts, free, Edge, moves-on, grants, found1, found18, forgets2, forgets22, pins2, pins19}
+use Rattle.invariant.proofs.Edges.{gets3, gets21, takes, fills, replaces, refuses, drops, removes, admits, revives, evicts20, evicts23, begins, releases}
 
 -- the move is not stuck
-abbrev Sound : Move → Type 0
-Sound m = T (not (eqb (refusalOf (m .answer)) 8))
+abbrev NotStuck : Move → Type 0
+NotStuck m = T (not (eqb (refusalOf (m .answer)) 8))
 
 -- a write keeps free, the last frame taken and the counts in their ranges
 pub data CountOk (p : Pool) (w : Write) : Type 0 where
   counts-stay : CountsStay p w → CountOk p w
   counts-put : (f x : ℕ) → CountsPut p w f x → x ≤ p .cap → CountOk p w
 
-pub record Written (p : Pool) (w : Write) : Type 0 where
+pub record WriteOk (p : Pool) (w : Write) : Type 0 where
   pub free-ok : freeAfter (p .free) w ≤ p .size
   pub last-ok : (lastAfter (p .last) w ≡ none) ⊎ (lastAfter (p .last) w < total p)
   pub count-ok : CountOk p w
@@ -55,19 +55,19 @@ module _ (p : Pool) (c : ℕ) (m : Move) where
 
   -- how the client came by its own frame
   pub data OwnOk : Type 0 where
-    forgot : m .next .own ≡ none → OwnOk
-    kept : m .next .own ≡ k .own → T (imp (unplaced (m .next .stage)) (unplaced (k .stage))) → OwnOk
-    taken : k .stage ≡ 4 → m .next .own < total p → referenced p (m .next .own) ≡ false
+    own-forgotten : m .next .own ≡ none → OwnOk
+    own-stays : m .next .own ≡ k .own → T (imp (unplaced (m .next .stage)) (unplaced (k .stage))) → OwnOk
+    own-taken : k .stage ≡ 4 → m .next .own < total p → referenced p (m .next .own) ≡ false
         → m .write ≡ TakeFrame (m .next .own) (m .next .page) (pinned 1) 1 → OwnOk
 
   -- the slot at i is empty, or the client takes its evicted victim out of it
   abbrev pub Vacant : ℕ → Type 0
-  Vacant i = (slot p i ≡ none) ⊎ ((slot p i ≡ k .victim) × (pins p (k .victim) ≡ evicted) × T (leaving (m .next .stage)) × (m .next .victim ≡ k .victim))
+  Vacant i = (slot p i ≡ none) ⊎ ((slot p i ≡ k .victim) × (pins p (k .victim) ≡ evicted) × T (unmapping (m .next .stage)) × (m .next .victim ≡ k .victim))
 
   -- the own frame is put into a slot
   pub data SlotOk : Type 0 where
     slots-stay : SlotsStay p (m .write) → SlotOk
-    puts : (i : ℕ) → m .write ≡ PutSlot i (k .own) → i < p .size → T (unplaced (k .stage)) → T (not (unplaced (m .next .stage)))
+    slot-put : (i : ℕ) → m .write ≡ PutSlot i (k .own) → i < p .size → T (unplaced (k .stage)) → T (not (unplaced (m .next .stage)))
         → k .own ≢ none → Vacant i → SlotOk
 
   -- frame f gets pins x
@@ -76,7 +76,7 @@ module _ (p : Pool) (c : ℕ) (m : Move) where
     lowers : pinned 1 ≤ pins p f → x ≡ pins p f - 1 → PinChange f x
     drops-victim : f ≡ k .victim → pins p f ≡ pinned 0 → x ≡ evicted → k .stage ≡ 14 → m .next .stage ≡ 15 → m .next .victim ≡ k .victim
         → m .next .place ≡ k .place → PinChange f x
-    drops-own : f ≡ k .own → x ≡ evicted → PinChange f x
+    own-evicted : f ≡ k .own → x ≡ evicted → PinChange f x
     takes-one : referenced p f ≡ false → x ≡ pinned 1 → PinChange f x
 
   pub data PinsOk : Type 0 where
@@ -85,8 +85,8 @@ module _ (p : Pool) (c : ℕ) (m : Move) where
 
   pub data FoundOk : Type 0 where
     found-stays : m .next .found ≡ k .found → FoundOk
-    lost : m .next .found ≡ none → FoundOk
-    looked : m .next .found < total p → mapped p (m .next .found) ≢ 0 → FoundOk
+    found-forgotten : m .next .found ≡ none → FoundOk
+    found-looked-up : m .next .found < total p → mapped p (m .next .found) ≢ 0 → FoundOk
 
   -- whose frame f a new grant of page g names
   pub data Opened (g f : ℕ) : Type 0 where
@@ -96,13 +96,13 @@ module _ (p : Pool) (c : ℕ) (m : Move) where
   -- a page is mapped to the own frame, at a place that is unused or whose frame is evicted; or the evicted victim's entry is removed
   pub data EntryOk : Type 0 where
     entries-stay : EntryPagesStay p (m .write) → EntryFramesStay p (m .write) → EntryOk
-    maps : (i : ℕ) → m .write ≡ PutEntry i (k .page) (k .own) → i < total p → k .own ≢ none → m .next .own ≡ none → Seated p (k .own)
+    maps : (i : ℕ) → m .write ≡ PutEntry i (k .page) (k .own) → i < total p → k .own ≢ none → m .next .own ≡ none → InSlot p (k .own)
         → (entryFrame p i ≡ none) ⊎ (pins p (entryFrame p i) ≡ evicted) → ((j : ℕ) → j ≢ i → entryFrame p j ≢ none → entryPage p j ≢ k .page) → EntryOk
     unmaps : (i g : ℕ) → m .write ≡ PutEntry i g none → i < total p → entryFrame p i ≡ k .victim → pins p (k .victim) ≡ evicted → EntryOk
 
   pub data PageOk : Type 0 where
     pages-stay : PagesStay p (m .write) → PageOk
-    paged : (f : ℕ) → referenced p f ≡ false → PagesPut p (m .write) f (m .next .page) → PageOk
+    page-put : (f : ℕ) → referenced p f ≡ false → PagesPut p (m .write) f (m .next .page) → PageOk
 
   -- with what it comes from: a client of a reached pool made the move
   pub record Effect : Type 0 where
@@ -112,23 +112,23 @@ module _ (p : Pool) (c : ℕ) (m : Move) where
     pub slot : SlotOk
     pub pins : PinsOk
     pub found : FoundOk
-    pub grants : Granting p c m
+    pub grants : GrantsOk p c m
     pub opened : (g f : ℕ) → m .grants ≡ Open (k .held) g f → Opened g f
     pub entries : EntryOk
     pub pages : PageOk
-    pub written : Written p (m .write)
-    pub sound : Sound m
+    pub write-ok : WriteOk p (m .write)
+    pub not-stuck : NotStuck m
 
--- ---- a quiet write leaves the lists
+-- ---- a write of counters alone leaves the lists
 
-pub quiet-silent : {p : Pool} {w : Write} → Quiet p w → T (silent w)
-quiet-silent keep = tt
-quiet-silent hand = tt
-quiet-silent (counts _) = tt
-quiet-silent (free _) = tt
+pub counters-test : {p : Pool} {w : Write} → CountersOnly p w → T (countersOnly w)
+counters-test keep = tt
+counters-test hand = tt
+counters-test (counts _) = tt
+counters-test (free _) = tt
 
-pub unseen : {p : Pool} (n : ℕ) (l : List ℕ) {w : Write} → Quiet p w → Untouched n l w
-unseen n l {w} q = untouched n l w (quiet-silent q)
+pub counters-untouched : {p : Pool} (n : ℕ) (l : List ℕ) {w : Write} → CountersOnly p w → Untouched n l w
+counters-untouched n l {w} q = untouched n l w (counters-test q)
 
 -- ---- each kind of move
 
@@ -142,41 +142,41 @@ module _ (p : Pool) (c : ℕ) (here : c < clientCount p) (r : Reached p) where
   abbrev me : Client
   me = client p c
 
-  kn : (i : ℕ) → client p c .stage ≡ i → Knows i p me
-  kn = know p r c
+  known : (i : ℕ) → client p c .stage ≡ i → Knows i p me
+  known = know p r c
 
   -- free, the last frame taken and the counts are not written
-  unwritten : {w : Write} → freeAfter (p .free) w ≡ p .free → lastAfter (p .last) w ≡ p .last → CountsStay p w → Written p w
+  unwritten : {w : Write} → freeAfter (p .free) w ≡ p .free → lastAfter (p .last) w ≡ p .last → CountsStay p w → WriteOk p w
   unwritten a b e = record { free-ok = rw a (r .ranges .free-ok); last-ok = rw b (r .ranges .last-ok); count-ok = counts-stay e }
 
-  quiet-written : {w : Write} → Quiet p w → Written p w
+  counters-written : {w : Write} → CountersOnly p w → WriteOk p w
   unfolding freeAfter lastAfter countsAfter
-  quiet-written keep = unwritten refl refl refl
-  quiet-written hand = unwritten refl refl refl
-  quiet-written (counts {f} {x} h) = record { free-ok = r .ranges .free-ok; last-ok = r .ranges .last-ok; count-ok = counts-put f x refl h }
-  quiet-written (free h) = record { free-ok = h; last-ok = r .ranges .last-ok; count-ok = counts-stay refl }
+  counters-written keep = unwritten refl refl refl
+  counters-written hand = unwritten refl refl refl
+  counters-written (counts {f} {x} h) = record { free-ok = r .ranges .free-ok; last-ok = r .ranges .last-ok; count-ok = counts-put f x refl h }
+  counters-written (free h) = record { free-ok = h; last-ok = r .ranges .last-ok; count-ok = counts-stay refl }
 
-  -- a quiet write: only the client changes
-  quietly : {m : Move} → Sound m → Quiet p (m .write) → OwnOk p c m → FoundOk p c m → m .grants ≡ Same → m .next .held ≡ me .held → Effect p c m
-  quietly {m} s w o f g h =
+  -- a write of counters alone: only the client changes
+  client-only : {m : Move} → NotStuck m → CountersOnly p (m .write) → OwnOk p c m → FoundOk p c m → m .grants ≡ Same → m .next .held ≡ me .held → Effect p c m
+  client-only {m} s w o f g h =
       record {
         here = here;
         reached = r;
         own = o;
-        slot = slots-stay (unseen _ _ w .slots);
-        pins = pins-stay (unseen _ _ w .pins);
+        slot = slots-stay (counters-untouched _ _ w .slots);
+        pins = pins-stay (counters-untouched _ _ w .pins);
         found = f;
-        grants = keeps g h;
+        grants = grants-stay g h;
         opened = λ _ _ e. no-open (sym g ∙ e);
-        entries = entries-stay (unseen _ _ w .entry-pages) (unseen _ _ w .entry-frames);
-        pages = pages-stay (unseen _ _ w .pages);
-        written = quiet-written w;
-        sound = s;
+        entries = entries-stay (counters-untouched _ _ w .entry-pages) (counters-untouched _ _ w .entry-frames);
+        pages = pages-stay (counters-untouched _ _ w .pages);
+        write-ok = counters-written w;
+        not-stuck = s;
       }
 
   -- one frame's pins change, and no grant
-  pinning : {m : Move} → Sound m → (f x : ℕ) → m .write ≡ PutPins f x → f < total p → PinChange p c m f x → OwnOk p c m → m .next .found ≡ me .found
-      → Granting p c m → ((g y : ℕ) → m .grants ≡ Open (me .held) g y → Opened p c m g y) → Effect p c m
+  pinning : {m : Move} → NotStuck m → (f x : ℕ) → m .write ≡ PutPins f x → f < total p → PinChange p c m f x → OwnOk p c m → m .next .found ≡ me .found
+      → GrantsOk p c m → ((g y : ℕ) → m .grants ≡ Open (me .held) g y → Opened p c m g y) → Effect p c m
   unfolding slotsAfter pinsAfter entryPagesAfter entryFramesAfter pagesAfter freeAfter lastAfter countsAfter
   pinning s f x e h ch o fo g op =
       record {
@@ -190,12 +190,12 @@ module _ (p : Pool) (c : ℕ) (here : c < clientCount p) (r : Reached p) where
         opened = op;
         entries = entries-stay (rw e refl) (rw e refl);
         pages = pages-stay (rw e refl);
-        written = unwritten (rw e refl) (rw e refl) (rw e refl);
-        sound = s;
+        write-ok = unwritten (rw e refl) (rw e refl) (rw e refl);
+        not-stuck = s;
       }
 
   -- the own frame goes into a slot
-  placing : {m : Move} → Sound m → (i : ℕ) → m .write ≡ PutSlot i (me .own) → SlotOk p c m → OwnOk p c m → m .next .found ≡ me .found
+  placing : {m : Move} → NotStuck m → (i : ℕ) → m .write ≡ PutSlot i (me .own) → SlotOk p c m → OwnOk p c m → m .next .found ≡ me .found
       → m .grants ≡ Same → m .next .held ≡ me .held → Effect p c m
   unfolding slotsAfter pinsAfter entryPagesAfter entryFramesAfter pagesAfter freeAfter lastAfter countsAfter
   placing so i e s o f g h =
@@ -206,16 +206,16 @@ module _ (p : Pool) (c : ℕ) (here : c < clientCount p) (r : Reached p) where
         slot = s;
         pins = pins-stay (rw e refl);
         found = found-stays f;
-        grants = keeps g h;
+        grants = grants-stay g h;
         opened = λ _ _ x. no-open (sym g ∙ x);
         entries = entries-stay (rw e refl) (rw e refl);
         pages = pages-stay (rw e refl);
-        written = unwritten (rw e refl) (rw e refl) (rw e refl);
-        sound = so;
+        write-ok = unwritten (rw e refl) (rw e refl) (rw e refl);
+        not-stuck = so;
       }
 
   -- one entry of the table changes
-  entering : {m : Move} → Sound m → (i g f : ℕ) → m .write ≡ PutEntry i g f → EntryOk p c m → OwnOk p c m → FoundOk p c m → Granting p c m
+  entering : {m : Move} → NotStuck m → (i g f : ℕ) → m .write ≡ PutEntry i g f → EntryOk p c m → OwnOk p c m → FoundOk p c m → GrantsOk p c m
       → ((g y : ℕ) → m .grants ≡ Open (me .held) g y → Opened p c m g y) → Effect p c m
   unfolding slotsAfter pinsAfter pagesAfter freeAfter lastAfter countsAfter
   entering s i g f e en o fo gr op =
@@ -230,8 +230,8 @@ module _ (p : Pool) (c : ℕ) (here : c < clientCount p) (r : Reached p) where
         opened = op;
         entries = en;
         pages = pages-stay (rw e refl);
-        written = unwritten (rw e refl) (rw e refl) (rw e refl);
-        sound = s;
+        write-ok = unwritten (rw e refl) (rw e refl) (rw e refl);
+        not-stuck = s;
       }
 
   -- what a look-up finds
@@ -239,7 +239,7 @@ module _ (p : Pool) (c : ℕ) (here : c < clientCount p) (r : Reached p) where
   looking g z =
       let f = lookup-found p (r .shape) g z in (
         subst (λ (x : ℕ). x < total p) (f .entry-frame) (r .ranges .entry-ok (entryOf p g) (λ w. z (sym (f .entry-frame) ∙ w))),
-        suc-not (lookup-mapped p (r .shape) (r .outline .entries-apart) g z),
+        suc-not (lookup-mapped p (r .shape) (r .mapping .entries-distinct) g z),
       )
 
   -- one more pin for the found frame
@@ -247,8 +247,8 @@ module _ (p : Pool) (c : ℕ) (here : c < clientCount p) (r : Reached p) where
       → me .found ≢ none → pins p (me .found) ≢ evicted → Effect p c (works me j (PutPins (me .found) (pins p (me .found) + 1)))
   unfolding refusalOf
   pins-found i j e w t u z l =
-      let few : pins p (me .found) < pinned 128 = one-more p r c here (λ s. differ i 0 w (sym e ∙ s)) (rw e t) z l in
-      pinning tt (me .found) _ refl (r .ranges .found-ok c z) (adds l refl (omega arith)) (kept refl (rw e u)) refl (keeps refl refl)
+      let few : pins p (me .found) < pinned 128 = one-more-pin p r c here (λ s. differ i 0 w (sym e ∙ s)) (rw e t) z l in
+      pinning tt (me .found) _ refl (r .ranges .found-ok c z) (adds l refl (omega arith)) (own-stays refl (rw e u)) refl (grants-stay refl refl)
       (λ _ _ x. no-open x)
 
   -- a working client holds fewer than 8
@@ -260,21 +260,21 @@ module _ (p : Pool) (c : ℕ) (here : c < clientCount p) (r : Reached p) where
       → Effect p c (grants me (me .found) (PutCount (me .found) (raised (p .cap) (count p (me .found)))) u)
   unfolding slotsAfter pinsAfter entryPagesAfter entryFramesAfter pagesAfter freeAfter lastAfter countsAfter refusalOf
   gets-found i u e w t z live =
-      let two = found-live p r c (rw e t) z in
+      let two = found-pinned p r c (rw e t) z in
       record {
         here = here;
         reached = r;
-        own = forgot refl;
+        own = own-forgotten refl;
         slot = slots-stay refl;
         pins = pins-stay refl;
-        found = lost refl;
-        grants = opens (me .page) (me .found) refl refl (few i e w);
+        found = found-forgotten refl;
+        grants = grant-opens (me .page) (me .found) refl refl (few i e w);
         opened = λ g f x. let a : me .page ≡ g = cc in let b : f ≡ me .found = cc in
             of-found b (λ n. z (sym b ∙ n)) (ap (mapped p) b ∙ live (λ n. let y : ⊥ = omega arith in y) ∙ ap suc a) (rw b two);
         entries = entries-stay refl refl;
         pages = pages-stay refl;
-        written = quiet-written (counts (raised-ok _ _ (r .ranges .count-ok (me .found))));
-        sound = tt;
+        write-ok = counters-written (counts (raised-ok _ _ (r .ranges .count-ok (me .found))));
+        not-stuck = tt;
       }
 
   -- the page is mapped to the own frame, which is granted
@@ -282,73 +282,75 @@ module _ (p : Pool) (c : ℕ) (here : c < clientCount p) (r : Reached p) where
       → EntryOk p c (grants me (me .own) (PutEntry n (me .page) (me .own)) u) → Effect p c (grants me (me .own) (PutEntry n (me .page) (me .own)) u)
   unfolding refusalOf
   gets-own i n u e w h z en =
-      entering tt n (me .page) (me .own) refl en (forgot refl) (lost refl) (opens (me .page) (me .own) refl refl (few i e w))
+      entering tt n (me .page) (me .own) refl en (own-forgotten refl) (found-forgotten refl) (grant-opens (me .page) (me .own) refl refl (few i e w))
       (λ g f x. let a : g ≡ me .page = cc in let b : f ≡ me .own = cc in of-own n b (λ y. z (sym b ∙ y)) refl (rw (a, b) refl) h)
 
   evicts-own : (j : ℕ) → me .own ≢ none → Effect p c (works (withOwn me none) j (PutPins (me .own) evicted))
   unfolding refusalOf
   evicts-own j z =
-      pinning tt (me .own) evicted refl (r .ranges .own-ok c z) (drops-own refl refl) (forgot refl) refl (keeps refl refl)
+      pinning tt (me .own) evicted refl (r .ranges .own-ok c z) (own-evicted refl refl) (own-forgotten refl) refl (grants-stay refl refl)
       (λ _ _ x. no-open x)
 
   pub effect : {m : Move} → Edge p c m → Effect p c m
   unfolding slotsAfter pinsAfter entryPagesAfter entryFramesAfter pagesAfter freeAfter lastAfter countsAfter refusalOf
-  effect (on n j w h) = quietly tt (h .quiet) (kept (h .same .own) (h .stages .from-unplaced)) (found-stays (h .same .found)) refl (h .same .held)
-  effect (found1 e z) = let l = looking (me .page) z in quietly tt keep (kept refl tt) (looked (l .0) (l .1)) refl refl
-  effect (found18 e z) = let l = looking (me .page) z in quietly tt keep (kept refl tt) (looked (l .0) (l .1)) refl refl
-  effect (lost2 e d) = quietly tt keep (kept refl tt) (lost refl) refl refl
-  effect (lost22 e _) = quietly tt keep (kept refl tt) (lost refl) refl refl
-  effect (pins2 e l) = pins-found 2 3 e tt tt tt (kn 2 e .0) l
-  effect (pins19 e l) = pins-found 19 20 e tt tt tt (kn 19 e .1 .0) l
-  effect (gets3 e) = gets-found 3 Hit e tt tt (kn 3 e .0) (kn 3 e .1)
-  effect (gets21 e) = gets-found 21 Join e tt tt (kn 21 e .0) (kn 21 e .1)
+  effect (moves-on n j w h) =
+      client-only tt (h .counters-only) (own-stays (h .same .own) (h .stages .from-unplaced)) (found-stays (h .same .found)) refl (h .same .held)
+  effect (found1 e z) = let l = looking (me .page) z in client-only tt keep (own-stays refl tt) (found-looked-up (l .0) (l .1)) refl refl
+  effect (found18 e z) = let l = looking (me .page) z in client-only tt keep (own-stays refl tt) (found-looked-up (l .0) (l .1)) refl refl
+  effect (forgets2 e d) = client-only tt keep (own-stays refl tt) (found-forgotten refl) refl refl
+  effect (forgets22 e _) = client-only tt keep (own-stays refl tt) (found-forgotten refl) refl refl
+  effect (pins2 e l) = pins-found 2 3 e tt tt tt (known 2 e .0) l
+  effect (pins19 e l) = pins-found 19 20 e tt tt tt (known 19 e .1 .0) l
+  effect (gets3 e) = gets-found 3 Hit e tt tt (known 3 e .0) (known 3 e .1)
+  effect (gets21 e) = gets-found 21 Join e tt tt (known 21 e .0) (known 21 e .1)
   effect (takes e z) =
       let f = free-found p (r .shape) z in
       record {
         here = here;
         reached = r;
-        own = taken e (f .0) (f .1) refl;
+        own = own-taken e (f .0) (f .1) refl;
         slot = slots-stay refl;
         pins = pins-put (freeFrame p) (pinned 1) refl (f .0) (takes-one (f .1) refl);
         found = found-stays refl;
-        grants = keeps refl refl;
+        grants = grants-stay refl refl;
         opened = λ _ _ x. no-open x;
         entries = entries-stay refl refl;
-        pages = paged (freeFrame p) (f .1) refl;
-        written = record { free-ok = r .ranges .free-ok; last-ok = inr (f .0); count-ok = counts-put _ 1 refl (r .shape .cap-low) };
-        sound = tt;
+        pages = page-put (freeFrame p) (f .1) refl;
+        write-ok = record { free-ok = r .ranges .free-ok; last-ok = inr (f .0); count-ok = counts-put _ 1 refl (r .shape .cap-low) };
+        not-stuck = tt;
       }
-  effect (fills e s) = placing tt (me .place) refl (puts (me .place) refl (r .ranges .place-ok c) (rw e tt) tt (kn 8 e) (inl s)) (kept refl tt) refl refl refl
-  effect (swaps e s) =
-      placing tt (me .place) refl (puts (me .place) refl (r .ranges .place-ok c) (rw e tt) tt (kn 15 e .0) (inr (s, kn 15 e .1 .1, tt, refl)))
-      (kept refl tt) refl refl refl
-  effect (gives-up v _) = quietly tt keep (forgot refl) (lost refl) refl refl
+  effect (fills e s) =
+      placing tt (me .place) refl (slot-put (me .place) refl (r .ranges .place-ok c) (rw e tt) tt (known 8 e) (inl s)) (own-stays refl tt) refl refl refl
+  effect (replaces e s) =
+      placing tt (me .place) refl (slot-put (me .place) refl (r .ranges .place-ok c) (rw e tt) tt (known 15 e .0) (inr (s, known 15 e .1 .1, tt, refl)))
+      (own-stays refl tt) refl refl refl
+  effect (refuses v _) = client-only tt keep (own-forgotten refl) (found-forgotten refl) refl refl
   effect (drops e h) =
-      let z = kn 14 e .1 .0 in
-      pinning tt (me .victim) evicted refl (r .ranges .victim-ok c z) (drops-victim refl h refl e refl refl refl) (kept refl (rw e tt)) refl
-      (keeps refl refl) (λ _ _ x. no-open x)
+      let z = known 14 e .1 .0 in
+      pinning tt (me .victim) evicted refl (r .ranges .victim-ok c z) (drops-victim refl h refl e refl refl refl) (own-stays refl (rw e tt)) refl
+      (grants-stay refl refl) (λ _ _ x. no-open x)
   effect (removes e h) =
-      let z = kn 17 e .1 .0 in
+      let z = known 17 e .1 .0 in
       let f = lookup-found p (r .shape) (page p (me .victim)) (λ w. z (sym h ∙ w)) in
-      entering tt _ _ none refl (unmaps _ _ refl (f .place) (f .entry-frame ∙ h) (kn 17 e .1 .1)) (kept refl tt) (found-stays refl) (keeps refl refl)
-      (λ _ _ x. no-open x)
+      entering tt _ _ none refl (unmaps _ _ refl (f .inside) (f .entry-frame ∙ h) (known 17 e .1 .1)) (own-stays refl tt) (found-stays refl)
+      (grants-stay refl refl) (λ _ _ x. no-open x)
   effect (admits e l u) =
       let f = unused-found p (r .shape) u in
-      gets-own 18 _ Admitted e tt (f .0) (kn 18 e .0)
-      (maps _ refl (f .0) (kn 18 e .0) refl (kn 18 e .1) (inl (f .1)) (λ j _ z. lookup-none p (r .shape) (me .page) l j z))
+      gets-own 18 _ Admitted e tt (f .0) (known 18 e .0)
+      (maps _ refl (f .0) (known 18 e .0) refl (known 18 e .1) (inl (f .1)) (λ j _ z. lookup-none p (r .shape) (me .page) l j z))
   effect (revives e l) =
-      let z = kn 22 e .1 .0 in
+      let z = known 22 e .1 .0 in
       let f = lookup-found p (r .shape) (me .page) (λ w. z (sym l ∙ w)) in
       let n : entryFrame p (entryOf p (me .page)) ≡ me .found = f .entry-frame ∙ l in
-      gets-own 22 _ Revived e tt (f .place) (kn 22 e .0 .0)
-      (maps _ refl (f .place) (kn 22 e .0 .0) refl (kn 22 e .0 .1) (inr (ap (pins p) n ∙ kn 22 e .1 .1))
-      (λ j q y w. q (r .outline .pages-apart j (entryOf p (me .page)) y (λ x. z (sym n ∙ x)) (w ∙ sym (f .entry-page)))))
-  effect (evicts20 e) = evicts-own 21 (kn 20 e .0 .0)
-  effect (evicts23 e) = evicts-own 4 (kn 23 e .0)
-  effect (begins g e h) = quietly tt keep (kept refl tt) (found-stays refl) refl refl
+      gets-own 22 _ Revived e tt (f .inside) (known 22 e .0 .0)
+      (maps _ refl (f .inside) (known 22 e .0 .0) refl (known 22 e .0 .1) (inr (ap (pins p) n ∙ known 22 e .1 .1))
+      (λ j q y w. q (r .mapping .pages-distinct j (entryOf p (me .page)) y (λ x. z (sym n ∙ x)) (w ∙ sym (f .entry-page)))))
+  effect (evicts20 e) = evicts-own 21 (known 20 e .0 .0)
+  effect (evicts23 e) = evicts-own 4 (known 23 e .0)
+  effect (begins g e h) = client-only tt keep (own-stays refl tt) (found-stays refl) refl refl
   effect (releases g e z) =
       let i : ℕ = grantOf p c g in
       let h = grantOf-found p c g z .0 in
-      let n = r .outline .grant-named c i h in
-      pinning tt _ _ refl (r .ranges .grant-ok c i n) (lowers (grant-live p r c i n) refl) (kept refl (rw e tt)) refl (ends i refl refl h)
+      let n = r .mapping .grant-named c i h in
+      pinning tt _ _ refl (r .ranges .grant-ok c i n) (lowers (grant-pinned p r c i n) refl) (own-stays refl (rw e tt)) refl (grant-ends i refl refl h)
       (λ _ _ x. ends-no-open x)

@@ -14,15 +14,15 @@ use Rattle.pool.specs.Stages.{raised}
 use Rattle.pool.specs.declared.Pool.{Pool}
 use Rattle.pool.specs.declared.Client.{Client}
 use Rattle.laws.specs.Choices.{by-test}
-use Rattle.invariant.proofs.Reached.{one, mapped, Seated, grantsOn, claims, claimed, pinsFound, unplaced, hunting, Orphan, Balance, gone, held, orphan}
-use Rattle.invariant.proofs.Reached.{Reached}
-use Rattle.invariant.proofs.Flags.{T-true, T-false, and-false, hunt-cases}
+use Rattle.invariant.proofs.Reached.{one, mapped, InSlot, grantsOn, claims, claimed, pinsFound, unplaced, examining, Orphan, Balance, unclaimed, counted}
+use Rattle.invariant.proofs.Reached.{orphan, Reached}
+use Rattle.invariant.proofs.StageTests.{T-true, T-false, and-false, examining-cases}
 use Rattle.invariant.proofs.After.{client-here}
-use Rattle.invariant.proofs.Sums.{one-is, one-not, one-least, sum-zero, sum-one, sum-has, sum-gap, sum-least}
+use Rattle.invariant.proofs.Sums.{one-is, one-not, one-at-most, sum-zero, sum-one, sum-has, sum-gap, sum-at-most}
 use Rattle.invariant.proofs.Searches.{grantFrame-past, grant-in}
 use Rattle.invariant.proofs.Table.{some-suc, mapped-lookup}
 use Rattle.invariant.proofs.Grants.{grantsOn-none}
-use Rattle.invariant.proofs.Never.{know}
+use Rattle.invariant.proofs.NeverFails.{know}
 
 -- a raised count
 pub raised-ok : (cap n : ℕ) → n ≤ cap → raised cap n ≤ cap
@@ -39,8 +39,8 @@ pub foreign-claims : (p : Pool) (c f : ℕ) → client p c .found ≢ f → ((i 
 foreign-claims p c f a b = rw (ne-eqb _ _ a, and-false, grantsOn-none p c f b) (omega arith)
 
 -- a client at rest without grants claims nothing
-pub rest-claims : (p : Pool) (c f : ℕ) → f ≢ none → client p c ≡ resting 0 → claims p c f ≡ 0
-rest-claims p c f z e =
+pub resting-claims : (p : Pool) (c f : ℕ) → f ≢ none → client p c ≡ resting 0 → claims p c f ≡ 0
+resting-claims p c f z e =
     foreign-claims p c f (λ w. z (sym w ∙ ap (λ (k : Client). k .found) e))
     (λ i w. z (sym w ∙ grantFrame-past p c i (omega (arith, ap (λ (k : Client). k .held) e)))) ∙
     (ap (λ (k : Client). one (eqb (k .own) f)) e ∙ none-own f z)
@@ -66,7 +66,7 @@ module _ (p : Pool) (r : Reached p) where
     own-claimed : claimed p (client p c .own) ≡ 1
     unfolding claimed
     own-claimed =
-        sum-one (λ d. claims p d f) (clientCount p) c own-here (λ d _ q. only d ∙ one-not _ _ (λ w. q (sym (r .places .owns-apart c d z (sym w))))) ∙
+        sum-one (λ d. claims p d f) (clientCount p) c own-here (λ d _ q. only d ∙ one-not _ _ (λ w. q (sym (r .places .owns-distinct c d z (sym w))))) ∙
         (only c ∙ one-is f)
       where
         f : ℕ
@@ -76,50 +76,50 @@ module _ (p : Pool) (r : Reached p) where
         only d = foreign-claims p d f (r .private .own-unfound c d z) (λ i. r .private .own-ungranted c d i z)
 
     pub own-pins : pins p (client p c .own) ≡ pinned 1
-    own-pins = go (r .counts .balance (client p c .own) z)
+    own-pins = go (r .pin-counts .balance (client p c .own) z)
       where
         go : Balance p (client p c .own) (pins p (client p c .own)) (claimed p (client p c .own)) → pins p (client p c .own) ≡ pinned 1
-        go (gone x y) = omega (arith, own-claimed)
-        go (held x) = omega (arith, own-claimed)
+        go (unclaimed x y) = omega (arith, own-claimed)
+        go (counted x) = omega (arith, own-claimed)
         go (orphan o) = absurd (o .unowned c refl)
 
     -- so it is not evicted
-    pub own-live : pins p (client p c .own) ≢ evicted
-    own-live e = let y : ⊥ = omega (arith, own-pins) in y
+    pub own-not-evicted : pins p (client p c .own) ≢ evicted
+    own-not-evicted e = let y : ⊥ = omega (arith, own-pins) in y
 
   -- a claimed frame is pinned
-  claimed-live : (c f : ℕ) → f ≢ none → 1 ≤ claims p c f → pinned 1 ≤ pins p f
+  claimed-pinned : (c f : ℕ) → f ≢ none → 1 ≤ claims p c f → pinned 1 ≤ pins p f
   unfolding claimed
-  claimed-live c f z h = go (r .counts .balance f z)
+  claimed-pinned c f z h = go (r .pin-counts .balance f z)
     where
       here : c < clientCount p
-      here = client-here p (λ k. client p c ≡ k) c refl (λ e. let y : ⊥ = omega (arith, rest-claims p c f z e) in y)
+      here = client-here p (λ k. client p c ≡ k) c refl (λ e. let y : ⊥ = omega (arith, resting-claims p c f z e) in y)
 
       all : 1 ≤ claimed p f
       all = omega (arith, sum-has (λ d. claims p d f) (clientCount p) c here)
 
       go : Balance p f (pins p f) (claimed p f) → pinned 1 ≤ pins p f
-      go (gone x y) = omega (arith, all)
-      go (held x) = omega (arith, all)
+      go (unclaimed x y) = omega (arith, all)
+      go (counted x) = omega (arith, all)
       go (orphan o) = omega (arith, all, orphan-claims p f o)
 
   -- so a held frame is, and the found frame where it is pinned for its client
-  pub grant-live : (c i : ℕ) → grantFrame p c i ≢ none → pinned 1 ≤ pins p (grantFrame p c i)
-  grant-live c i z = claimed-live c (grantFrame p c i) z (omega (arith, grant-claims p c i z))
+  pub grant-pinned : (c i : ℕ) → grantFrame p c i ≢ none → pinned 1 ≤ pins p (grantFrame p c i)
+  grant-pinned c i z = claimed-pinned c (grantFrame p c i) z (omega (arith, grant-claims p c i z))
 
-  pub found-live : (c : ℕ) → T (pinsFound (client p c .stage)) → client p c .found ≢ none → pinned 1 ≤ pins p (client p c .found)
-  found-live c t z =
-      claimed-live c (client p c .found) z (rw (T-true (pinsFound (client p c .stage)) t) (omega (arith, one-is (client p c .found))))
+  pub found-pinned : (c : ℕ) → T (pinsFound (client p c .stage)) → client p c .found ≢ none → pinned 1 ≤ pins p (client p c .found)
+  found-pinned c t z =
+      claimed-pinned c (client p c .found) z (rw (T-true (pinsFound (client p c .stage)) t) (omega (arith, one-is (client p c .found))))
 
   -- ---- how many claims there are
 
-  grants-least : (c f : ℕ) → grantsOn p c f ≤ client p c .held
+  grants-at-most : (c f : ℕ) → grantsOn p c f ≤ client p c .held
   unfolding grantsOn
-  grants-least c f = omega (arith, sum-least (λ i. one (eqb (grantFrame p c i) f)) (client p c .held) 1 (λ i _. one-least (eqb (grantFrame p c i) f)))
+  grants-at-most c f = omega (arith, sum-at-most (λ i. one (eqb (grantFrame p c i) f)) (client p c .held) 1 (λ i _. one-at-most (eqb (grantFrame p c i) f)))
 
   -- a client with an own frame claims no other way
-  claims-least : (c f : ℕ) → f ≢ none → claims p c f ≤ 8
-  claims-least c f z = go (ℕ-discrete (client p c .own) f) (ℕ-discrete (client p c .stage) 0)
+  claims-at-most : (c f : ℕ) → f ≢ none → claims p c f ≤ 8
+  claims-at-most c f z = go (ℕ-discrete (client p c .own) f) (ℕ-discrete (client p c .stage) 0)
     where
       k : Client
       k = client p c
@@ -128,17 +128,17 @@ module _ (p : Pool) (r : Reached p) where
       go (yes e) _ =
           let o : k .own ≢ none = λ w. z (sym e ∙ w) in
           let only = foreign-claims p c f (λ w. r .private .own-unfound c c o (w ∙ sym e)) (λ i w. r .private .own-ungranted c c i o (w ∙ sym e)) in
-          omega (arith, one-least (eqb (k .own) f))
+          omega (arith, one-at-most (eqb (k .own) f))
       go (no e) (yes s) =
-          omega (arith, one-not _ _ e, ap (λ (x : ℕ). one (pinsFound x && eqb (k .found) f)) s, grants-least c f, r .ranges .held-ok c)
+          omega (arith, one-not _ _ e, ap (λ (x : ℕ). one (pinsFound x && eqb (k .found) f)) s, grants-at-most c f, r .ranges .held-ok c)
       go (no e) (no s) =
-          omega (arith, one-not _ _ e, one-least (pinsFound (k .stage) && eqb (k .found) f), grants-least c f, r .ranges .working-held c s)
+          omega (arith, one-not _ _ e, one-at-most (pinsFound (k .stage) && eqb (k .found) f), grants-at-most c f, r .ranges .working-held c s)
 
   -- one more pin on the found frame is within the range
-  pub one-more : (c : ℕ) → c < clientCount p → client p c .stage ≢ 0 → T (not (pinsFound (client p c .stage))) → client p c .found ≢ none
+  pub one-more-pin : (c : ℕ) → c < clientCount p → client p c .stage ≢ 0 → T (not (pinsFound (client p c .stage))) → client p c .found ≢ none
       → pins p (client p c .found) ≢ evicted → pins p (client p c .found) < pinned 128
   unfolding claimed
-  one-more c h s t z live = go (r .counts .balance f z)
+  one-more-pin c h s t z live = go (r .pin-counts .balance f z)
     where
       k : Client
       k = client p c
@@ -150,41 +150,42 @@ module _ (p : Pool) (r : Reached p) where
       other w = r .private .own-unfound c c (λ n. z (sym w ∙ n)) (sym w)
 
       mine : claims p c f ≤ 7
-      mine = rw (T-false (pinsFound (k .stage)) t) (omega (arith, one-not _ _ other, grants-least c f, r .ranges .working-held c s))
+      mine = rw (T-false (pinsFound (k .stage)) t) (omega (arith, one-not _ _ other, grants-at-most c f, r .ranges .working-held c s))
 
       all : claimed p f + 1 ≤ 8 * clientCount p
-      all = sum-gap (λ d. claims p d f) (clientCount p) 8 c 1 h (λ d _. claims-least d f z) (omega (arith, mine))
+      all = sum-gap (λ d. claims p d f) (clientCount p) 8 c 1 h (λ d _. claims-at-most d f z) (omega (arith, mine))
 
       go : Balance p f (pins p f) (claimed p f) → pins p f < pinned 128
-      go (gone x y) = absurd (live x)
-      go (held x) = omega (arith, all, r .shape .clients-high)
+      go (unclaimed x y) = absurd (live x)
+      go (counted x) = omega (arith, all, r .shape .clients-high)
       go (orphan o) = absurd (o .unfound c refl)
 
   -- ---- victims
 
   -- an entry that stage 17 does not find is gone
-  pub entry-gone : (v : ℕ) → v ≢ none → lookup p (page p v) ≢ v → mapped p v ≡ 0
-  entry-gone v z n =
+  pub lookup-unmapped : (v : ℕ) → v ≢ none → lookup p (page p v) ≢ v → mapped p v ≡ 0
+  lookup-unmapped v z n =
       elim (ℕ-discrete (mapped p v) 0) [
         | yes e ↦ e
         | no w ↦
             let s = some-suc (mapped p v) w in
-            absurd (n (ap (lookup p) (r .outline .page-true v (s .0) z (s .1)) ∙ mapped-lookup p (r .shape) (r .outline .pages-apart) v (s .0) z (s .1) .1))
+            absurd (n (ap (lookup p) (r .mapping .mapped-page v (s .0) z (s .1)) ∙
+            mapped-lookup p (r .shape) (r .mapping .pages-distinct) v (s .0) z (s .1) .1))
       ]
 
-  -- an own frame that has no slot yet is nobody's victim while that hunts
-  pub own-not-victim : (c d : ℕ) → T (unplaced (client p c .stage)) → client p c .own ≢ none → T (hunting (client p d .stage))
+  -- an own frame that has no slot yet is no victim that a client examines
+  pub own-not-victim : (c d : ℕ) → T (unplaced (client p c .stage)) → client p c .own ≢ none → T (examining (client p d .stage))
       → client p d .victim ≢ client p c .own
-  own-not-victim c d u z h e = go (hunt-cases (client p d .stage) h)
+  own-not-victim c d u z h e = go (examining-cases (client p d .stage) h)
     where
       two : pins p (client p d .victim) ≡ pinned 1
       two = ap (pins p) e ∙ own-pins c z
 
-      seat : (pins p (client p d .victim) ≢ evicted → Seated p (client p d .victim)) → ⊥
-      seat s = let w = s (λ x. let n : ⊥ = omega (arith, two) in n) in r .places .unplaced-out c (w .0) u z (w .1 ∙ e)
+      in-slot : (pins p (client p d .victim) ≢ evicted → InSlot p (client p d .victim)) → ⊥
+      in-slot s = let w = s (λ x. let n : ⊥ = omega (arith, two) in n) in r .places .unplaced-no-slot c (w .0) u z (w .1 ∙ e)
 
       go : (client p d .stage ≡ 12) ⊎ ((client p d .stage ≡ 13) ⊎ ((client p d .stage ≡ 14) ⊎ (client p d .stage ≡ 15))) → ⊥
-      go (inl q) = seat (know p r d 12 q .1 .1)
-      go (inr (inl q)) = seat (know p r d 13 q .1 .1)
-      go (inr (inr (inl q))) = seat (know p r d 14 q .1 .1)
+      go (inl q) = in-slot (know p r d 12 q .1 .1)
+      go (inr (inl q)) = in-slot (know p r d 13 q .1 .1)
+      go (inr (inr (inl q))) = in-slot (know p r d 14 q .1 .1)
       go (inr (inr (inr q))) = omega (arith, know p r d 15 q .1 .1, two)

@@ -28,10 +28,10 @@ unfoldable pub grantsOf : Pool → ℕ → ℕ → ℕ
 grantsOf p c g = sumTo (λ i. one (eqb (grantPage p c i) g)) (client p c .held)
 
 -- what a move does to the acting client's grants
-pub data Granting (p : Pool) (c : ℕ) (m : Move) : Type 0 where
-  keeps : m .grants ≡ Same → m .next .held ≡ client p c .held → Granting p c m
-  opens : (g f : ℕ) → m .grants ≡ Open (client p c .held) g f → m .next .held ≡ client p c .held + 1 → client p c .held < 8 → Granting p c m
-  ends : (i : ℕ) → m .grants ≡ End i (client p c .held - 1) → m .next .held ≡ client p c .held - 1 → i < client p c .held → Granting p c m
+pub data GrantsOk (p : Pool) (c : ℕ) (m : Move) : Type 0 where
+  grants-stay : m .grants ≡ Same → m .next .held ≡ client p c .held → GrantsOk p c m
+  grant-opens : (g f : ℕ) → m .grants ≡ Open (client p c .held) g f → m .next .held ≡ client p c .held + 1 → client p c .held < 8 → GrantsOk p c m
+  grant-ends : (i : ℕ) → m .grants ≡ End i (client p c .held - 1) → m .next .held ≡ client p c .held - 1 → i < client p c .held → GrantsOk p c m
 
 -- ---- one list, l before a move and m after it: N places in all, client c's first n of them hold its grants' numbers, and d stands past them
 
@@ -199,21 +199,21 @@ module _ (p : Pool) (c : ℕ) (m : Move) (shape : Shape p) (here : c < clientCou
 
   -- ---- the others' grants stay
 
-  module _ (how : Granting p c m) (d : ℕ) (other : d ≢ c) where
+  module _ (how : GrantsOk p c m) (d : ℕ) (other : d ≢ c) where
     held-other : client q d .held ≡ client p d .held
     held-other = ap (λ (k : Client). k .held) (client-other p c m d other)
 
-    pages-put : Granting p c m → Put N c (p .«grant_pages») (q .«grant_pages»)
+    pages-put : GrantsOk p c m → Put N c (p .«grant_pages») (q .«grant_pages»)
     unfolding apply grantPagesAfter
-    pages-put (keeps e _) = unput (rw e refl)
-    pages-put (opens g f e s r) = put n g r (page-opened g f e s r)
-    pages-put (ends a e s r) = put a _ (omega (arith, few c)) (page-ended a e s r)
+    pages-put (grants-stay e _) = unput (rw e refl)
+    pages-put (grant-opens g f e s r) = put n g r (page-opened g f e s r)
+    pages-put (grant-ends a e s r) = put a _ (omega (arith, few c)) (page-ended a e s r)
 
-    frames-put : Granting p c m → Put N c (p .«grant_frames») (q .«grant_frames»)
+    frames-put : GrantsOk p c m → Put N c (p .«grant_frames») (q .«grant_frames»)
     unfolding apply grantFramesAfter
-    frames-put (keeps e _) = unput (rw e refl)
-    frames-put (opens g f e s r) = put n f r (frame-opened g f e s r)
-    frames-put (ends a e s r) = put a _ (omega (arith, few c)) (frame-ended a e s r)
+    frames-put (grants-stay e _) = unput (rw e refl)
+    frames-put (grant-opens g f e s r) = put n f r (frame-opened g f e s r)
+    frames-put (grant-ends a e s r) = put a _ (omega (arith, few c)) (frame-ended a e s r)
 
     pub grantPage-other : (i : ℕ) → grantPage q d i ≡ grantPage p d i
     unfolding grantPage
@@ -233,16 +233,16 @@ module _ (p : Pool) (c : ℕ) (m : Move) (shape : Shape p) (here : c < clientCou
 
   -- ---- where the acting client's grant at a place comes from
 
-  pub data Comes (j : ℕ) : Type 0 where
-    old : (i : ℕ) → i < n → grantPage q c j ≡ grantPage p c i → grantFrame q c j ≡ grantFrame p c i → Comes j
-    new : (g f : ℕ) → m .grants ≡ Open n g f → grantPage q c j ≡ g → grantFrame q c j ≡ f → Comes j
-    past : m .next .held ≤ j → Comes j
+  pub data GrantFrom (j : ℕ) : Type 0 where
+    old : (i : ℕ) → i < n → grantPage q c j ≡ grantPage p c i → grantFrame q c j ≡ grantFrame p c i → GrantFrom j
+    new : (g f : ℕ) → m .grants ≡ Open n g f → grantPage q c j ≡ g → grantFrame q c j ≡ f → GrantFrom j
+    past : m .next .held ≤ j → GrantFrom j
 
-  pub comes : Granting p c m → (j : ℕ) → Comes j
+  pub grant-from : GrantsOk p c m → (j : ℕ) → GrantFrom j
   unfolding grantPage grantFrame
-  comes how j = by (decLt j (m .next .held))
+  grant-from how j = by (decLt j (m .next .held))
     where
-      opened : (g f : ℕ) (e : m .grants ≡ Open n g f) (s : m .next .held ≡ n + 1) (r : n < 8) → j < m .next .held → Dec (j ≡ n) → Comes j
+      opened : (g f : ℕ) (e : m .grants ≡ Open n g f) (s : m .next .held ≡ n + 1) (r : n < 8) → j < m .next .held → Dec (j ≡ n) → GrantFrom j
       opened g f e s r h (yes w) =
           rw w (new g f e
           (rw (held-next ∙ s) (open-new N c _ _ 0 n mine pages-long g (page-opened g f e s r) r))
@@ -252,7 +252,7 @@ module _ (p : Pool) (c : ℕ) (m : Move) (shape : Shape p) (here : c < clientCou
           (rw (held-next ∙ s) (open-old N c _ _ 0 n mine pages-long g (page-opened g f e s r) r j (omega arith)))
           (rw (held-next ∙ s) (open-old N c _ _ none n mine frames-long f (frame-opened g f e s r) r j (omega arith)))
 
-      ended : (a : ℕ) (e : m .grants ≡ End a (n - 1)) (s : m .next .held ≡ n - 1) (r : a < n) → j < m .next .held → Dec (j ≡ a) → Comes j
+      ended : (a : ℕ) (e : m .grants ≡ End a (n - 1)) (s : m .next .held ≡ n - 1) (r : a < n) → j < m .next .held → Dec (j ≡ a) → GrantFrom j
       ended a e s r h (yes w) =
           rw w (old (n - 1) (omega arith)
           (rw (held-next ∙ s) (end-moved N c _ _ 0 n mine pages-long a (page-ended a e s r) r (few c) (omega arith)))
@@ -262,12 +262,12 @@ module _ (p : Pool) (c : ℕ) (m : Move) (shape : Shape p) (here : c < clientCou
           (rw (held-next ∙ s) (end-old N c _ _ 0 n mine pages-long a (page-ended a e s r) r (few c) j (omega arith) w))
           (rw (held-next ∙ s) (end-old N c _ _ none n mine frames-long a (frame-ended a e s r) r (few c) j (omega arith) w))
 
-      how-to : j < m .next .held → Granting p c m → Comes j
-      how-to h (keeps e s) = old j (omega arith) (keep-page e s j) (keep-frame e s j)
-      how-to h (opens g f e s r) = opened g f e s r h (ℕ-discrete j n)
-      how-to h (ends a e s r) = ended a e s r h (ℕ-discrete j a)
+      how-to : j < m .next .held → GrantsOk p c m → GrantFrom j
+      how-to h (grants-stay e s) = old j (omega arith) (keep-page e s j) (keep-frame e s j)
+      how-to h (grant-opens g f e s r) = opened g f e s r h (ℕ-discrete j n)
+      how-to h (grant-ends a e s r) = ended a e s r h (ℕ-discrete j a)
 
-      by : Dec (j < m .next .held) → Comes j
+      by : Dec (j < m .next .held) → GrantFrom j
       by (yes h) = how-to h how
       by (no h) = past (omega arith)
 

@@ -8,35 +8,35 @@
 -- Every proof goes over one of three lists: the 23 stages (Steps), the 21 edges, or a menu.
 
 pub mod Reached
--- tools: how the pool reads after a write; numbers that stay apart; sums and the pigeonhole; facts of every stage; tests on stage numbers
+-- tools: how the pool reads after a write; numbers that stay distinct; sums and the pigeonhole; facts of every stage; tests on stage numbers
 pub mod After
 pub mod Writes
-pub mod Apart
+pub mod Distinct
 pub mod Sums
-pub mod Pigeon
+pub mod Pigeonhole
 pub mod Each
-pub mod Flags
+pub mod StageTests
 -- what the pool's searches find, its table by frame, its grants after a move, what a call has passed
 pub mod Searches
 pub mod Table
 pub mod Grants
 pub mod Allowed
 -- what follows from the clauses: a search never fails, pins and claims of one frame
-pub mod Never
+pub mod NeverFails
 pub mod Facts
 -- the moves, what they do, and what that leaves
 pub mod Edges
 pub mod Steps
 pub mod Effects
 pub mod Next
--- the layers, in the order of the record; Knowing is the part of Outline that speaks of what a client knows at its stage
+-- the layers, in the order of the record; Knowing is the part of Mapping that speaks of what a client knows at its stage
 pub mod Ranges
 pub mod Places
 pub mod Private
-pub mod Counts
+pub mod PinCounts
 pub mod Knowing
-pub mod Outline
-pub mod Calm
+pub mod Mapping
+pub mod Evictions
 -- check 8, the setup, and all calls
 pub mod Valid
 pub mod Setup

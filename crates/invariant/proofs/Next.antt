@@ -14,13 +14,13 @@ use Rattle.pool.specs.declared.Pool.{Pool}
 use Rattle.pool.specs.declared.Client.{Client}
 use Rattle.pool.specs.declared.Move.{Move}
 use Rattle.pool.specs.declared.GrantChange.the-variants.{Open}
-use Rattle.invariant.proofs.Reached.{Reached, mapped, Seated, unplaced, leaving}
+use Rattle.invariant.proofs.Reached.{Reached, mapped, InSlot, unplaced, unmapping}
 use Rattle.invariant.proofs.After.{client-same, client-other, slot-kept, slot-here, slot-else, pins-kept, pins-here, pins-else, page-kept, page-else}
-use Rattle.invariant.proofs.Searches.{fresh-means}
-use Rattle.invariant.proofs.Table.{suc-not, mapped-entry, mapped-kept, put-other, put-cases}
-use Rattle.invariant.proofs.Grants.{grantPage-other, grantFrame-other, Comes, old, new, past, comes}
-use Rattle.invariant.proofs.Effects.{Vacant, SlotOk, slots-stay, puts, PinChange, adds, lowers, drops-victim, drops-own, takes-one, PinsOk, pins-stay}
-use Rattle.invariant.proofs.Effects.{pins-put, EntryOk, entries-stay, maps, unmaps, PageOk, pages-stay, paged, Effect}
+use Rattle.invariant.proofs.Searches.{unreferenced-means}
+use Rattle.invariant.proofs.Table.{suc-not, mapped-entry, mapped-kept, put-other, put-unmapped}
+use Rattle.invariant.proofs.Grants.{grantPage-other, grantFrame-other, GrantFrom, old, new, past, grant-from}
+use Rattle.invariant.proofs.Effects.{Vacant, SlotOk, slots-stay, slot-put, PinChange, adds, lowers, drops-victim, own-evicted, takes-one, PinsOk}
+use Rattle.invariant.proofs.Effects.{pins-stay, pins-put, EntryOk, entries-stay, maps, unmaps, PageOk, pages-stay, page-put, Effect}
 
 module _ {p : Pool} {c : ℕ} {m : Move} (x : Effect p c m) where
   abbrev r : Reached p
@@ -41,9 +41,9 @@ module _ {p : Pool} {c : ℕ} {m : Move} (x : Effect p c m) where
   abbrev pub SlotNow : ℕ → Type 0
   SlotNow i = (slot q i ≡ slot p i) ⊎ ((slot q i ≡ k .own) × T (unplaced (k .stage)) × T (not (unplaced (m .next .stage))) × (k .own ≢ none))
 
-  -- frame f is evicted and the mover takes it out
-  abbrev pub TakenOut : ℕ → Type 0
-  TakenOut f = (pins p f ≡ evicted) × T (leaving (m .next .stage)) × (m .next .victim ≡ f)
+  -- frame f is evicted and the mover replaces it in its slot
+  abbrev pub Replaced : ℕ → Type 0
+  Replaced f = (pins p f ≡ evicted) × T (unmapping (m .next .stage)) × (m .next .victim ≡ f)
 
   pub slot-now : (i : ℕ) → SlotNow i
   unfolding slotsAfter
@@ -51,21 +51,21 @@ module _ {p : Pool} {c : ℕ} {m : Move} (x : Effect p c m) where
     where
       go : SlotOk p c m → SlotNow i
       go (slots-stay e) = inl (slot-kept p c m e i)
-      go (puts j e h u v z _) = by (ℕ-discrete i j)
+      go (slot-put j e h u v z _) = by (ℕ-discrete i j)
         where
           by : Dec (i ≡ j) → SlotNow i
           by (yes w) = inr (ap (slot q) w ∙ slot-here p c m (r .shape) j (k .own) (rw e refl) h, u, v, z)
           by (no w) = inl (slot-else p c m j (k .own) (rw e refl) i w)
 
-  pub slot-or-out : (f i : ℕ) → f ≢ none → slot p i ≡ f → (slot q i ≡ f) ⊎ TakenOut f
+  pub slot-or-replaced : (f i : ℕ) → f ≢ none → slot p i ≡ f → (slot q i ≡ f) ⊎ Replaced f
   unfolding slotsAfter
-  slot-or-out f i z s = go (x .slot)
+  slot-or-replaced f i z s = go (x .slot)
     where
-      go : SlotOk p c m → (slot q i ≡ f) ⊎ TakenOut f
+      go : SlotOk p c m → (slot q i ≡ f) ⊎ Replaced f
       go (slots-stay e) = inl (slot-kept p c m e i ∙ s)
-      go (puts j e h _ _ _ v) = by (ℕ-discrete i j) v
+      go (slot-put j e h _ _ _ v) = by (ℕ-discrete i j) v
         where
-          by : Dec (i ≡ j) → Vacant p c m j → (slot q i ≡ f) ⊎ TakenOut f
+          by : Dec (i ≡ j) → Vacant p c m j → (slot q i ≡ f) ⊎ Replaced f
           by (no w) _ = inl (slot-else p c m j (k .own) (rw e refl) i w ∙ s)
           by (yes w) (inl o) = absurd (z (sym s ∙ ap (slot p) w ∙ o))
           by (yes w) (inr o) =
@@ -76,8 +76,8 @@ module _ {p : Pool} {c : ℕ} {m : Move} (x : Effect p c m) where
 
   module _ (f : ℕ) (z : f ≢ none) where
     -- evicted stays evicted, unless the frame is taken
-    pub dead-next : (referenced p f ≡ false → ⊥) → pins p f ≡ evicted → pins q f ≡ evicted
-    dead-next ref d = go (x .pins)
+    pub evicted-next : (referenced p f ≡ false → ⊥) → pins p f ≡ evicted → pins q f ≡ evicted
+    evicted-next ref d = go (x .pins)
       where
         go : PinsOk p c m → pins q f ≡ evicted
         go (pins-stay e) = pins-kept p c m e f ∙ d
@@ -91,18 +91,18 @@ module _ {p : Pool} {c : ℕ} {m : Move} (x : Effect p c m) where
             by (yes w) (adds l _ _) = absurd (l (ap (pins p) (sym w) ∙ d))
             by (yes w) (lowers l _) = absurd (let n : pins p g ≡ evicted = ap (pins p) (sym w) ∙ d in let y : ⊥ = omega arith in y)
             by (yes w) (drops-victim _ _ v _ _ _ _) = at w v
-            by (yes w) (drops-own _ v) = at w v
+            by (yes w) (own-evicted _ v) = at w v
             by (yes w) (takes-one ref′ _) = absurd (ref (ap (referenced p) w ∙ ref′))
 
-    pub seats-next : pins p f ≢ evicted → Seated p f → Seated q f
-    seats-next l s = go (slot-or-out f (s .0) z (s .1))
+    pub in-slot-next : pins p f ≢ evicted → InSlot p f → InSlot q f
+    in-slot-next l s = go (slot-or-replaced f (s .0) z (s .1))
       where
-        go : (slot q (s .0) ≡ f) ⊎ TakenOut f → Seated q f
+        go : (slot q (s .0) ≡ f) ⊎ Replaced f → InSlot q f
         go (inl e) = (s .0, e)
         go (inr e) = absurd (l (e .0))
 
-    pub maps-next : pins p f ≢ evicted → (g : ℕ) → mapped p f ≡ suc g → mapped q f ≡ suc g
-    maps-next l g e = go (x .entries)
+    pub mapped-next : pins p f ≢ evicted → (g : ℕ) → mapped p f ≡ suc g → mapped q f ≡ suc g
+    mapped-next l g e = go (x .entries)
       where
         not-own : k .own ≢ none → f ≢ k .own
         not-own o w = suc-not e (ap (mapped p) w ∙ r .private .own-unmapped c o)
@@ -122,8 +122,8 @@ module _ {p : Pool} {c : ℕ} {m : Move} (x : Effect p c m) where
       where
         go : EntryOk p c m → mapped q f ≡ 0
         go (entries-stay a b) = mapped-kept p c m a b f ∙ e
-        go (maps i w h _ n _ _ _) = put-cases p c m (r .shape) i (k .page) (k .own) w h f z e (λ y. o n (sym y))
-        go (unmaps i a w h _ _) = put-cases p c m (r .shape) i a none w h f z e z
+        go (maps i w h _ n _ _ _) = put-unmapped p c m (r .shape) i (k .page) (k .own) w h f z e (λ y. o n (sym y))
+        go (unmaps i a w h _ _) = put-unmapped p c m (r .shape) i a none w h f z e z
 
     -- a frame's page changes only where it is taken
     pub page-next : (referenced p f ≡ false → ⊥) → page q f ≡ page p f
@@ -131,22 +131,22 @@ module _ {p : Pool} {c : ℕ} {m : Move} (x : Effect p c m) where
       where
         go : PageOk p c m → page q f ≡ page p f
         go (pages-stay e) = page-kept p c m e f
-        go (paged g a e) = page-else p c m g _ e f (λ w. ref (ap (referenced p) w ∙ a))
+        go (page-put g a e) = page-else p c m g _ e f (λ w. ref (ap (referenced p) w ∙ a))
 
   -- ---- who is named
 
   module _ (f : ℕ) (z : f ≢ none) where
-    pub by-own : (d : ℕ) → client p d .own ≡ f → referenced p f ≡ false → ⊥
-    by-own d e n = fresh-means p f z n .no-own d e
+    pub own-referenced : (d : ℕ) → client p d .own ≡ f → referenced p f ≡ false → ⊥
+    own-referenced d e n = unreferenced-means p f z n .no-own d e
 
-    pub by-found : (d : ℕ) → client p d .found ≡ f → referenced p f ≡ false → ⊥
-    by-found d e n = fresh-means p f z n .no-found d e
+    pub found-referenced : (d : ℕ) → client p d .found ≡ f → referenced p f ≡ false → ⊥
+    found-referenced d e n = unreferenced-means p f z n .no-found d e
 
-    pub by-victim : (d : ℕ) → client p d .victim ≡ f → referenced p f ≡ false → ⊥
-    by-victim d e n = fresh-means p f z n .no-victim d e
+    pub victim-referenced : (d : ℕ) → client p d .victim ≡ f → referenced p f ≡ false → ⊥
+    victim-referenced d e n = unreferenced-means p f z n .no-victim d e
 
-    pub by-mapped : mapped p f ≢ 0 → referenced p f ≡ false → ⊥
-    by-mapped w n = let e = mapped-entry p f w in fresh-means p f z n .no-entry (e .0) (e .1)
+    pub mapped-referenced : mapped p f ≢ 0 → referenced p f ≡ false → ⊥
+    mapped-referenced w n = let e = mapped-entry p f w in unreferenced-means p f z n .no-entry (e .0) (e .1)
 
   -- ---- grants: each was there, or is the one opened
 
@@ -157,14 +157,14 @@ module _ {p : Pool} {c : ℕ} {m : Move} (x : Effect p c m) where
       few : (d : ℕ) → client p d .held ≤ 8
       few = r .ranges .held-ok
 
-      mine : Comes p c m (r .shape) here few i → i < m .next .held → P (grantPage q c i) (grantFrame q c i)
+      mine : GrantFrom p c m (r .shape) here few i → i < m .next .held → P (grantPage q c i) (grantFrame q c i)
       mine (old j l a b) _ = rw (a, b) (olds c j l)
       mine (new g f e a b) _ = rw (a, b) (opened g f e)
       mine (past l) u = absurd (let y : ⊥ = omega arith in y)
 
       go : Dec (d ≡ c) → P (grantPage q d i) (grantFrame q d i)
       go (yes e) =
-          rw e (mine (comes p c m (r .shape) here few (x .grants) i)
+          rw e (mine (grant-from p c m (r .shape) here few (x .grants) i)
           (let u : client q c .held ≡ m .next .held = ap (λ (n : Client). n .held) (client-same p c m (r .shape) here) in
           let v : client q d .held ≡ client q c .held = ap (λ (n : ℕ). client q n .held) e in omega arith))
       go (no e) =

@@ -1,5 +1,5 @@
 -- Every number stays in its range: what a move writes is in range (`Effects`), the next record has the numbers of the last one, or those of a client
--- at rest, or new ones that its stage reduced. Pins are at most 128 because no client claims a frame more than 8 times (`one-more`). Assumes nothing.
+-- at rest, or new ones that its stage reduced. Pins are at most 128 because no client claims a frame more than 8 times (`one-more-pin`). Assumes nothing.
 use mathlib.Core.Path.{_≡_, refl, sym, ap, _∙_}
 use mathlib.Core.Logic.{_≢_, inl, inr}
 use Prim.Native.Nat.{ℕ, _+_, _≤_, _<_}
@@ -17,12 +17,12 @@ use Rattle.invariant.proofs.After.{all-clients, pins-kept, pins-here, p
 use Rattle.invariant.proofs.After.{entryFrame-kept}
 use Rattle.invariant.proofs.Searches.{grant-in}
 use Rattle.invariant.proofs.Table.{put-frame, else-frame}
-use Rattle.invariant.proofs.Flags.{differ, at-most}
-use Rattle.invariant.proofs.Edges.{Edge, on, found1, found18, lost2, lost22, pins2, pins19, gets3, gets21, takes, fills, swaps, gives-up, drops}
-use Rattle.invariant.proofs.Edges.{removes, admits, revives, evicts20, evicts23, begins, releases}
-use Rattle.invariant.proofs.Effects.{CountOk, counts-stay, counts-put, OwnOk, forgot, kept, taken, PinChange, adds, lowers, drops-victim, drops-own}
-use Rattle.invariant.proofs.Effects.{takes-one, PinsOk, pins-stay, pins-put, FoundOk, found-stays, lost, looked, Opened, of-found, of-own, EntryOk}
-use Rattle.invariant.proofs.Effects.{entries-stay, maps, unmaps, Effect}
+use Rattle.invariant.proofs.StageTests.{differ, at-most}
+use Rattle.invariant.proofs.Edges.{Edge, moves-on, found1, found18, forgets2, forgets22, pins2, pins19, gets3, gets21, takes, fills, replaces, refuses}
+use Rattle.invariant.proofs.Edges.{drops, removes, admits, revives, evicts20, evicts23, begins, releases}
+use Rattle.invariant.proofs.Effects.{CountOk, counts-stay, counts-put, OwnOk, own-forgotten, own-stays, own-taken, PinChange, adds, lowers, drops-victim}
+use Rattle.invariant.proofs.Effects.{own-evicted, takes-one, PinsOk, pins-stay, pins-put, FoundOk, found-stays, found-forgotten, found-looked-up, Opened}
+use Rattle.invariant.proofs.Effects.{of-found, of-own, EntryOk, entries-stay, maps, unmaps, Effect}
 use Rattle.invariant.proofs.Next.{SlotNow, slot-now, all-grants}
 
 -- ---- what a move has to show of the next record
@@ -43,9 +43,9 @@ module _ (p : Pool) (c : ℕ) (r : Reached p) where
   k = client p c
 
   -- a client at work goes on with its numbers
-  as-was : (n : Client) (i : ℕ) → k .stage ≡ i → T (not (eqb i 0)) → T (leb (n .stage) 23) → n .place ≡ k .place → n .busy ≡ k .busy
+  same-numbers : (n : Client) (i : ℕ) → k .stage ≡ i → T (not (eqb i 0)) → T (leb (n .stage) 23) → n .place ≡ k .place → n .busy ≡ k .busy
       → n .seen ≡ k .seen → n .held ≡ k .held → (n .victim ≢ none → n .victim ≡ k .victim) → Numbers p n
-  as-was n i e t s a b d f v =
+  same-numbers n i e t s a b d f v =
       record {
         stage-ok = at-most (n .stage) 23 s;
         place-ok = rw a (r .ranges .place-ok c);
@@ -75,7 +75,7 @@ module _ (p : Pool) (c : ℕ) (r : Reached p) where
   more i e t = omega (arith, r .ranges .working-held c (λ w. differ i 0 t (sym e ∙ w)))
 
   numbers : {m : Move} → Edge p c m → Numbers p (m .next)
-  numbers (on n j w h) =
+  numbers (moves-on n j w h) =
       record {
         stage-ok = h .stages .stage-ok;
         place-ok = h .place-ok;
@@ -85,24 +85,24 @@ module _ (p : Pool) (c : ℕ) (r : Reached p) where
         working-held = λ _. rw (h .same .held) (r .ranges .working-held c (h .stages .working));
         victim-ok = h .victim-ok;
       }
-  numbers (found1 e _) = as-was _ 1 e tt tt refl refl refl refl (λ _. refl)
-  numbers (found18 e _) = as-was _ 18 e tt tt refl refl refl refl (λ _. refl)
-  numbers (lost2 e _) = as-was _ 2 e tt tt refl refl refl refl (λ _. refl)
-  numbers (lost22 e _) = as-was _ 22 e tt tt refl refl refl refl (λ _. refl)
-  numbers (pins2 e _) = as-was _ 2 e tt tt refl refl refl refl (λ _. refl)
-  numbers (pins19 e _) = as-was _ 19 e tt tt refl refl refl refl (λ _. refl)
+  numbers (found1 e _) = same-numbers _ 1 e tt tt refl refl refl refl (λ _. refl)
+  numbers (found18 e _) = same-numbers _ 18 e tt tt refl refl refl refl (λ _. refl)
+  numbers (forgets2 e _) = same-numbers _ 2 e tt tt refl refl refl refl (λ _. refl)
+  numbers (forgets22 e _) = same-numbers _ 22 e tt tt refl refl refl refl (λ _. refl)
+  numbers (pins2 e _) = same-numbers _ 2 e tt tt refl refl refl refl (λ _. refl)
+  numbers (pins19 e _) = same-numbers _ 19 e tt tt refl refl refl refl (λ _. refl)
   numbers (gets3 e) = at-rest _ refl refl refl refl (more 3 e tt) refl
   numbers (gets21 e) = at-rest _ refl refl refl refl (more 21 e tt) refl
-  numbers (takes e _) = as-was _ 4 e tt tt refl refl refl refl (λ _. refl)
-  numbers (fills e _) = as-was _ 8 e tt tt refl refl refl refl (λ _. refl)
-  numbers (swaps e _) = as-was _ 15 e tt tt refl refl refl refl (λ _. refl)
-  numbers (gives-up _ _) = at-rest _ refl refl refl refl (r .ranges .held-ok c) refl
-  numbers (drops e _) = as-was _ 14 e tt tt refl refl refl refl (λ _. refl)
-  numbers (removes e _) = as-was _ 17 e tt tt refl refl refl refl (λ w. absurd (w refl))
+  numbers (takes e _) = same-numbers _ 4 e tt tt refl refl refl refl (λ _. refl)
+  numbers (fills e _) = same-numbers _ 8 e tt tt refl refl refl refl (λ _. refl)
+  numbers (replaces e _) = same-numbers _ 15 e tt tt refl refl refl refl (λ _. refl)
+  numbers (refuses _ _) = at-rest _ refl refl refl refl (r .ranges .held-ok c) refl
+  numbers (drops e _) = same-numbers _ 14 e tt tt refl refl refl refl (λ _. refl)
+  numbers (removes e _) = same-numbers _ 17 e tt tt refl refl refl refl (λ w. absurd (w refl))
   numbers (admits e _ _) = at-rest _ refl refl refl refl (more 18 e tt) refl
   numbers (revives e _) = at-rest _ refl refl refl refl (more 22 e tt) refl
-  numbers (evicts20 e) = as-was _ 20 e tt tt refl refl refl refl (λ _. refl)
-  numbers (evicts23 e) = as-was _ 23 e tt tt refl refl refl refl (λ _. refl)
+  numbers (evicts20 e) = same-numbers _ 20 e tt tt refl refl refl refl (λ _. refl)
+  numbers (evicts23 e) = same-numbers _ 23 e tt tt refl refl refl refl (λ _. refl)
   numbers (begins g e h) =
       record {
         stage-ok = omega arith;
@@ -150,7 +150,7 @@ module _ {p : Pool} {c : ℕ} {m : Move} (e : Edge p c m) (x : Effect p c m) whe
           least (adds _ _ l) = l
           least (lowers _ v) = omega (arith, r .ranges .pins-ok g)
           least (drops-victim _ _ v _ _ _ _) = omega arith
-          least (drops-own _ v) = omega arith
+          least (own-evicted _ v) = omega arith
           least (takes-one _ v) = omega arith
 
           by : Dec (f ≡ g) → pins q f ≤ pinned 128
@@ -159,7 +159,7 @@ module _ {p : Pool} {c : ℕ} {m : Move} (e : Edge p c m) (x : Effect p c m) whe
 
   count-range : (f : ℕ) → count q f ≤ p .cap
   unfolding apply
-  count-range f = go (x .written .count-ok)
+  count-range f = go (x .write-ok .count-ok)
     where
       go : CountOk p (m .write) → count q f ≤ p .cap
       go (counts-stay w) = rw (count-kept p c m w f) (r .ranges .count-ok f)
@@ -194,14 +194,14 @@ module _ {p : Pool} {c : ℕ} {m : Move} (e : Edge p c m) (x : Effect p c m) whe
           by (no v) = let s = else-frame p c m (r .shape) j _ _ w h i v in rw s (r .ranges .entry-ok i (λ n. z (s ∙ n)))
 
   own-range : OwnOk p c m → m .next .own ≢ none → m .next .own < total p
-  own-range (forgot w) z = absurd (z w)
-  own-range (kept w _) z = rw w (r .ranges .own-ok c (λ n. z (w ∙ n)))
-  own-range (taken _ h _ _) z = h
+  own-range (own-forgotten w) z = absurd (z w)
+  own-range (own-stays w _) z = rw w (r .ranges .own-ok c (λ n. z (w ∙ n)))
+  own-range (own-taken _ h _ _) z = h
 
   found-range : FoundOk p c m → m .next .found ≢ none → m .next .found < total p
   found-range (found-stays w) z = rw w (r .ranges .found-ok c (λ n. z (w ∙ n)))
-  found-range (lost w) z = absurd (z w)
-  found-range (looked h _) z = h
+  found-range (found-forgotten w) z = absurd (z w)
+  found-range (found-looked-up h _) z = h
 
   grant-range : (d i : ℕ) → grantFrame q d i ≢ none → grantFrame q d i < total p
   grant-range d i z =
@@ -215,7 +215,7 @@ module _ {p : Pool} {c : ℕ} {m : Move} (e : Edge p c m) (x : Effect p c m) whe
   unfolding apply
   ranges-next =
       let n = numbers p c r e in
-      let w = x .written in
+      let w = x .write-ok in
       record {
         free-ok = w .free-ok;
         last-ok = w .last-ok;

@@ -23,20 +23,20 @@ sumTo g zero = 0
 sumTo g (suc n) = sumTo g n + g n
 
 -- no two places have the same number, the neutral one z aside
-abbrev pub Apart : (ℕ → ℕ) → ℕ → Type 0
-Apart g z = (i j : ℕ) → g i ≢ z → g i ≡ g j → i ≡ j
+abbrev pub Distinct : (ℕ → ℕ) → ℕ → Type 0
+Distinct g z = (i j : ℕ) → g i ≢ z → g i ≡ g j → i ≡ j
 
--- The table by frame: one more than the page that is mapped to a frame, 0 where none is. No frame is in two entries (`entries-apart`).
+-- The table by frame: one more than the page that is mapped to a frame, 0 where none is. No frame is in two entries (`entries-distinct`).
 unfoldable pub mapped : Pool → ℕ → ℕ
 mapped p f = scan (λ i. eqb (entryFrame p i) f) (λ i. suc (entryPage p i)) 0 0 (total p)
 
 -- a frame stands in a slot
-abbrev pub Seated : Pool → ℕ → Type 0
-Seated p f = (i : ℕ) × (slot p i ≡ f)
+abbrev pub InSlot : Pool → ℕ → Type 0
+InSlot p f = (i : ℕ) × (slot p i ≡ f)
 
 -- The stages at which the own frame has no slot yet; at which a client has no own frame, no found frame, no victim; at which the found frame
 -- is pinned for this client and no grant names it yet; at which a victim is taken out of its slot and may still be in the table; at which a
--- client has claimed an empty slot and not filled it; at which it hunts: has a victim that stands in no slot but its place.
+-- client has claimed an empty slot and not filled it; at which it examines a victim, which stands in no slot but its place.
 abbrev pub unplaced : ℕ → Bool
 unplaced s = (leb 5 s && leb s 8) || (leb 10 s && leb s 15)
 
@@ -52,14 +52,14 @@ victimless s = not (leb 12 s && leb s 17)
 abbrev pub pinsFound : ℕ → Bool
 pinsFound s = eqb s 3 || eqb s 20 || eqb s 21
 
-abbrev pub leaving : ℕ → Bool
-leaving s = eqb s 16 || eqb s 17
+abbrev pub unmapping : ℕ → Bool
+unmapping s = eqb s 16 || eqb s 17
 
 abbrev pub filling : ℕ → Bool
 filling s = eqb s 7 || eqb s 8
 
-abbrev pub hunting : ℕ → Bool
-hunting s = leb 12 s && leb s 15
+abbrev pub examining : ℕ → Bool
+examining s = leb 12 s && leb s 15
 
 -- ---- claims on a frame: open grants, the found frame where it is pinned for this client, the own frame
 
@@ -83,8 +83,8 @@ pub record Orphan (p : Pool) (f : ℕ) : Type 0 where
 
 -- how a frame's pins, as stored, and the claims on it go together
 pub data Balance (p : Pool) (f q w : ℕ) : Type 0 where
-  gone : q ≡ evicted → w ≡ 0 → Balance p f q w
-  held : q ≡ suc w → Balance p f q w
+  unclaimed : q ≡ evicted → w ≡ 0 → Balance p f q w
+  counted : q ≡ suc w → Balance p f q w
   orphan : Orphan p f → Balance p f q w
 
 -- ---- what a client knows at its stage, whatever the others do
@@ -96,21 +96,21 @@ abbrev pub Owns : Know
 Owns p k = k .own ≢ none
 
 abbrev pub Placed : Know
-Placed p k = (k .own ≢ none) × Seated p (k .own)
+Placed p k = (k .own ≢ none) × InSlot p (k .own)
 
 -- the found frame is the page's, if it is not evicted
-abbrev pub Live : Know
-Live p k = (k .found ≢ none) × (pins p (k .found) ≢ evicted → mapped p (k .found) ≡ suc (k .page))
+abbrev pub FoundMapped : Know
+FoundMapped p k = (k .found ≢ none) × (pins p (k .found) ≢ evicted → mapped p (k .found) ≡ suc (k .page))
 
-abbrev pub DeadFound : Know
-DeadFound p k = (k .found ≢ none) × (pins p (k .found) ≡ evicted)
+abbrev pub FoundEvicted : Know
+FoundEvicted p k = (k .found ≢ none) × (pins p (k .found) ≡ evicted)
 
 -- the victim stands in a slot, if it is not evicted
-abbrev pub Seat : Know
-Seat p k = (k .victim ≢ none) × (pins p (k .victim) ≢ evicted → Seated p (k .victim))
+abbrev pub VictimInSlot : Know
+VictimInSlot p k = (k .victim ≢ none) × (pins p (k .victim) ≢ evicted → InSlot p (k .victim))
 
-abbrev pub DeadVictim : Know
-DeadVictim p k = (k .victim ≢ none) × (pins p (k .victim) ≡ evicted)
+abbrev pub VictimEvicted : Know
+VictimEvicted p k = (k .victim ≢ none) × (pins p (k .victim) ≡ evicted)
 
 abbrev pub Nothing : Know
 Nothing p k = Unit {0}
@@ -122,9 +122,9 @@ _and_ x y p k = x p k × y p k
 -- at stage 0, 1, 2 and so on
 abbrev pub knows : List Know
 knows =
-    Nothing ∷ Nothing ∷ Live ∷ Live ∷ Nothing ∷ Owns ∷ Owns ∷ Owns ∷ Owns ∷ Placed ∷ Owns ∷ Owns ∷ (Owns and Seat) ∷ (Owns and Seat) ∷ (Owns and Seat) ∷
-    (Owns and DeadVictim) ∷ (Placed and DeadVictim) ∷ (Placed and DeadVictim) ∷ Placed ∷ (Placed and Live) ∷ (Placed and Live) ∷ Live ∷
-    (Placed and DeadFound) ∷ Placed ∷ []
+    Nothing ∷ Nothing ∷ FoundMapped ∷ FoundMapped ∷ Nothing ∷ Owns ∷ Owns ∷ Owns ∷ Owns ∷ Placed ∷ Owns ∷ Owns ∷ (Owns and VictimInSlot) ∷
+    (Owns and VictimInSlot) ∷ (Owns and VictimInSlot) ∷ (Owns and VictimEvicted) ∷ (Placed and VictimEvicted) ∷ (Placed and VictimEvicted) ∷ Placed ∷
+    (Placed and FoundMapped) ∷ (Placed and FoundMapped) ∷ FoundMapped ∷ (Placed and FoundEvicted) ∷ Placed ∷ []
 
 abbrev pub Knows : ℕ → Know
 Knows s = getD knows s Nothing
@@ -170,9 +170,9 @@ pub record Ranges (p : Pool) : Type 0 where
 
 -- where frames stand
 pub record Places (p : Pool) : Type 0 where
-  pub slots-apart : Apart (slot p) none
-  pub owns-apart : Apart (λ c. client p c .own) none
-  pub unplaced-out : (c i : ℕ) → T (unplaced (client p c .stage)) → client p c .own ≢ none → slot p i ≢ client p c .own
+  pub slots-distinct : Distinct (slot p) none
+  pub owns-distinct : Distinct (λ c. client p c .own) none
+  pub unplaced-no-slot : (c i : ℕ) → T (unplaced (client p c .stage)) → client p c .own ≢ none → slot p i ≢ client p c .own
 
 -- the own frame is in no entry and nobody else's
 pub record Private (p : Pool) : Type 0 where
@@ -181,40 +181,40 @@ pub record Private (p : Pool) : Type 0 where
   pub own-ungranted : (c d i : ℕ) → client p c .own ≢ none → grantFrame p d i ≢ client p c .own
 
 -- pins and claims
-pub record Counts (p : Pool) : Type 0 where
+pub record PinCounts (p : Pool) : Type 0 where
   pub owns-none : (c : ℕ) → T (ownless (client p c .stage)) → client p c .own ≡ none
   pub balance : (f : ℕ) → f ≢ none → Balance p f (pins p f) (claimed p f)
 
 -- the table, and what each client knows
-pub record Outline (p : Pool) : Type 0 where
-  pub entries-apart : Apart (entryFrame p) none
-  pub pages-apart : (i j : ℕ) → entryFrame p i ≢ none → entryFrame p j ≢ none → entryPage p i ≡ entryPage p j → i ≡ j
-  pub granted : (c i : ℕ) → grantFrame p c i ≢ none → mapped p (grantFrame p c i) ≡ suc (grantPage p c i)
+pub record Mapping (p : Pool) : Type 0 where
+  pub entries-distinct : Distinct (entryFrame p) none
+  pub pages-distinct : (i j : ℕ) → entryFrame p i ≢ none → entryFrame p j ≢ none → entryPage p i ≡ entryPage p j → i ≡ j
+  pub grant-mapped : (c i : ℕ) → grantFrame p c i ≢ none → mapped p (grantFrame p c i) ≡ suc (grantPage p c i)
   pub grant-named : (c i : ℕ) → i < client p c .held → grantFrame p c i ≢ none
   pub knowing : (c : ℕ) → Knows (client p c .stage) p (client p c)
-  pub resident : (f : ℕ) → f ≢ none → pins p f ≢ evicted → mapped p f ≢ 0 → Seated p f
-  pub known : (f : ℕ) → f ≢ none → pins p f ≢ evicted → (mapped p f ≢ 0) ⊎ (((c : ℕ) × (client p c .own ≡ f)) ⊎ Orphan p f)
+  pub resident-in-slot : (f : ℕ) → f ≢ none → pins p f ≢ evicted → mapped p f ≢ 0 → InSlot p f
+  pub mapped-or-owned : (f : ℕ) → f ≢ none → pins p f ≢ evicted → (mapped p f ≢ 0) ⊎ (((c : ℕ) × (client p c .own ≡ f)) ⊎ Orphan p f)
   pub no-found : (c : ℕ) → T (foundless (client p c .stage)) → client p c .found ≡ none
   pub no-victim : (c : ℕ) → T (victimless (client p c .stage)) → client p c .victim ≡ none
   pub own-page : (c : ℕ) → client p c .own ≢ none → page p (client p c .own) ≡ client p c .page
-  pub page-true : (f g : ℕ) → f ≢ none → mapped p f ≡ suc g → page p f ≡ g
+  pub mapped-page : (f g : ℕ) → f ≢ none → mapped p f ≡ suc g → page p f ≡ g
 
--- a client leaves frame f behind: it has it for its victim and stands at 16 or 17, or at 15 with the frame in its slot
-abbrev pub Leaves : Pool → Client → ℕ → Type 0
-Leaves p k f = (k .victim ≡ f) × (T (leaving (k .stage)) ⊎ ((k .stage ≡ 15) × (slot p (k .place) ≡ f)))
+-- a client will remove frame f's entry: it has the frame for its victim and stands at 16 or 17, or at 15 with the frame in its slot
+abbrev pub WillUnmap : Pool → Client → ℕ → Type 0
+WillUnmap p k f = (k .victim ≡ f) × (T (unmapping (k .stage)) ⊎ ((k .stage ≡ 15) × (slot p (k .place) ≡ f)))
 
 -- empty slots, victims, evicted frames in the table
-pub record Calm (p : Pool) : Type 0 where
+pub record Evictions (p : Pool) : Type 0 where
   pub empties : sumTo (λ i. one (eqb (slot p i) none)) (p .size) ≡ p .free + sumTo (λ c. one (filling (client p c .stage))) (clientCount p)
-  pub six : (c : ℕ) → client p c .stage ≡ 6 → client p c .seen ≢ 0
-  pub only : (c i : ℕ) → T (hunting (client p c .stage)) → client p c .victim ≢ none → slot p i ≡ client p c .victim → i ≡ client p c .place
-  pub ghosts : (f : ℕ) → f ≢ none → mapped p f ≢ 0 → pins p f ≡ evicted → (c : ℕ) × Leaves p (client p c) f
+  pub six-seen : (c : ℕ) → client p c .stage ≡ 6 → client p c .seen ≢ 0
+  pub victim-place : (c i : ℕ) → T (examining (client p c .stage)) → client p c .victim ≢ none → slot p i ≡ client p c .victim → i ≡ client p c .place
+  pub evicted-mapped : (f : ℕ) → f ≢ none → mapped p f ≢ 0 → pins p f ≡ evicted → (c : ℕ) × WillUnmap p (client p c) f
 
 pub record Reached (p : Pool) : Type 0 where
   pub shape : Shape p
   pub ranges : Ranges p
   pub places : Places p
   pub private : Private p
-  pub counts : Counts p
-  pub outline : Outline p
-  pub calm : Calm p
+  pub pin-counts : PinCounts p
+  pub mapping : Mapping p
+  pub evictions : Evictions p

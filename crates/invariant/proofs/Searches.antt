@@ -31,8 +31,8 @@ module _ (p : Pool) (shape : Shape p) where
   pub none-evicted : pins p none ≡ evicted
   none-evicted = pins-past p none (omega (arith, few-frames p shape))
 
-  pub live-named : (f : ℕ) → pins p f ≢ evicted → f ≢ none
-  live-named f live z = live (ap (pins p) z ∙ none-evicted)
+  pub pins-named : (f : ℕ) → pins p f ≢ evicted → f ≢ none
+  pins-named f live z = live (ap (pins p) z ∙ none-evicted)
 
   module _ (g : ℕ) where
     entry-found : entryOf p g ≢ none → (entryOf p g < total p) × (entryPage p (entryOf p g) ≡ g) × (entryFrame p (entryOf p g) ≢ none)
@@ -44,7 +44,7 @@ module _ (p : Pool) (shape : Shape p) where
 
     -- a look-up that finds a frame finds an entry
     pub record Found (i f : ℕ) : Type 0 where
-      pub place : i < total p
+      pub inside : i < total p
       pub entry-page : entryPage p i ≡ g
       pub entry-frame : entryFrame p i ≡ f
 
@@ -54,7 +54,7 @@ module _ (p : Pool) (shape : Shape p) where
       where
         go : Dec (entryOf p g ≡ none) → Found (entryOf p g) (entryFrame p (entryOf p g))
         go (yes e) = absurd (z (ap (entryFrame p) e ∙ entryFrame-past p none (omega (arith, few-frames p shape))))
-        go (no e) = let r = entry-found e in record { place = r .0; entry-page = r .1; entry-frame = refl }
+        go (no e) = let r = entry-found e in record { inside = r .0; entry-page = r .1; entry-frame = refl }
 
     -- one that finds none leaves no entry of the page
     pub lookup-none : lookup p g ≡ none → (i : ℕ) → entryFrame p i ≢ none → entryPage p i ≢ g
@@ -109,7 +109,7 @@ grantOf-some p c i few h w =
 
 -- ---- a frame that is not referenced
 
-pub record Fresh (p : Pool) (f : ℕ) : Type 0 where
+pub record Unreferenced (p : Pool) (f : ℕ) : Type 0 where
   pub no-slot : (i : ℕ) → slot p i ≢ f
   pub no-entry : (i : ℕ) → entryFrame p i ≢ f
   pub no-own : (c : ℕ) → client p c .own ≢ f
@@ -147,9 +147,9 @@ module _ (p : Pool) (f : ℕ) (z : f ≢ none) where
         grant = λ i w. z (sym w ∙ grantFrame-past p c i (omega (arith, ap (λ (x : Client). x .held) k)));
       }
 
-  pub fresh-means : referenced p f ≡ false → Fresh p f
+  pub unreferenced-means : referenced p f ≡ false → Unreferenced p f
   unfolding referenced
-  fresh-means e =
+  unreferenced-means e =
       let a = either-false _ _ e in
       let b = either-false _ _ (a .1) in
       record {

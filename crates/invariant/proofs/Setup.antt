@@ -16,12 +16,12 @@ use Rattle.pool.specs.declared.Pool.{Pool}
 use Rattle.pool.specs.declared.Client.{Client}
 use Rattle.laws.specs.Choices.{by-test}
 use Rattle.laws.specs.Scans.{both-true}
-use Rattle.invariant.proofs.Reached.{Shape, Reached, gone, one, mapped, claims, claimed, filling}
+use Rattle.invariant.proofs.Reached.{Shape, Reached, unclaimed, one, mapped, claims, claimed, filling}
 use Rattle.invariant.proofs.After.{few-frames, within-in, within-past}
 use Rattle.invariant.proofs.Sums.{sum-zero, sum-full}
 use Rattle.invariant.proofs.Searches.{grantFrame-past}
 use Rattle.invariant.proofs.Table.{suc-not, mapped-zero}
-use Rattle.invariant.proofs.Facts.{rest-claims}
+use Rattle.invariant.proofs.Facts.{resting-claims}
 
 -- a list that is d throughout
 within-same : (m n d i : ℕ) → n ≤ m → within (replicate m d) n d i ≡ d
@@ -65,9 +65,9 @@ module _ (s t c h : ℕ) (ok : numbersOk s t c ≡ true) where
   unfolding slot
   slot-none i = within-same 64 s none i (shape .size-high)
 
-  pub pins-none : (f : ℕ) → pins p f ≡ evicted
+  pub setup-evicted : (f : ℕ) → pins p f ≡ evicted
   unfolding pins
-  pins-none f = let n = few-frames p shape in within-same 96 (total p) evicted f (omega arith)
+  setup-evicted f = let n = few-frames p shape in within-same 96 (total p) evicted f (omega arith)
 
   count-none : (f : ℕ) → count p f ≡ 0
   unfolding count
@@ -77,14 +77,14 @@ module _ (s t c h : ℕ) (ok : numbersOk s t c ≡ true) where
   unfolding entryFrame
   entry-none i = let n = few-frames p shape in within-same 96 (total p) none i (omega arith)
 
-  pub rests : (d : ℕ) → client p d ≡ resting 0
+  pub setup-rests : (d : ℕ) → client p d ≡ resting 0
   unfolding client
-  rests d =
+  setup-rests d =
       let n = shape in
       by-test (λ (k : Client). k ≡ resting 0) (λ w. getD-replicate 16 d (resting 0) no-client (omega (arith, ltb-true d t w))) (λ _. refl)
 
   grant-none : (d i : ℕ) → grantFrame p d i ≡ none
-  grant-none d i = grantFrame-past p d i (omega (arith, ap (λ (k : Client). k .held) (rests d)))
+  grant-none d i = grantFrame-past p d i (omega (arith, ap (λ (k : Client). k .held) (setup-rests d)))
 
   mapped-zeros : (f : ℕ) → f ≢ none → mapped p f ≡ 0
   mapped-zeros f z = mapped-zero p f (λ i w. z (sym w ∙ entry-none i))
@@ -98,56 +98,56 @@ module _ (s t c h : ℕ) (ok : numbersOk s t c ≡ true) where
         ranges = record {
           free-ok = omega arith;
           last-ok = inl refl;
-          stage-ok = λ d. rw (rests d) (omega arith);
-          place-ok = λ d. rw (rests d) (n .size-low);
-          busy-ok = λ d. rw (rests d) (n .size-low);
-          seen-ok = λ d. rw (rests d) (omega arith);
-          held-ok = λ d. rw (rests d) (omega arith);
-          working-held = λ d. rw (rests d) (λ w. absurd (w refl));
-          pins-ok = λ f. rw (pins-none f) (omega arith);
+          stage-ok = λ d. rw (setup-rests d) (omega arith);
+          place-ok = λ d. rw (setup-rests d) (n .size-low);
+          busy-ok = λ d. rw (setup-rests d) (n .size-low);
+          seen-ok = λ d. rw (setup-rests d) (omega arith);
+          held-ok = λ d. rw (setup-rests d) (omega arith);
+          working-held = λ d. rw (setup-rests d) (λ w. absurd (w refl));
+          pins-ok = λ f. rw (setup-evicted f) (omega arith);
           count-ok = λ f. rw (count-none f) (omega arith);
           slot-ok = λ i z. absurd (z (slot-none i));
           entry-ok = λ i z. absurd (z (entry-none i));
-          own-ok = λ d. rw (rests d) (λ z. absurd (z refl));
-          found-ok = λ d. rw (rests d) (λ z. absurd (z refl));
-          victim-ok = λ d. rw (rests d) (λ z. absurd (z refl));
+          own-ok = λ d. rw (setup-rests d) (λ z. absurd (z refl));
+          found-ok = λ d. rw (setup-rests d) (λ z. absurd (z refl));
+          victim-ok = λ d. rw (setup-rests d) (λ z. absurd (z refl));
           grant-ok = λ d i z. absurd (z (grant-none d i));
         };
         places = record {
-          slots-apart = λ i j z _. absurd (z (slot-none i));
-          owns-apart = λ d e z _. absurd (z (ap (λ (k : Client). k .own) (rests d)));
-          unplaced-out = λ d i _ z _. z (ap (λ (k : Client). k .own) (rests d));
+          slots-distinct = λ i j z _. absurd (z (slot-none i));
+          owns-distinct = λ d e z _. absurd (z (ap (λ (k : Client). k .own) (setup-rests d)));
+          unplaced-no-slot = λ d i _ z _. z (ap (λ (k : Client). k .own) (setup-rests d));
         };
         private = record {
-          own-unmapped = λ d z. absurd (z (ap (λ (k : Client). k .own) (rests d)));
-          own-unfound = λ d e z. absurd (z (ap (λ (k : Client). k .own) (rests d)));
-          own-ungranted = λ d e i z. absurd (z (ap (λ (k : Client). k .own) (rests d)));
+          own-unmapped = λ d z. absurd (z (ap (λ (k : Client). k .own) (setup-rests d)));
+          own-unfound = λ d e z. absurd (z (ap (λ (k : Client). k .own) (setup-rests d)));
+          own-ungranted = λ d e i z. absurd (z (ap (λ (k : Client). k .own) (setup-rests d)));
         };
-        counts = record {
-          owns-none = λ d _. ap (λ (k : Client). k .own) (rests d);
-          balance = λ f z. gone (pins-none f) (sum-zero (λ d. claims p d f) t (λ d _. rest-claims p d f z (rests d)));
+        pin-counts = record {
+          owns-none = λ d _. ap (λ (k : Client). k .own) (setup-rests d);
+          balance = λ f z. unclaimed (setup-evicted f) (sum-zero (λ d. claims p d f) t (λ d _. resting-claims p d f z (setup-rests d)));
         };
-        outline = record {
-          entries-apart = λ i j z _. absurd (z (entry-none i));
-          pages-apart = λ i j z _ _. absurd (z (entry-none i));
-          granted = λ d i z. absurd (z (grant-none d i));
-          grant-named = λ d i l. absurd (let w = ap (λ (k : Client). k .held) (rests d) in let y : ⊥ = omega arith in y);
-          knowing = λ d. rw (rests d) tt;
-          resident = λ f z l _. absurd (l (pins-none f));
-          known = λ f z l. absurd (l (pins-none f));
-          no-found = λ d _. ap (λ (k : Client). k .found) (rests d);
-          no-victim = λ d _. ap (λ (k : Client). k .victim) (rests d);
-          own-page = λ d z. absurd (z (ap (λ (k : Client). k .own) (rests d)));
-          page-true = λ f g z e. absurd (suc-not e (mapped-zeros f z));
+        mapping = record {
+          entries-distinct = λ i j z _. absurd (z (entry-none i));
+          pages-distinct = λ i j z _ _. absurd (z (entry-none i));
+          grant-mapped = λ d i z. absurd (z (grant-none d i));
+          grant-named = λ d i l. absurd (let w = ap (λ (k : Client). k .held) (setup-rests d) in let y : ⊥ = omega arith in y);
+          knowing = λ d. rw (setup-rests d) tt;
+          resident-in-slot = λ f z l _. absurd (l (setup-evicted f));
+          mapped-or-owned = λ f z l. absurd (l (setup-evicted f));
+          no-found = λ d _. ap (λ (k : Client). k .found) (setup-rests d);
+          no-victim = λ d _. ap (λ (k : Client). k .victim) (setup-rests d);
+          own-page = λ d z. absurd (z (ap (λ (k : Client). k .own) (setup-rests d)));
+          mapped-page = λ f g z e. absurd (suc-not e (mapped-zeros f z));
         };
-        calm = record {
+        evictions = record {
           empties = omega (
             arith,
             sum-full (λ i. one (eqb (slot p i) none)) s (λ i _. ap (λ (f : ℕ). one (eqb f none)) (slot-none i)),
-            sum-zero (λ d. one (filling (client p d .stage))) t (λ d _. rw (rests d) refl),
+            sum-zero (λ d. one (filling (client p d .stage))) t (λ d _. rw (setup-rests d) refl),
           );
-          six = λ d e. absurd (let w = ap (λ (k : Client). k .stage) (rests d) in let y : ⊥ = omega arith in y);
-          only = λ d i _ z _. absurd (z (ap (λ (k : Client). k .victim) (rests d)));
-          ghosts = λ f z n _. absurd (n (mapped-zeros f z));
+          six-seen = λ d e. absurd (let w = ap (λ (k : Client). k .stage) (setup-rests d) in let y : ⊥ = omega arith in y);
+          victim-place = λ d i _ z _. absurd (z (ap (λ (k : Client). k .victim) (setup-rests d)));
+          evicted-mapped = λ f z n _. absurd (n (mapped-zeros f z));
         };
       }

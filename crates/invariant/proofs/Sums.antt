@@ -16,9 +16,9 @@ one-is f = ap one (eq-eqb f f refl)
 pub one-not : (f g : ℕ) → f ≢ g → one (eqb f g) ≡ 0
 one-not f g z = ap one (ne-eqb f g z)
 
-pub one-least : (b : Bool) → one b ≤ 1
-one-least true = omega arith
-one-least false = omega arith
+pub one-at-most : (b : Bool) → one b ≤ 1
+one-at-most true = omega arith
+one-at-most false = omega arith
 
 pub sum-same : (g h : ℕ → ℕ) (n : ℕ) → ((i : ℕ) → i < n → h i ≡ g i) → sumTo h n ≡ sumTo g n
 unfolding sumTo
@@ -54,10 +54,10 @@ sum-has g (suc n) k l = go (ℕ-discrete k n) (sum-has g n k)
     go (no q) ih = let h = ih (omega arith) in omega arith
 
 -- no term is above b
-pub sum-least : (g : ℕ → ℕ) (n b : ℕ) → ((i : ℕ) → i < n → g i ≤ b) → sumTo g n ≤ b * n
+pub sum-at-most : (g : ℕ → ℕ) (n b : ℕ) → ((i : ℕ) → i < n → g i ≤ b) → sumTo g n ≤ b * n
 unfolding sumTo
-sum-least g zero b e = omega arith
-sum-least g (suc n) b e = let more : b * suc n ≡ b * n + b = omega arith in omega (arith, sum-least g n b (λ i l. e i (omega arith)), e n (omega arith))
+sum-at-most g zero b e = omega arith
+sum-at-most g (suc n) b e = let more : b * suc n ≡ b * n + b = omega arith in omega (arith, sum-at-most g n b (λ i l. e i (omega arith)), e n (omega arith))
 
 -- and one of them is d below it
 pub sum-gap : (g : ℕ → ℕ) (n b k d : ℕ) → k < n → ((i : ℕ) → i < n → g i ≤ b) → g k + d ≤ b → sumTo g n + d ≤ b * n
@@ -69,14 +69,14 @@ sum-gap g (suc n) b k d l e h = go (ℕ-discrete k n) (sum-gap g n b k d)
     more = omega arith
 
     go : Dec (k ≡ n) → (k < n → ((i : ℕ) → i < n → g i ≤ b) → g k + d ≤ b → sumTo g n + d ≤ b * n) → sumTo g n + g n + d ≤ b * suc n
-    go (yes q) ih = omega (arith, more, ap g q, sum-least g n b (λ i r. e i (omega arith)))
+    go (yes q) ih = omega (arith, more, ap g q, sum-at-most g n b (λ i r. e i (omega arith)))
     go (no q) ih = omega (arith, more, ih (omega arith) (λ i r. e i (omega arith)) h, e n (omega arith))
 
 -- every term counts
-pub sum-most : (g : ℕ → ℕ) (n : ℕ) → ((i : ℕ) → i < n → 1 ≤ g i) → n ≤ sumTo g n
+pub sum-at-least : (g : ℕ → ℕ) (n : ℕ) → ((i : ℕ) → i < n → 1 ≤ g i) → n ≤ sumTo g n
 unfolding sumTo
-sum-most g zero e = omega arith
-sum-most g (suc n) e = omega (arith, sum-most g n (λ i l. e i (omega arith)), e n (omega arith))
+sum-at-least g zero e = omega arith
+sum-at-least g (suc n) e = omega (arith, sum-at-least g n (λ i l. e i (omega arith)), e n (omega arith))
 
 -- a sum that is not 0 has a term that is not
 pub sum-some : (g : ℕ → ℕ) (n : ℕ) → sumTo g n ≢ 0 → (i : ℕ) × (i < n) × (g i ≢ 0)
@@ -89,8 +89,8 @@ sum-some g (suc n) z = go (ℕ-discrete (g n) 0) (sum-some g n)
     go (yes q) ih = let r = ih (λ w. z (omega arith)) in (r .0, omega (arith, r .1), r .2)
 
 -- a sum of tests that is not 0 has one that passes
-pub some-one : (t : ℕ → Bool) (n : ℕ) → sumTo (λ i. one (t i)) n ≢ 0 → (i : ℕ) × (i < n) × (t i ≡ true)
-some-one t n z = let r = sum-some (λ i. one (t i)) n z in (r .0, r .1, passes (t (r .0)) (r .2))
+pub sum-some-test : (t : ℕ → Bool) (n : ℕ) → sumTo (λ i. one (t i)) n ≢ 0 → (i : ℕ) × (i < n) × (t i ≡ true)
+sum-some-test t n z = let r = sum-some (λ i. one (t i)) n z in (r .0, r .1, passes (t (r .0)) (r .2))
   where
     passes : (b : Bool) → one b ≢ 0 → b ≡ true
     passes true _ = refl

@@ -16,10 +16,10 @@ use Rattle.pool.specs.declared.Move.{Move}
 use Rattle.pool.specs.declared.Write.the-variants.{PutEntry}
 use Rattle.laws.specs.Choices.{scan-ind}
 use Rattle.laws.specs.Scans.{scan-none, scan-same, scan-only}
-use Rattle.invariant.proofs.Reached.{Apart, mapped, Shape}
+use Rattle.invariant.proofs.Reached.{Distinct, mapped, Shape}
 use Rattle.invariant.proofs.After.{EntryPagesStay, EntryFramesStay, entry-in, entryPage-kept, entryFrame-kept, entryPage-here, entryPage-else}
 use Rattle.invariant.proofs.After.{entryFrame-here, entryFrame-else}
-use Rattle.invariant.proofs.Apart.{apart-put}
+use Rattle.invariant.proofs.Distinct.{distinct-put}
 use Rattle.invariant.proofs.Searches.{lookup-found, lookup-is}
 
 -- one more than a number is not 0
@@ -50,7 +50,7 @@ module _ (p : Pool) (f : ℕ) where
   pub mapped-zero : ((i : ℕ) → entryFrame p i ≢ f) → mapped p f ≡ 0
   mapped-zero h = elim (ℕ-discrete (mapped p f) 0) [ yes e ↦ e | no n ↦ (let r = mapped-entry n in absurd (h (r .0) (r .1))) ]
 
-  pub mapped-is : Apart (entryFrame p) none → f ≢ none → (i : ℕ) → entryFrame p i ≡ f → mapped p f ≡ suc (entryPage p i)
+  pub mapped-is : Distinct (entryFrame p) none → f ≢ none → (i : ℕ) → entryFrame p i ≡ f → mapped p f ≡ suc (entryPage p i)
   unfolding mapped
   mapped-is apart z i e =
       scan-only (λ i. eqb (entryFrame p i) f) (λ i. suc (entryPage p i)) 0 0 (total p) i (omega arith)
@@ -60,7 +60,7 @@ module _ (p : Pool) (f : ℕ) where
 -- ---- the look-up
 
 module _ (p : Pool) (shape : Shape p) where
-  pub lookup-mapped : Apart (entryFrame p) none → (g : ℕ) → lookup p g ≢ none → mapped p (lookup p g) ≡ suc g
+  pub lookup-mapped : Distinct (entryFrame p) none → (g : ℕ) → lookup p g ≢ none → mapped p (lookup p g) ≡ suc g
   lookup-mapped apart g z =
       let f = lookup-found p shape g z in
       mapped-is p (lookup p g) apart z (entryOf p g) (f .entry-frame) ∙ ap suc (f .entry-page)
@@ -83,26 +83,26 @@ module _ (p : Pool) (c : ℕ) (m : Move) where
   q = apply p c m
 
   -- place i has the entry that it had, or has and had another frame than f
-  abbrev Alike : ℕ → ℕ → Type 0
-  Alike f i = ((entryFrame q i ≡ entryFrame p i) × (entryPage q i ≡ entryPage p i)) ⊎ ((entryFrame p i ≢ f) × (entryFrame q i ≢ f))
+  abbrev SameEntry : ℕ → ℕ → Type 0
+  SameEntry f i = ((entryFrame q i ≡ entryFrame p i) × (entryPage q i ≡ entryPage p i)) ⊎ ((entryFrame p i ≢ f) × (entryFrame q i ≢ f))
 
-  mapped-alike : (f : ℕ) → ((i : ℕ) → Alike f i) → mapped q f ≡ mapped p f
+  mapped-same : (f : ℕ) → ((i : ℕ) → SameEntry f i) → mapped q f ≡ mapped p f
   unfolding mapped apply
-  mapped-alike f h =
+  mapped-same f h =
       scan-same (λ i. eqb (entryFrame q i) f) (λ i. eqb (entryFrame p i) f) (λ i. suc (entryPage q i)) (λ i. suc (entryPage p i)) 0 0 (total p)
       (λ i _. tests i (h i)) (λ i _ t. pages i (eqb-true _ _ t) (h i))
     where
-      tests : (i : ℕ) → Alike f i → eqb (entryFrame q i) f ≡ eqb (entryFrame p i) f
+      tests : (i : ℕ) → SameEntry f i → eqb (entryFrame q i) f ≡ eqb (entryFrame p i) f
       tests i (inl e) = ap (λ (x : ℕ). eqb x f) (e .0)
       tests i (inr e) = ne-eqb _ _ (e .1) ∙ sym (ne-eqb _ _ (e .0))
 
-      pages : (i : ℕ) → entryFrame p i ≡ f → Alike f i → suc (entryPage q i) ≡ suc (entryPage p i)
+      pages : (i : ℕ) → entryFrame p i ≡ f → SameEntry f i → suc (entryPage q i) ≡ suc (entryPage p i)
       pages i w (inl e) = ap suc (e .1)
       pages i w (inr e) = absurd (e .0 w)
 
   pub mapped-kept : EntryPagesStay p (m .write) → EntryFramesStay p (m .write)
       → (f : ℕ) → mapped q f ≡ mapped p f
-  mapped-kept a b f = mapped-alike f (λ i. inl (entryFrame-kept p c m b i, entryPage-kept p c m a i))
+  mapped-kept a b f = mapped-same f (λ i. inl (entryFrame-kept p c m b i, entryPage-kept p c m a i))
 
   -- one entry is put: at place j, page g and frame f
   module _ (shape : Shape p) (j g f : ℕ) (e : m .write ≡ PutEntry j g f) (here : j < total p) where
@@ -124,32 +124,32 @@ module _ (p : Pool) (c : ℕ) (m : Move) where
 
     -- the frames that are neither the one put nor the one replaced keep their entries
     pub put-other : (x : ℕ) → x ≢ f → x ≢ entryFrame p j → mapped q x ≡ mapped p x
-    put-other x a b = mapped-alike x (λ i. go i (ℕ-discrete i j))
+    put-other x a b = mapped-same x (λ i. go i (ℕ-discrete i j))
       where
-        go : (i : ℕ) → Dec (i ≡ j) → Alike x i
+        go : (i : ℕ) → Dec (i ≡ j) → SameEntry x i
         go i (no w) = inl (else-frame i w, else-page i w)
         go i (yes w) = inr (λ r. b (sym r ∙ ap (entryFrame p) w), λ r. a (sym r ∙ ap (entryFrame q) w ∙ put-frame))
 
     -- the frame put is in no other entry
-    module _ (apart : Apart (entryFrame p) none) (only : f ≢ none → (i : ℕ) → i ≢ j → entryFrame p i ≢ f) where
-      pub put-apart : Apart (entryFrame q) none
-      put-apart =
-          apart-put (entryFrame p) (entryFrame q) none apart j else-frame (λ z i o w. only (λ n. z (put-frame ∙ n)) i o (w ∙ put-frame))
+    module _ (apart : Distinct (entryFrame p) none) (only : f ≢ none → (i : ℕ) → i ≢ j → entryFrame p i ≢ f) where
+      pub put-distinct : Distinct (entryFrame q) none
+      put-distinct =
+          distinct-put (entryFrame p) (entryFrame q) none apart j else-frame (λ z i o w. only (λ n. z (put-frame ∙ n)) i o (w ∙ put-frame))
 
       pub put-new : f ≢ none → mapped q f ≡ suc g
-      put-new z = mapped-is q f put-apart z j put-frame ∙ ap suc put-page
+      put-new z = mapped-is q f put-distinct z j put-frame ∙ ap suc put-page
 
       -- the frame that stood at the place is in no entry now
-      pub put-gone : entryFrame p j ≢ none → entryFrame p j ≢ f → mapped q (entryFrame p j) ≡ 0
-      put-gone z w = mapped-zero q (entryFrame p j) (λ i. go i (ℕ-discrete i j))
+      pub put-replaced : entryFrame p j ≢ none → entryFrame p j ≢ f → mapped q (entryFrame p j) ≡ 0
+      put-replaced z w = mapped-zero q (entryFrame p j) (λ i. go i (ℕ-discrete i j))
         where
           go : (i : ℕ) → Dec (i ≡ j) → entryFrame q i ≢ entryFrame p j
           go i (yes x) r = w (sym r ∙ ap (entryFrame q) x ∙ put-frame)
           go i (no x) r = x (sym (apart j i z (sym r ∙ else-frame i x)))
 
     -- an entry that a frame has now it had before, or it is the one put
-    pub put-cases : (x : ℕ) → x ≢ none → mapped p x ≡ 0 → x ≢ f → mapped q x ≡ 0
-    put-cases x z n w = mapped-zero q x (λ i. go i (ℕ-discrete i j))
+    pub put-unmapped : (x : ℕ) → x ≢ none → mapped p x ≡ 0 → x ≢ f → mapped q x ≡ 0
+    put-unmapped x z n w = mapped-zero q x (λ i. go i (ℕ-discrete i j))
       where
         go : (i : ℕ) → Dec (i ≡ j) → entryFrame q i ≢ x
         go i (yes y) r = w (sym r ∙ ap (entryFrame q) y ∙ put-frame)

@@ -11,52 +11,55 @@ use Rattle.pool.specs.Valid.{usesOwn, usesFound, usesVictim, valid}
 use Rattle.pool.specs.declared.Pool.{Pool}
 use Rattle.pool.specs.declared.Client.{Client}
 use Rattle.ranges.specs.Ranges.{Named, ClientRanged, Ranged, valid-from}
-use Rattle.invariant.proofs.Reached.{Reached, Know, Owns, Placed, Live, DeadFound, Seat, DeadVictim, Nothing, _and_, knows}
+use Rattle.invariant.proofs.Reached.{Reached, Know, Owns, Placed, FoundMapped, FoundEvicted, VictimInSlot, VictimEvicted, Nothing, _and_, knows}
 use Rattle.invariant.proofs.Each.{Each, fin, _also_, each-in}
 use Rattle.invariant.proofs.Table.{mapped-lookup}
 
 -- ---- a client has the frames that its stage uses
 
-record Has (k : Client) (i : ℕ) : Type 0 where
+record HasFrames (k : Client) (i : ℕ) : Type 0 where
   own : usesOwn i ≡ true → k .own ≢ none
   found : usesFound i ≡ true → k .found ≢ none
   victim : usesVictim i ≡ true → k .victim ≢ none
 
-off : {A : Type 0} {b : Bool} → b ≡ false → b ≡ true → A
-off e w = absurd (true≢false (sym w ∙ e))
+false-true : {A : Type 0} {b : Bool} → b ≡ false → b ≡ true → A
+false-true e w = absurd (true≢false (sym w ∙ e))
 
 module _ (p : Pool) (k : Client) where
-  abbrev Shows : ℕ → Know → Type 0
-  Shows i x = x p k → Has k i
+  abbrev GivesFrames : ℕ → Know → Type 0
+  GivesFrames i x = x p k → HasFrames k i
 
   -- a stage that uses no frame; the own one; the found one; the own and the found one; the own one and the victim
-  bare : (i : ℕ) → usesOwn i ≡ false → usesFound i ≡ false → usesVictim i ≡ false → Shows i Nothing
-  bare i a b d h = record { own = off a; found = off b; victim = off d }
+  uses-none : (i : ℕ) → usesOwn i ≡ false → usesFound i ≡ false → usesVictim i ≡ false → GivesFrames i Nothing
+  uses-none i a b d h = record { own = false-true a; found = false-true b; victim = false-true d }
 
-  by-own : (x : Know) (i : ℕ) → (x p k → k .own ≢ none) → usesFound i ≡ false → usesVictim i ≡ false → Shows i x
-  by-own x i o b d h = record { own = λ _. o h; found = off b; victim = off d }
+  uses-own : (x : Know) (i : ℕ) → (x p k → k .own ≢ none) → usesFound i ≡ false → usesVictim i ≡ false → GivesFrames i x
+  uses-own x i o b d h = record { own = λ _. o h; found = false-true b; victim = false-true d }
 
-  by-found : (x : Know) (i : ℕ) → (x p k → k .found ≢ none) → usesOwn i ≡ false → usesVictim i ≡ false → Shows i x
-  by-found x i f a d h = record { own = off a; found = λ _. f h; victim = off d }
+  uses-found : (x : Know) (i : ℕ) → (x p k → k .found ≢ none) → usesOwn i ≡ false → usesVictim i ≡ false → GivesFrames i x
+  uses-found x i f a d h = record { own = false-true a; found = λ _. f h; victim = false-true d }
 
-  by-both : (x : Know) (i : ℕ) → (x p k → k .own ≢ none) → (x p k → k .found ≢ none) → usesVictim i ≡ false → Shows i x
-  by-both x i o f d h = record { own = λ _. o h; found = λ _. f h; victim = off d }
+  uses-both : (x : Know) (i : ℕ) → (x p k → k .own ≢ none) → (x p k → k .found ≢ none) → usesVictim i ≡ false → GivesFrames i x
+  uses-both x i o f d h = record { own = λ _. o h; found = λ _. f h; victim = false-true d }
 
-  by-sweep : (x : Know) (i : ℕ) → (x p k → k .own ≢ none) → (x p k → k .victim ≢ none) → usesFound i ≡ false → Shows i x
-  by-sweep x i o v b h = record { own = λ _. o h; found = off b; victim = λ _. v h }
+  uses-victim : (x : Know) (i : ℕ) → (x p k → k .own ≢ none) → (x p k → k .victim ≢ none) → usesFound i ≡ false → GivesFrames i x
+  uses-victim x i o v b h = record { own = λ _. o h; found = false-true b; victim = λ _. v h }
 
-  shows : Each Shows 0 knows
-  shows =
-      bare 0 refl refl refl also bare 1 refl refl refl also by-found Live 2 (λ h. h .0) refl refl also by-found Live 3 (λ h. h .0) refl refl also
-      bare 4 refl refl refl also
-      by-own Owns 5 (λ h. h) refl refl also by-own Owns 6 (λ h. h) refl refl also by-own Owns 7 (λ h. h) refl refl also by-own Owns 8 (λ h. h) refl refl also
-      by-own Placed 9 (λ h. h .0) refl refl also by-own Owns 10 (λ h. h) refl refl also by-own Owns 11 (λ h. h) refl refl also
-      by-sweep (Owns and Seat) 12 (λ h. h .0) (λ h. h .1 .0) refl also by-sweep (Owns and Seat) 13 (λ h. h .0) (λ h. h .1 .0) refl also
-      by-sweep (Owns and Seat) 14 (λ h. h .0) (λ h. h .1 .0) refl also by-sweep (Owns and DeadVictim) 15 (λ h. h .0) (λ h. h .1 .0) refl also
-      by-sweep (Placed and DeadVictim) 16 (λ h. h .0 .0) (λ h. h .1 .0) refl also by-sweep (Placed and DeadVictim) 17 (λ h. h .0 .0) (λ h. h .1 .0) refl also
-      by-own Placed 18 (λ h. h .0) refl refl also by-both (Placed and Live) 19 (λ h. h .0 .0) (λ h. h .1 .0) refl also
-      by-both (Placed and Live) 20 (λ h. h .0 .0) (λ h. h .1 .0) refl also by-found Live 21 (λ h. h .0) refl refl also
-      by-both (Placed and DeadFound) 22 (λ h. h .0 .0) (λ h. h .1 .0) refl also by-own Placed 23 (λ h. h .0) refl refl also fin
+  gives-frames : Each GivesFrames 0 knows
+  gives-frames =
+      uses-none 0 refl refl refl also uses-none 1 refl refl refl also uses-found FoundMapped 2 (λ h. h .0) refl refl also
+      uses-found FoundMapped 3 (λ h. h .0) refl refl also uses-none 4 refl refl refl also uses-own Owns 5 (λ h. h) refl refl also
+      uses-own Owns 6 (λ h. h) refl refl also uses-own Owns 7 (λ h. h) refl refl also uses-own Owns 8 (λ h. h) refl refl also
+      uses-own Placed 9 (λ h. h .0) refl refl also uses-own Owns 10 (λ h. h) refl refl also uses-own Owns 11 (λ h. h) refl refl also
+      uses-victim (Owns and VictimInSlot) 12 (λ h. h .0) (λ h. h .1 .0) refl also
+      uses-victim (Owns and VictimInSlot) 13 (λ h. h .0) (λ h. h .1 .0) refl also
+      uses-victim (Owns and VictimInSlot) 14 (λ h. h .0) (λ h. h .1 .0) refl also
+      uses-victim (Owns and VictimEvicted) 15 (λ h. h .0) (λ h. h .1 .0) refl also
+      uses-victim (Placed and VictimEvicted) 16 (λ h. h .0 .0) (λ h. h .1 .0) refl also
+      uses-victim (Placed and VictimEvicted) 17 (λ h. h .0 .0) (λ h. h .1 .0) refl also uses-own Placed 18 (λ h. h .0) refl refl also
+      uses-both (Placed and FoundMapped) 19 (λ h. h .0 .0) (λ h. h .1 .0) refl also
+      uses-both (Placed and FoundMapped) 20 (λ h. h .0 .0) (λ h. h .1 .0) refl also uses-found FoundMapped 21 (λ h. h .0) refl refl also
+      uses-both (Placed and FoundEvicted) 22 (λ h. h .0 .0) (λ h. h .1 .0) refl also uses-own Placed 23 (λ h. h .0) refl refl also fin
 
 -- ---- the ranges
 
@@ -64,20 +67,21 @@ module _ (p : Pool) (r : Reached p) where
   -- one client's grants of one page name the frame that the page is mapped to
   granted-frame : (c i : ℕ) → i < client p c .held → grantFrame p c i ≡ lookup p (grantPage p c i)
   granted-frame c i h =
-      let n = r .outline .grant-named c i h in
-      sym (mapped-lookup p (r .shape) (r .outline .pages-apart) (grantFrame p c i) (grantPage p c i) n (r .outline .granted c i n) .1)
+      let n = r .mapping .grant-named c i h in
+      sym (mapped-lookup p (r .shape) (r .mapping .pages-distinct) (grantFrame p c i) (grantPage p c i) n (r .mapping .grant-mapped c i n) .1)
 
   client-ranged : (c : ℕ) → ClientRanged p c
   client-ranged c =
       let k = client p c in
       let s = r .ranges in
-      let h : Has k (k .stage) = each-in (Shows p k) Nothing knows (shows p k) (k .stage) (omega (arith, s .stage-ok c)) (r .outline .knowing c) in
+      let h : HasFrames k (k .stage) =
+      each-in (GivesFrames p k) Nothing knows (gives-frames p k) (k .stage) (omega (arith, s .stage-ok c)) (r .mapping .knowing c) in
       record {
         counts = record { stage = s .stage-ok c; held = s .held-ok c; place = s .place-ok c; busy = s .busy-ok c; seen = s .seen-ok c };
         own = record { named = s .own-ok c; there = λ u. s .own-ok c (h .own u) };
         found = record { named = s .found-ok c; there = λ u. s .found-ok c (h .found u) };
         victim = record { named = s .victim-ok c; there = λ u. s .victim-ok c (h .victim u) };
-        grant = λ i l. s .grant-ok c i (r .outline .grant-named c i l);
+        grant = λ i l. s .grant-ok c i (r .mapping .grant-named c i l);
         agree = λ i j l m e. granted-frame c i l ∙ ap (lookup p) e ∙ sym (granted-frame c j m);
       }
 
@@ -96,7 +100,7 @@ module _ (p : Pool) (r : Reached p) where
         pins = λ f _. r .ranges .pins-ok f;
         count = λ f _. r .ranges .count-ok f;
         entry = λ i _. r .ranges .entry-ok i;
-        apart = λ i j _ _. r .outline .pages-apart i j;
+        apart = λ i j _ _. r .mapping .pages-distinct i j;
         client = λ c _. client-ranged c;
       }
 

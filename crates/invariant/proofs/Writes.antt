@@ -1,4 +1,4 @@
--- Which lists a write leaves as they are: a `silent` one all that the slots, the frames' pages and pins, and the table are read from; and any write
+-- Which lists a write leaves as they are: a `countersOnly` one all that the slots, the frames' pages and pins, and the table are read from; and any write
 -- but that of an entry leaves the table, and so every look-up. Assumes nothing.
 use mathlib.Core.Path.{_≡_, refl}
 use mathlib.Core.Bool.{Bool, true, false}
@@ -13,15 +13,15 @@ use Rattle.pool.specs.declared.Move.{Move}
 use Rattle.pool.specs.declared.Write.{Write}
 use Rattle.pool.specs.declared.Write.the-variants.{Keep, PutSlot, PutPins, PutCount, TakeFrame, PutEntry, PutHand, PutFree}
 
-abbrev pub silent : Write → Bool
-silent Keep = true
-silent (PutSlot i f) = false
-silent (PutPins f x) = false
-silent (PutCount f x) = true
-silent (TakeFrame f g x y) = false
-silent (PutEntry i g f) = false
-silent (PutHand h) = true
-silent (PutFree x) = true
+abbrev pub countersOnly : Write → Bool
+countersOnly Keep = true
+countersOnly (PutSlot i f) = false
+countersOnly (PutPins f x) = false
+countersOnly (PutCount f x) = true
+countersOnly (TakeFrame f g x y) = false
+countersOnly (PutEntry i g f) = false
+countersOnly (PutHand h) = true
+countersOnly (PutFree x) = true
 
 abbrev pub keepsTable : Write → Bool
 keepsTable Keep = true
@@ -42,7 +42,7 @@ pub record Untouched (n : ℕ) (l : List ℕ) (w : Write) : Type 0 where
   pub entry-frames : entryFramesAfter n l w ≡ l
   pub table : T (keepsTable w)
 
-pub untouched : (n : ℕ) (l : List ℕ) (w : Write) → T (silent w) → Untouched n l w
+pub untouched : (n : ℕ) (l : List ℕ) (w : Write) → T (countersOnly w) → Untouched n l w
 unfolding slotsAfter pagesAfter pinsAfter entryPagesAfter entryFramesAfter
 untouched n l Keep t = record { slots = refl; pages = refl; pins = refl; entry-pages = refl; entry-frames = refl; table = tt }
 untouched n l (PutCount f x) t = record { slots = refl; pages = refl; pins = refl; entry-pages = refl; entry-frames = refl; table = tt }

@@ -24,30 +24,30 @@ use Rattle.pool.specs.declared.Pool.{Pool}
 use Rattle.laws.specs.Choices.{by-test, chosen, passed}
 use Rattle.laws.specs.Elements.{client-of-pool}
 use Rattle.invariant.proofs.Reached.{Reached}
-use Rattle.invariant.proofs.Edges.{Edge, on, found1, found18, lost2, lost22, pins2, pins19, gets3, gets21, takes, fills, swaps, gives-up}
+use Rattle.invariant.proofs.Edges.{Edge, moves-on, found1, found18, forgets2, forgets22, pins2, pins19, gets3, gets21, takes, fills, replaces, refuses}
 use Rattle.invariant.proofs.Edges.{drops, removes, admits, revives, evicts20, evicts23, begins, releases}
 use Rattle.invariant.proofs.Steps.{call-edge}
 use Rattle.invariant.proofs.Valid.{valid-reached}
-use Rattle.invariant.proofs.Calls.{call-moves, call-turned}
+use Rattle.invariant.proofs.Calls.{call-moves, call-turned-down}
 use Rattle.turns.specs.Turn.{seat, seated, still, turnedBy, turn}
 
 -- ---- no answer of a reached pool ends the run
 
 edge-goes-on : {p : Pool} {c : ℕ} {m : Move} → Edge p c m → endsRun (m .answer) ≡ false
 unfolding endsRun refusalOf both choose
-edge-goes-on (on _ _ _ _) = refl
+edge-goes-on (moves-on _ _ _ _) = refl
 edge-goes-on (found1 _ _) = refl
 edge-goes-on (found18 _ _) = refl
-edge-goes-on (lost2 _ _) = refl
-edge-goes-on (lost22 _ _) = refl
+edge-goes-on (forgets2 _ _) = refl
+edge-goes-on (forgets22 _ _) = refl
 edge-goes-on (pins2 _ _) = refl
 edge-goes-on (pins19 _ _) = refl
 edge-goes-on (gets3 _) = refl
 edge-goes-on (gets21 _) = refl
 edge-goes-on (takes _ _) = refl
 edge-goes-on (fills _ _) = refl
-edge-goes-on (swaps _ _) = refl
-edge-goes-on (gives-up _ _) = refl
+edge-goes-on (replaces _ _) = refl
+edge-goes-on (refuses _ _) = refl
 edge-goes-on (drops _ _) = refl
 edge-goes-on (removes _ _) = refl
 edge-goes-on (admits _ _ _) = refl
@@ -124,7 +124,7 @@ module _ (p : Pool) (call : Call) (r : Reached p) where
           }
       go (no e) (inl z) = absurd (e z)
       go (no e) (inr h) =
-          let turned = call-turned p call (turnedBy p call) the-refusal e in
+          let turned = call-turned-down p call (turnedBy p call) the-refusal e in
           record {
             pool = simp (keeps e, turned) (unchanged p _ (turnedBy p call) seat-in);
             answer = simp (keeps e, turned);

@@ -18,7 +18,7 @@ use Rattle.pool.specs.declared.Counted.the-variants.{Nothing}
 use Rattle.laws.specs.Choices.{by-test}
 use Rattle.calls.specs.declared.Stepped.{Stepped}
 use Rattle.guarantee.specs.Runs.{Event, events}
-use Rattle.guarantee.specs.Claims.{Point3, tallyOf, Below}
+use Rattle.guarantee.specs.Claims.{Point3, tallyOf, BelowLargest}
 use Rattle.guarantee.proofs.Guaranteed.{guarantee}
 use Rattle.tie.specs.Ties.{Code, Promised, Fits, AllFit, made, Played, played, Claim-tied, Claim-any-tally, Claim-code, Claim-lent, Tied}
 

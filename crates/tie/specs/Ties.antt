@@ -18,7 +18,7 @@ use Rattle.calls.specs.Tallied.{steppedOf}
 use Rattle.calls.specs.declared.Stepped.{Stepped}
 use Rattle.guarantee.specs.Runs.{Event, events}
 use Rattle.guarantee.specs.Sequential.{start}
-use Rattle.guarantee.specs.Claims.{Point3, tallyOf, Below}
+use Rattle.guarantee.specs.Claims.{Point3, tallyOf, BelowLargest}
 
 -- numbers that a u8 and a u32 can be
 abbrev pub Byte : ℕ → Type 0
@@ -106,7 +106,7 @@ Claim-lent =
     (code : Code) → Promised code → (s t c h : ℕ) → Byte s → Byte t → Byte c → Word h → code .setup s t c h .answer ≡ Done s
     → (calls : List Call) → AllFit calls
     → let end = played code (code .setup s t c h .pool) zeroTally calls in
-    Below (end .tally) → residents (end .pool) + end .tally .drops ≡ end .tally .admitted + end .tally .revived
+    BelowLargest (end .tally) → residents (end .pool) + end .tally .drops ≡ end .tally .admitted + end .tally .revived
 
 pub record Tied : Type 1 where
   pub tied : Claim-tied

@@ -26,25 +26,25 @@ use Rattle.pool.specs.declared.Call.the-variants.{Begin, Step}
 use Rattle.pool.specs.declared.Answer.the-variants.{Done, Granted}
 use Rattle.pool.specs.declared.Write.the-variants.{Keep}
 use Rattle.laws.specs.Choices.{by-test}
-use Rattle.invariant.proofs.Reached.{one, sumTo, filling, Leaves, Shape, Reached}
+use Rattle.invariant.proofs.Reached.{one, sumTo, filling, WillUnmap, Shape, Reached}
 use Rattle.invariant.proofs.After.{pins-kept, slot-kept}
 use Rattle.invariant.proofs.Writes.{keepsTable, lookup-kept}
-use Rattle.invariant.proofs.Searches.{live-named}
+use Rattle.invariant.proofs.Searches.{pins-named}
 use Rattle.invariant.proofs.Table.{suc-not, lookup-mapped}
-use Rattle.invariant.proofs.Sums.{sum-zero, sum-has, some-one}
+use Rattle.invariant.proofs.Sums.{sum-zero, sum-has, sum-some-test}
 use Rattle.invariant.proofs.Calls.{reached-calls}
 use Rattle.guarantee.specs.Runs.{events, At}
 use Rattle.guarantee.specs.Claims.{GrantedWithin, Claim-limits}
-use Rattle.guarantee.proofs.Start.{starts}
-use Rattle.guarantee.proofs.Turned.{down, by-move, went}
-use Rattle.guarantee.proofs.SoloSteps.{On, Goes, begun-is, begun-on, answer-is, onto, on-next, go1, go1-found, go2, go3, go4, go5, go6, go7, go8, go8-on}
-use Rattle.guarantee.proofs.SoloSteps.{go9, go18}
+use Rattle.guarantee.proofs.SetupDone.{setup-done}
+use Rattle.guarantee.proofs.TurnedDown.{turned, one-move, turned-or-move}
+use Rattle.guarantee.proofs.AloneSteps.{AloneAt, StepIs, begun-is, begun-alone, answer-is, after-step, alone-next, move1, move1-found, move2, move3}
+use Rattle.guarantee.proofs.AloneSteps.{move4, move5, move6, move7, move8, move8-next, move9, move18}
 
 -- ---- the pool after a step
 
-module _ {p : Pool} {b g i : ℕ} {m : Move} (on : On p b g i) (w : Goes p b m) where
+module _ {p : Pool} {b g i : ℕ} {m : Move} (on : AloneAt p b g i) (w : StepIs p b m) where
   pub next-is : (P : Pool → Client → Type 0) → P (apply p b m) (m .next) → P (callOf p (Step b) .pool) (client (callOf p (Step b) .pool) b)
-  next-is = onto w (on .reached) (on .here)
+  next-is = after-step w (on .reached) (on .here)
 
   pub absent-next : T (keepsTable (m .write)) → lookup p g ≡ none → lookup (callOf p (Step b) .pool) g ≡ none
   absent-next t a = next-is (λ q _. lookup q g ≡ none) (lookup-kept p b m t g ∙ a)
@@ -65,29 +65,29 @@ module _ (p : Pool) (b n : ℕ) where
 
 -- ---- a hit
 
-hit3 : (p : Pool) (b g : ℕ) → On p b g 3 → GrantedWithin p b 1
-hit3 p b g on = within-now p b 0 (client p b .found) (answer-is (go3 p b g on))
+hit3 : (p : Pool) (b g : ℕ) → AloneAt p b g 3 → GrantedWithin p b 1
+hit3 p b g on = within-now p b 0 (client p b .found) (answer-is (move3 p b g on))
 
-hit2 : (p : Pool) (b g : ℕ) → On p b g 2 → pins p (client p b .found) ≢ evicted → GrantedWithin p b 2
-hit2 p b g on z = within-next p b 1 (hit3 _ b g (on-next (go2 p b g on z) 3 on refl refl))
+hit2 : (p : Pool) (b g : ℕ) → AloneAt p b g 2 → pins p (client p b .found) ≢ evicted → GrantedWithin p b 2
+hit2 p b g on z = within-next p b 1 (hit3 _ b g (alone-next (move2 p b g on z) 3 on refl refl))
 
-hit1 : (p : Pool) (b g : ℕ) → On p b g 1 → lookup p g ≢ none → pins p (lookup p g) ≢ evicted → GrantedWithin p b 3
+hit1 : (p : Pool) (b g : ℕ) → AloneAt p b g 1 → lookup p g ≢ none → pins p (lookup p g) ≢ evicted → GrantedWithin p b 3
 unfolding pinsAfter
 hit1 p b g on n z =
-    let w = go1-found p b g on n in
-    within-next p b 2 (hit2 _ b g (on-next w 2 on refl refl) (next-is on w (λ q k. pins q (k .found) ≢ evicted)
+    let w = move1-found p b g on n in
+    within-next p b 2 (hit2 _ b g (alone-next w 2 on refl refl) (next-is on w (λ q k. pins q (k .found) ≢ evicted)
     (λ e. z (ap (λ (x : ℕ). pins p (lookup p x)) (sym (on .page)) ∙ (sym (pins-kept p b _ refl _) ∙ e)))))
 
 -- ---- an admission to an empty slot
 
-adm18 : (p : Pool) (b g : ℕ) → On p b g 18 → lookup p g ≡ none → GrantedWithin p b 1
-adm18 p b g on a = within-now p b 0 (client p b .own) (answer-is (go18 p b g on a))
+admission18 : (p : Pool) (b g : ℕ) → AloneAt p b g 18 → lookup p g ≡ none → GrantedWithin p b 1
+admission18 p b g on a = within-now p b 0 (client p b .own) (answer-is (move18 p b g on a))
 
-adm9 : (p : Pool) (b g : ℕ) → On p b g 9 → lookup p g ≡ none → GrantedWithin p b 2
-adm9 p b g on a = let w = go9 p b g on in within-next p b 1 (adm18 _ b g (on-next w 18 on refl refl) (absent-next on w tt a))
+admission9 : (p : Pool) (b g : ℕ) → AloneAt p b g 9 → lookup p g ≡ none → GrantedWithin p b 2
+admission9 p b g on a = let w = move9 p b g on in within-next p b 1 (admission18 _ b g (alone-next w 18 on refl refl) (absent-next on w tt a))
 
-fills : (p : Pool) (b g : ℕ) → On p b g 8 → lookup p g ≡ none → slot p (client p b .place) ≡ none → GrantedWithin p b 3
-fills p b g on a e = let w = go8 p b g on e in within-next p b 2 (adm9 _ b g (on-next w 9 on refl refl) (absent-next on w tt a))
+admission8-empty : (p : Pool) (b g : ℕ) → AloneAt p b g 8 → lookup p g ≡ none → slot p (client p b .place) ≡ none → GrantedWithin p b 3
+admission8-empty p b g on a e = let w = move8 p b g on e in within-next p b 2 (admission9 _ b g (alone-next w 9 on refl refl) (absent-next on w tt a))
 
 -- the slot after slot i
 pub around-is : (s i : ℕ) → i < s → ((suc i < s) × (around s i ≡ suc i)) ⊎ ((suc i ≡ s) × (around s i ≡ 0))
@@ -123,37 +123,37 @@ unfolding apply slotsAfter
 ahead-next p b m s e h =
     record { place = h .place; inside = h .inside; empty = slot-kept p b m (rw e refl) _ ∙ h .empty; far = h .far }
 
-adm8 : (d : ℕ) (p : Pool) (b g i : ℕ) → On p b g 8 → lookup p g ≡ none → Ahead p (client p b .place) i d → GrantedWithin p b (d + 3)
-adm8 zero p b g i on a h = fills p b g on a (go (h .far))
+admission8 : (d : ℕ) (p : Pool) (b g i : ℕ) → AloneAt p b g 8 → lookup p g ≡ none → Ahead p (client p b .place) i d → GrantedWithin p b (d + 3)
+admission8 zero p b g i on a h = admission8-empty p b g on a (go (h .far))
   where
     go : (client p b .place + 0 ≡ i) ⊎ (client p b .place + 0 ≡ i + p .size) → slot p (client p b .place) ≡ none
     go (inl x) = let q : client p b .place ≡ i = omega arith in rw q (h .empty)
     go (inr x) = absurd (omega (arith, h .place))
-adm8 (suc d) p b g i on a h =
-    let ih = adm8 d (callOf p (Step b) .pool) b g i in
+admission8 (suc d) p b g i on a h =
+    let ih = admission8 d (callOf p (Step b) .pool) b g i in
     elim (ℕ-discrete (slot p (client p b .place)) none) [
-      | yes e ↦ within-more p b (suc d + 3) 3 (omega arith) (fills p b g on a e)
+      | yes e ↦ within-more p b (suc d + 3) 3 (omega arith) (admission8-empty p b g on a e)
       | no e ↦
-          let w = go8-on p b g on e in
+          let w = move8-next p b g on e in
           within-more p b (suc d + 3) (suc (d + 3)) (omega arith) (within-next p b (d + 3)
-          (ih (on-next w 8 on refl refl) (absent-next on w tt a)
+          (ih (alone-next w 8 on refl refl) (absent-next on w tt a)
           (next-is on w (λ q k. Ahead q (k .place) i d) (ahead-next p b _ (on .reached .shape) refl (closer p _ i d h)))))
     ]
 
 -- some slot is empty where the empty slots are not none
 pub some-empty : (p : Pool) → sumTo (λ i. one (eqb (slot p i) none)) (p .size) ≢ 0 → (i : ℕ) × (i < p .size) × (slot p i ≡ none)
-some-empty p z = let r = some-one (λ i. eqb (slot p i) none) (p .size) z in (r .0, r .1, eqb-true _ none (r .2))
+some-empty p z = let r = sum-some-test (λ i. eqb (slot p i) none) (p .size) z in (r .0, r .1, eqb-true _ none (r .2))
 
-adm7 : (p : Pool) (b g n : ℕ) → p .size ≡ n → On p b g 7 → lookup p g ≡ none → GrantedWithin p b (n + 3)
+admission7 : (p : Pool) (b g n : ℕ) → p .size ≡ n → AloneAt p b g 7 → lookup p g ≡ none → GrantedWithin p b (n + 3)
 unfolding slotsAfter
-adm7 p b g n sz on a =
+admission7 p b g n sz on a =
     within-more p b (n + 3) (suc (far .0 + 3)) (omega (arith, far .1)) (within-next p b (far .0 + 3)
-    (adm8 (far .0) _ b g (e .0) (on-next w 8 on refl refl) (absent-next on w tt a)
+    (admission8 (far .0) _ b g (e .0) (alone-next w 8 on refl refl) (absent-next on w tt a)
     (next-is on w (λ q k. Ahead q (k .place) (e .0) (far .0))
     (ahead-next p b _ (on .reached .shape) refl (record { place = place; inside = e .1; empty = e .2; far = far .2 })))))
   where
-    w : Goes p b (works (withPlace (client p b) (p .hand % p .size)) 8 Keep)
-    w = go7 p b g on
+    w : StepIs p b (works (withPlace (client p b) (p .hand % p .size)) 8 Keep)
+    w = move7 p b g on
 
     j : ℕ
     j = p .hand % p .size
@@ -165,7 +165,7 @@ adm7 p b g n sz on a =
     e =
         some-empty p (λ z. omega (
           arith,
-          on .reached .calm .empties,
+          on .reached .evictions .empties,
           ap (λ (x : ℕ). one (filling x)) (on .stage),
           sum-has (λ c. one (filling (client p c .stage))) (clientCount p) b (on .here),
         ))
@@ -177,42 +177,43 @@ adm7 p b g n sz on a =
           | no l ↦ (e .0 - j, omega (arith, e .1), inl (omega arith))
         ]
 
-adm6 : (p : Pool) (b g n : ℕ) → p .size ≡ n → On p b g 6 → lookup p g ≡ none → p .free ≡ client p b .seen → GrantedWithin p b (n + 4)
+admission6 : (p : Pool) (b g n : ℕ) → p .size ≡ n → AloneAt p b g 6 → lookup p g ≡ none → p .free ≡ client p b .seen → GrantedWithin p b (n + 4)
 unfolding apply
-adm6 p b g n sz on a f =
-    let w = go6 p b g on f in
+admission6 p b g n sz on a f =
+    let w = move6 p b g on f in
     within-more p b (n + 4) (suc (n + 3)) (omega arith) (within-next p b (n + 3)
-    (adm7 _ b g n (next-is on w (λ q _. q .size ≡ n) sz) (on-next w 7 on refl refl) (absent-next on w tt a)))
+    (admission7 _ b g n (next-is on w (λ q _. q .size ≡ n) sz) (alone-next w 7 on refl refl) (absent-next on w tt a)))
 
-adm5 : (p : Pool) (b g n : ℕ) → p .size ≡ n → On p b g 5 → lookup p g ≡ none → p .free ≢ 0 → GrantedWithin p b (n + 5)
+admission5 : (p : Pool) (b g n : ℕ) → p .size ≡ n → AloneAt p b g 5 → lookup p g ≡ none → p .free ≢ 0 → GrantedWithin p b (n + 5)
 unfolding apply freeAfter
-adm5 p b g n sz on a f =
-    let w = go5 p b g on f in
+admission5 p b g n sz on a f =
+    let w = move5 p b g on f in
     within-more p b (n + 5) (suc (n + 4)) (omega arith) (within-next p b (n + 4)
-    (adm6 _ b g n (next-is on w (λ q _. q .size ≡ n) sz) (on-next w 6 on refl refl) (absent-next on w tt a) (next-is on w (λ q k. q .free ≡ k .seen) refl)))
+    (admission6 _ b g n (next-is on w (λ q _. q .size ≡ n) sz) (alone-next w 6 on refl refl) (absent-next on w tt a)
+    (next-is on w (λ q k. q .free ≡ k .seen) refl)))
 
-adm4 : (p : Pool) (b g n : ℕ) → p .size ≡ n → On p b g 4 → lookup p g ≡ none → p .free ≢ 0 → GrantedWithin p b (n + 6)
+admission4 : (p : Pool) (b g n : ℕ) → p .size ≡ n → AloneAt p b g 4 → lookup p g ≡ none → p .free ≢ 0 → GrantedWithin p b (n + 6)
 unfolding apply freeAfter
-adm4 p b g n sz on a f =
-    let w = go4 p b g on in
+admission4 p b g n sz on a f =
+    let w = move4 p b g on in
     within-more p b (n + 6) (suc (n + 5)) (omega arith) (within-next p b (n + 5)
-    (adm5 _ b g n (next-is on w (λ q _. q .size ≡ n) sz) (on-next w 5 on refl refl) (absent-next on w tt a) (next-is on w (λ q _. q .free ≢ 0) f)))
+    (admission5 _ b g n (next-is on w (λ q _. q .size ≡ n) sz) (alone-next w 5 on refl refl) (absent-next on w tt a) (next-is on w (λ q _. q .free ≢ 0) f)))
 
-adm1 : (p : Pool) (b g n : ℕ) → p .size ≡ n → On p b g 1 → lookup p g ≡ none → p .free ≢ 0 → GrantedWithin p b (n + 7)
+admission1 : (p : Pool) (b g n : ℕ) → p .size ≡ n → AloneAt p b g 1 → lookup p g ≡ none → p .free ≢ 0 → GrantedWithin p b (n + 7)
 unfolding apply freeAfter
-adm1 p b g n sz on a f =
-    let w = go1 p b g on a in
+admission1 p b g n sz on a f =
+    let w = move1 p b g on a in
     within-more p b (n + 7) (suc (n + 6)) (omega arith) (within-next p b (n + 6)
-    (adm4 _ b g n (next-is on w (λ q _. q .size ≡ n) sz) (on-next w 4 on refl refl) (absent-next on w tt a) (next-is on w (λ q _. q .free ≢ 0) f)))
+    (admission4 _ b g n (next-is on w (λ q _. q .size ≡ n) sz) (alone-next w 4 on refl refl) (absent-next on w tt a) (next-is on w (λ q _. q .free ≢ 0) f)))
 
 -- ---- from a pool where all rest
 
 module _ (p : Pool) (r : Reached p) (rest : (c : ℕ) → client p c .stage ≡ 0) where
   -- nothing evicted is in the table
-  pub no-ghost : (g : ℕ) → lookup p g ≢ none → pins p (lookup p g) ≢ evicted
-  no-ghost g z d = go (r .calm .ghosts (lookup p g) z (suc-not (lookup-mapped p (r .shape) (r .outline .entries-apart) g z)) d)
+  pub found-not-evicted : (g : ℕ) → lookup p g ≢ none → pins p (lookup p g) ≢ evicted
+  found-not-evicted g z d = go (r .evictions .evicted-mapped (lookup p g) z (suc-not (lookup-mapped p (r .shape) (r .mapping .entries-distinct) g z)) d)
     where
-      go : (c : ℕ) × Leaves p (client p c) (lookup p g) → ⊥
+      go : (c : ℕ) × WillUnmap p (client p c) (lookup p g) → ⊥
       go (c, (_, inl h)) = rw (rest c) at h
       go (c, (_, inr h)) = let q : _≡_ {A = ℕ} 0 15 = sym (rest c) ∙ h .0 in omega arith
 
@@ -221,19 +222,19 @@ module _ (p : Pool) (r : Reached p) (rest : (c : ℕ) → client p c .stage ≡ 
   unfolding resident
   resident-found g e =
       let live = eqb-false _ evicted (not-true _ e) in
-      (live-named p (r .shape) _ live, live)
+      (pins-named p (r .shape) _ live, live)
 
   absent-found : (g : ℕ) → resident p g ≡ false → lookup p g ≡ none
   unfolding resident
   absent-found g e =
-      elim (ℕ-discrete (lookup p g) none) [ yes q ↦ q | no z ↦ absurd (no-ghost g z (eqb-true _ evicted (not-false _ e))) ]
+      elim (ℕ-discrete (lookup p g) none) [ yes q ↦ q | no z ↦ absurd (found-not-evicted g z (eqb-true _ evicted (not-false _ e))) ]
 
   -- an empty slot is one that nobody has claimed
   free-some : (i : ℕ) → i < p .size → slot p i ≡ none → p .free ≢ 0
   free-some i h e z =
       omega (
         arith,
-        r .calm .empties,
+        r .evictions .empties,
         sum-has (λ i. one (eqb (slot p i) none)) (p .size) i h,
         ap (λ (x : ℕ). one (eqb x none)) e,
         sum-zero (λ c. one (filling (client p c .stage))) (clientCount p) (λ c _. ap (λ (x : ℕ). one (filling x)) (rest c)),
@@ -247,7 +248,7 @@ module _ (p : Pool) (r : Reached p) (rest : (c : ℕ) → client p c .stage ≡ 
     (λ e. let f = resident-found g e in
         hit1 _ b g on (begun-is p b g a (λ q. lookup q g ≢ none) (rw (lookup-kept p b m tt g) (f .0)))
         (begun-is p b g a (λ q. pins q (lookup q g) ≢ evicted) (rw (lookup-kept p b m tt g, pins-kept p b m refl (lookup p g)) (f .1)))),
-    (λ e i h s. adm1 _ b g n (begun-is p b g a (λ q. q .size ≡ n) sz) on
+    (λ e i h s. admission1 _ b g n (begun-is p b g a (λ q. q .size ≡ n) sz) on
         (begun-is p b g a (λ q. lookup q g ≡ none) (lookup-kept p b m tt g ∙ absent-found g e))
         (begun-is p b g a (λ q. q .free ≢ 0) (free-some i h s))),
   )
@@ -255,14 +256,14 @@ module _ (p : Pool) (r : Reached p) (rest : (c : ℕ) → client p c .stage ≡ 
       m : Move
       m = beginMove (client p b) g
 
-      on : On (callOf p (Begin b g) .pool) b g 1
-      on = begun-on p b g a r (λ c _. rest c)
+      on : AloneAt (callOf p (Begin b g) .pool) b g 1
+      on = begun-alone p b g a r (λ c _. rest c)
 
 -- ---- the claim
 
 size-call : (p : Pool) (x : Call) → callOf p x .pool .size ≡ p .size
 unfolding apply
-size-call p x = elim (went p x) [ down _ _ e ↦ ap (λ (o : Outcome). o .pool .size) e | by-move _ _ e ↦ ap (λ (o : Outcome). o .pool .size) e ]
+size-call p x = elim (turned-or-move p x) [ turned _ _ e ↦ ap (λ (o : Outcome). o .pool .size) e | one-move _ _ e ↦ ap (λ (o : Outcome). o .pool .size) e ]
 
 size-after : (p : Pool) (calls : List Call) → poolAfter p calls .size ≡ p .size
 unfolding poolAfter
@@ -271,7 +272,7 @@ size-after p (x ∷ calls) = size-after (callOf p x .pool) calls ∙ size-call p
 
 pub limits : Claim-limits
 limits s t c h e calls b g rest a =
-    let first = starts s t c h e in
+    let first = setup-done s t c h e in
     let size = ap (λ (p : Pool). p .size) (first .fresh-pool) in
     limits-from (poolAfter (setupOf s t c h .pool) calls) (reached-calls _ calls (first .reached)) rest s b g
     (size-after (setupOf s t c h .pool) calls ∙ size) a

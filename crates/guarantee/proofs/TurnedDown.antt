@@ -1,5 +1,5 @@
--- A call of any pool, a handed one too, is turned down and changes nothing, or is one move of its client (`went`). The moves that are refused are
--- refusal 15, which is claimed to be `refused15`, and stuck ones, which are answered by 8 and change nothing. Assumes nothing.
+-- A call of any pool, a handed one too, is turned down and changes nothing, or is one move of its client (`turned-or-move`). The moves that are refused
+-- are refusal 15, which is claimed to be `refused15`, and stuck ones, which are answered by 8 and change nothing. Assumes nothing.
 use mathlib.Core.Path.{_≡_, refl, sym, ap, _∙_}
 use mathlib.Core.Logic.{_≢_, _⊎_, inl, inr}
 use mathlib.Core.Bool.{not}
@@ -23,11 +23,11 @@ use Rattle.pool.specs.declared.Answer.{Answer}
 use Rattle.pool.specs.declared.Answer.the-variants.{Done, Working, Granted, Refused}
 use Rattle.laws.specs.Choices.{by-test}
 use Rattle.laws.specs.Scans.{both-true}
-use Rattle.invariant.proofs.Flags.{differ}
+use Rattle.invariant.proofs.StageTests.{differ}
 use Rattle.invariant.proofs.Allowed.{refusal-low}
-use Rattle.invariant.proofs.Calls.{did}
-use Rattle.guarantee.specs.Claims.{Claim-turned, Claim-refused}
-use Rattle.guarantee.proofs.Stages.{Fits, goes, grants, refuses, sticks, fits}
+use Rattle.invariant.proofs.Calls.{outcomeOf}
+use Rattle.guarantee.specs.Claims.{Claim-turned-down, Claim-refused}
+use Rattle.guarantee.proofs.Stages.{StageAnswer, goes, grants, refuses, sticks, stage-answer}
 
 -- ---- answers and calls of different kinds
 
@@ -62,39 +62,39 @@ same-stage e = ap (λ (k : Client). k .stage) e
 -- ---- a call is turned down, or is one move
 
 abbrev pub moved : Pool → Call → Outcome
-moved p x = did p (caller x) (moveOf p x)
+moved p x = outcomeOf p (caller x) (moveOf p x)
 
 -- by a check before its action, or by 8 after it
-abbrev Down : Pool → Call → ℕ → Type 0
-Down p x n = ((refusal p x ≡ n) × (n ≢ 0)) ⊎ (n ≡ 8)
+abbrev TurnedDownBy : Pool → Call → ℕ → Type 0
+TurnedDownBy p x n = ((refusal p x ≡ n) × (n ≢ 0)) ⊎ (n ≡ 8)
 
-pub data Went (p : Pool) (x : Call) (o : Outcome) : Type 0 where
-  down : (n : ℕ) → Down p x n → o ≡ turnedDown n p → Went p x o
-  by-move : refusal p x ≡ 0 → refusalOf (moveOf p x .answer) ≢ 8 → o ≡ moved p x → Went p x o
+pub data TurnedOrMove (p : Pool) (x : Call) (o : Outcome) : Type 0 where
+  turned : (n : ℕ) → TurnedDownBy p x n → o ≡ turnedDown n p → TurnedOrMove p x o
+  one-move : refusal p x ≡ 0 → refusalOf (moveOf p x .answer) ≢ 8 → o ≡ moved p x → TurnedOrMove p x o
 
-pub went : (p : Pool) (x : Call) → Went p x (callOf p x)
+pub turned-or-move : (p : Pool) (x : Call) → TurnedOrMove p x (callOf p x)
 unfolding callOf finished
-went p x =
-    by-test (Went p x)
-    (λ t. by-test (Went p x)
-    (λ v. by-move (eqb-true _ _ t) (eqb-false _ _ (not-true _ (both-true _ _ v .0))) refl)
-    (λ _. down 8 (inr refl) refl))
-    (λ t. down (refusal p x) (inl (refl, eqb-false _ _ t)) refl)
+turned-or-move p x =
+    by-test (TurnedOrMove p x)
+    (λ t. by-test (TurnedOrMove p x)
+    (λ v. one-move (eqb-true _ _ t) (eqb-false _ _ (not-true _ (both-true _ _ v .0))) refl)
+    (λ _. turned 8 (inr refl) refl))
+    (λ t. turned (refusal p x) (inl (refl, eqb-false _ _ t)) refl)
 
-pub down-by : (p : Pool) (x : Call) (n : ℕ) → Down p x n → n ≢ 15
-down-by p x n (inl r) z = omega (arith, refusal-low p x, r .0)
-down-by p x n (inr r) z = omega arith
+pub turned-down-not-15 : (p : Pool) (x : Call) (n : ℕ) → TurnedDownBy p x n → n ≢ 15
+turned-down-not-15 p x n (inl r) z = omega (arith, refusal-low p x, r .0)
+turned-down-not-15 p x n (inr r) z = omega arith
 
 -- ---- a move that is refused
 
 -- a release is done, or stuck
-pub data Released (k : Client) (g : ℕ) (m : Move) : Type 0 where
-  ends : m .answer ≡ Done g → m .next .stage ≡ k .stage → Released k g m
-  halts : m ≡ stuck k → Released k g m
+pub data DoneOrStuck (k : Client) (g : ℕ) (m : Move) : Type 0 where
+  is-done : m .answer ≡ Done g → m .next .stage ≡ k .stage → DoneOrStuck k g m
+  is-stuck : m ≡ stuck k → DoneOrStuck k g m
 
-pub released : (p : Pool) (c g : ℕ) → Released (client p c) g (moveOf p (Release c g))
+pub done-or-stuck : (p : Pool) (c g : ℕ) → DoneOrStuck (client p c) g (moveOf p (Release c g))
 unfolding moveOf releaseMove
-released p c g = by-test (Released (client p c) g) (λ _. halts refl) (λ _. ends refl refl)
+done-or-stuck p c g = by-test (DoneOrStuck (client p c) g) (λ _. is-stuck refl) (λ _. is-done refl refl)
 
 abbrev RefusedBy : Pool → Call → ℕ → Type 0
 RefusedBy p x n = (n ≡ 8) ⊎ ((c : ℕ) × (x ≡ Step c) × (moveOf p x ≡ refused15 (client p c)))
@@ -102,41 +102,41 @@ RefusedBy p x n = (n ≡ 8) ⊎ ((c : ℕ) × (x ≡ Step c) × (moveOf p x ≡ 
 refused-by : (p : Pool) (x : Call) (n : ℕ) → moveOf p x .answer ≡ Refused n → RefusedBy p x n
 unfolding moveOf refusalOf
 refused-by p (Begin c g) n a = other-answer a tt
-refused-by p (Step c) n a = go (fits p (client p c))
+refused-by p (Step c) n a = go (stage-answer p (client p c))
   where
-    go : Fits (client p c) (moveOf p (Step c)) → RefusedBy p (Step c) n
+    go : StageAnswer (client p c) (moveOf p (Step c)) → RefusedBy p (Step c) n
     go (goes j _ e _) = other-answer (sym e ∙ a) tt
     go (grants f _ _ e _) = other-answer (sym e ∙ a) tt
     go (refuses e) = inr (c, refl, e)
     go (sticks e) = inl (ap refusalOf (sym a ∙ ap (λ (m : Move). m .answer) e))
-refused-by p (Release c g) n a = go (released p c g)
+refused-by p (Release c g) n a = go (done-or-stuck p c g)
   where
-    go : Released (client p c) g (moveOf p (Release c g)) → RefusedBy p (Release c g) n
-    go (ends e _) = other-answer (sym e ∙ a) tt
-    go (halts e) = inl (ap refusalOf (sym a ∙ ap (λ (m : Move). m .answer) e))
+    go : DoneOrStuck (client p c) g (moveOf p (Release c g)) → RefusedBy p (Release c g) n
+    go (is-done e _) = other-answer (sym e ∙ a) tt
+    go (is-stuck e) = inl (ap refusalOf (sym a ∙ ap (λ (m : Move). m .answer) e))
 
 -- ---- the claims
 
-pub turned : Claim-turned
+pub turned-down : Claim-turned-down
 unfolding refusalOf
-turned p x n a z = go (went p x)
+turned-down p x n a z = go (turned-or-move p x)
   where
-    go : Went p x (callOf p x) → (callOf p x .pool ≡ p) × (callOf p x .counted ≡ Nothing)
-    go (down m _ e) = (same-pool e, ap (λ (o : Outcome). o .counted) e)
-    go (by-move _ e8 e) =
+    go : TurnedOrMove p x (callOf p x) → (callOf p x .pool ≡ p) × (callOf p x .counted ≡ Nothing)
+    go (turned m _ e) = (same-pool e, ap (λ (o : Outcome). o .counted) e)
+    go (one-move _ e8 e) =
         let r : moveOf p x .answer ≡ Refused n = sym (same-answer e) ∙ a in
         absurd (elim (refused-by p x n r) [ inl q ↦ e8 (ap refusalOf r ∙ q) | inr w ↦ z (ap refusalOf (sym r ∙ ap (λ (m : Move). m .answer) (w .2))) ])
 
 pub refused : Claim-refused
 unfolding refusalOf caller
-refused p x a = go (went p x)
+refused p x a = go (turned-or-move p x)
   where
     Goal : Type 0
     Goal = (c : ℕ) × (x ≡ Step c) × (let m = refused15 (client p c) in (callOf p x .pool ≡ apply p c m) × (callOf p x .counted ≡ m .counted))
 
-    go : Went p x (callOf p x) → Goal
-    go (down m w e) = absurd (down-by p x m w (ap refusalOf (sym (same-answer e) ∙ a)))
-    go (by-move _ _ e) =
+    go : TurnedOrMove p x (callOf p x) → Goal
+    go (turned m w e) = absurd (turned-down-not-15 p x m w (ap refusalOf (sym (same-answer e) ∙ a)))
+    go (one-move _ _ e) =
         elim (refused-by p x 15 (sym (same-answer e) ∙ a)) [
           | inl q ↦ absurd (omega arith)
           | inr w ↦

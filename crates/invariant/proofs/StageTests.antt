@@ -8,7 +8,7 @@ use native.Mathlib.Omega.{arith}
 use native.Mathlib.Decide.{ℕ-discrete}
 use lib.Dec.{T, eqb, leb}
 use borrow.Author.Tests.{eqb-false, leb-true}
-use Rattle.invariant.proofs.Reached.{unplaced, ownless, foundless, victimless, pinsFound, leaving, filling, hunting}
+use Rattle.invariant.proofs.Reached.{unplaced, ownless, foundless, victimless, pinsFound, unmapping, filling, examining}
 
 -- ---- what a test says
 
@@ -54,15 +54,15 @@ pub imp-mp : (a b : Bool) → T (imp a b) → T a → T b
 imp-mp true b h t = h
 imp-mp false b h t = absurd t
 
-abbrev pub alike : Bool → Bool → Bool
-alike true b = b
-alike false b = not b
+abbrev pub iff : Bool → Bool → Bool
+iff true b = b
+iff false b = not b
 
-pub alike-same : (a b : Bool) → T (alike a b) → a ≡ b
-alike-same true true h = refl
-alike-same true false h = absurd h
-alike-same false true h = absurd h
-alike-same false false h = refl
+pub iff-same : (a b : Bool) → T (iff a b) → a ≡ b
+iff-same true true h = refl
+iff-same true false h = absurd h
+iff-same false true h = absurd h
+iff-same false false h = refl
 
 -- ---- from stage i to stage j
 
@@ -84,14 +84,14 @@ pub record Onward (i j : ℕ) : Type 0 where
 abbrev pub onward : ℕ → ℕ → Bool
 onward i j =
     imp (unplaced j) (unplaced i) && (imp (ownless j) (ownless i) && (imp (foundless j) (foundless i)
-    && (alike (pinsFound j) (pinsFound i) && (not (pinsOrDrops i j) && (leb 1 j && (leb j 23 && not (eqb i 0)))))))
+    && (iff (pinsFound j) (pinsFound i) && (not (pinsOrDrops i j) && (leb 1 j && (leb j 23 && not (eqb i 0)))))))
 
 pub onward-means : (i j : ℕ) → T (onward i j) → Onward i j
 onward-means i j t =
     let a = and-parts (imp (unplaced j) (unplaced i)) _ t in
     let b = and-parts (imp (ownless j) (ownless i)) _ (a .1) in
     let d = and-parts (imp (foundless j) (foundless i)) _ (b .1) in
-    let f = and-parts (alike (pinsFound j) (pinsFound i)) _ (d .1) in
+    let f = and-parts (iff (pinsFound j) (pinsFound i)) _ (d .1) in
     let s = and-parts (not (pinsOrDrops i j)) _ (f .1) in
     let l = and-parts (leb 1 j) _ (s .1) in
     let g = and-parts (leb j 23) (not (eqb i 0)) (l .1) in
@@ -99,7 +99,7 @@ onward-means i j t =
       from-unplaced = a .0;
       from-ownless = b .0;
       from-foundless = d .0;
-      pins-alike = alike-same (pinsFound j) (pinsFound i) (f .0);
+      pins-alike = iff-same (pinsFound j) (pinsFound i) (f .0);
       plain-step = s .0;
       starts = at-most 1 j (l .0);
       stage-ok = at-most j 23 (g .0);
@@ -107,40 +107,40 @@ onward-means i j t =
     }
 
 -- Besides, it keeps its victim and its place, and goes on to fill a slot if it did.
-pub record Plainly (i j : ℕ) : Type 0 where
+pub record KeepsVictim (i j : ℕ) : Type 0 where
   pub from-victimless : T (imp (victimless j) (victimless i))
-  pub from-hunting : T (imp (hunting j) (hunting i))
+  pub from-examining : T (imp (examining j) (examining i))
   pub fills-alike : filling j ≡ filling i
   pub not-six : j ≢ 6
 
-abbrev pub plainly : ℕ → ℕ → Bool
-plainly i j = imp (victimless j) (victimless i) && (imp (hunting j) (hunting i) && (alike (filling j) (filling i) && not (eqb j 6)))
+abbrev pub keepsVictim : ℕ → ℕ → Bool
+keepsVictim i j = imp (victimless j) (victimless i) && (imp (examining j) (examining i) && (iff (filling j) (filling i) && not (eqb j 6)))
 
-pub plainly-means : (i j : ℕ) → T (plainly i j) → Plainly i j
-plainly-means i j t =
+pub keeps-victim-means : (i j : ℕ) → T (keepsVictim i j) → KeepsVictim i j
+keeps-victim-means i j t =
     let a = and-parts (imp (victimless j) (victimless i)) _ t in
-    let b = and-parts (imp (hunting j) (hunting i)) _ (a .1) in
-    let d = and-parts (alike (filling j) (filling i)) (not (eqb j 6)) (b .1) in
-    record { from-victimless = a .0; from-hunting = b .0; fills-alike = alike-same (filling j) (filling i) (d .0); not-six = differ j 6 (d .1) }
+    let b = and-parts (imp (examining j) (examining i)) _ (a .1) in
+    let d = and-parts (iff (filling j) (filling i)) (not (eqb j 6)) (b .1) in
+    record { from-victimless = a .0; from-examining = b .0; fills-alike = iff-same (filling j) (filling i) (d .0); not-six = differ j 6 (d .1) }
 
--- No frame is left behind at stage i: it is none of 15, 16, 17.
-abbrev pub leavesNone : ℕ → Bool
-leavesNone i = not (leaving i || eqb i 15)
+-- No entry is to be removed at stage i: it is none of 15, 16, 17.
+abbrev pub unmapsNone : ℕ → Bool
+unmapsNone i = not (unmapping i || eqb i 15)
 
-pub leaves-none : (i : ℕ) → T (leavesNone i) → (T (leaving i) → ⊥) × (i ≢ 15)
-leaves-none i t = let a = or-parts (leaving i) (eqb i 15) t in (T-not (leaving i) (a .0), differ i 15 (a .1))
+pub unmaps-none : (i : ℕ) → T (unmapsNone i) → (T (unmapping i) → ⊥) × (i ≢ 15)
+unmaps-none i t = let a = or-parts (unmapping i) (eqb i 15) t in (T-not (unmapping i) (a .0), differ i 15 (a .1))
 
 -- a stage of the sweep at which a busy visit may end it
-pub record Visits (i : ℕ) : Type 0 where
+pub record MayRefuse (i : ℕ) : Type 0 where
   pub is-unplaced : T (unplaced i)
   pub no-pin : pinsFound i ≡ false
   pub no-fill : filling i ≡ false
-  pub no-leave : T (leavesNone i)
+  pub no-unmap : T (unmapsNone i)
 
--- ---- the hunt
+-- ---- stages 12 to 15
 
-pub hunt-cases : (s : ℕ) → T (hunting s) → (s ≡ 12) ⊎ ((s ≡ 13) ⊎ ((s ≡ 14) ⊎ (s ≡ 15)))
-hunt-cases s h = go (ℕ-discrete s 12) (ℕ-discrete s 13) (ℕ-discrete s 14)
+pub examining-cases : (s : ℕ) → T (examining s) → (s ≡ 12) ⊎ ((s ≡ 13) ⊎ ((s ≡ 14) ⊎ (s ≡ 15)))
+examining-cases s h = go (ℕ-discrete s 12) (ℕ-discrete s 13) (ℕ-discrete s 14)
   where
     ends : (12 ≤ s) × (s ≤ 15)
     ends = let a = and-parts (leb 12 s) (leb s 15) h in (at-most 12 s (a .0), at-most s 15 (a .1))
@@ -151,8 +151,8 @@ hunt-cases s h = go (ℕ-discrete s 12) (ℕ-discrete s 13) (ℕ-discrete s 14)
     go (no _) (no _) (yes e) = inr (inr (inl e))
     go (no x) (no y) (no z) = inr (inr (inr (omega (arith, ends .0, ends .1))))
 
-pub hunt-unplaced : (s : ℕ) → T (hunting s) → T (unplaced s)
-hunt-unplaced s h = go (hunt-cases s h)
+pub examining-unplaced : (s : ℕ) → T (examining s) → T (unplaced s)
+examining-unplaced s h = go (examining-cases s h)
   where
     go : (s ≡ 12) ⊎ ((s ≡ 13) ⊎ ((s ≡ 14) ⊎ (s ≡ 15))) → T (unplaced s)
     go (inl e) = rw e tt

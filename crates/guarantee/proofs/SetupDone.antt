@@ -12,13 +12,13 @@ use Rattle.laws.specs.Choices.{by-test}
 use Rattle.invariant.proofs.Reached.{Reached}
 use Rattle.invariant.proofs.Setup.{reached-setup}
 
-pub record Starts (s t c h : ℕ) (p : Pool) : Type 0 where
+pub record SetupDone (s t c h : ℕ) (p : Pool) : Type 0 where
   pub ok : numbersOk s t c ≡ true
   pub fresh-pool : p ≡ fresh s t c h
   pub reached : Reached p
 
-pub starts : (s t c h : ℕ) → setupOf s t c h .answer ≡ Done s → Starts s t c h (setupOf s t c h .pool)
+pub setup-done : (s t c h : ℕ) → setupOf s t c h .answer ≡ Done s → SetupDone s t c h (setupOf s t c h .pool)
 unfolding setupOf
-starts s t c h =
-    by-test (λ (o : Outcome). o .answer ≡ Done s → Starts s t c h (o .pool))
+setup-done s t c h =
+    by-test (λ (o : Outcome). o .answer ≡ Done s → SetupDone s t c h (o .pool))
     (λ ok _. record { ok = ok; fresh-pool = refl; reached = reached-setup s t c h ok }) (λ _ e. let z : _≡_ {A = ℕ} 0 1 = cc in absurd (omega arith))

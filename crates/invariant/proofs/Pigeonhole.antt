@@ -8,7 +8,7 @@ use native.Mathlib.Decide.{ℕ-discrete, decLt}
 use lib.Dec.{eqb, ltb}
 use borrow.Author.Tests.{eq-eqb, ne-eqb, lt-ltb, le-ltb}
 use Rattle.invariant.proofs.Reached.{one, sumTo}
-use Rattle.invariant.proofs.Sums.{one-least, sum-same, sum-zero, sum-has, sum-add, sum-least, sum-gap}
+use Rattle.invariant.proofs.Sums.{one-at-most, sum-same, sum-zero, sum-has, sum-add, sum-at-most, sum-gap}
 
 -- of the first n numbers that g gives: how many are below b, and how many are f
 unfoldable pub below : (ℕ → ℕ) → ℕ → ℕ → ℕ
@@ -46,10 +46,10 @@ module _ (g : ℕ → ℕ) (n : ℕ) where
   equal-none f z = sum-zero _ n (λ i h. ap one (ne-eqb _ _ (z i h)))
 
 -- no two places have the number
-pub equal-least : (g : ℕ → ℕ) (n f : ℕ) → ((i j : ℕ) → i < n → j < n → g i ≡ f → g j ≡ f → i ≡ j) → equal g n f ≤ 1
+pub equal-at-most : (g : ℕ → ℕ) (n f : ℕ) → ((i j : ℕ) → i < n → j < n → g i ≡ f → g j ≡ f → i ≡ j) → equal g n f ≤ 1
 unfolding equal sumTo
-equal-least g zero f apart = omega arith
-equal-least g (suc n) f apart = go (ℕ-discrete (g n) f) (equal-least g n f (λ i j a b. apart i j (omega arith) (omega arith)))
+equal-at-most g zero f apart = omega arith
+equal-at-most g (suc n) f apart = go (ℕ-discrete (g n) f) (equal-at-most g n f (λ i j a b. apart i j (omega arith) (omega arith)))
   where
     go : Dec (g n ≡ f) → equal g n f ≤ 1 → equal g n f + one (eqb (g n) f) ≤ 1
     go (yes e) ih =
@@ -57,15 +57,15 @@ equal-least g (suc n) f apart = go (ℕ-discrete (g n) f) (equal-least g n f (λ
         omega (arith, ap one (eq-eqb (g n) f e))
     go (no e) ih = omega (arith, ap one (ne-eqb (g n) f e))
 
-pub below-least : (g : ℕ → ℕ) (n b : ℕ) → below g n b ≤ n
+pub below-at-most : (g : ℕ → ℕ) (n b : ℕ) → below g n b ≤ n
 unfolding below
-below-least g n b = omega (arith, sum-least (λ i. one (ltb (g i) b)) n 1 (λ i _. one-least (ltb (g i) b)))
+below-at-most g n b = omega (arith, sum-at-most (λ i. one (ltb (g i) b)) n 1 (λ i _. one-at-most (ltb (g i) b)))
 
 -- one of the places has a number that is not below b
 pub below-gap : (g : ℕ → ℕ) (n b i : ℕ) → i < n → b ≤ g i → below g n b + 1 ≤ n
 unfolding below
 below-gap g n b i h l =
-    omega (arith, sum-gap (λ i. one (ltb (g i) b)) n 1 i 1 h (λ i _. one-least (ltb (g i) b)) (omega (arith, ap one (le-ltb (g i) b l))))
+    omega (arith, sum-gap (λ i. one (ltb (g i) b)) n 1 i 1 h (λ i _. one-at-most (ltb (g i) b)) (omega (arith, ap one (le-ltb (g i) b l))))
 
 pub below-full : (g : ℕ → ℕ) (n b : ℕ) → ((i : ℕ) → i < n → g i < b) → below g n b ≡ n
 unfolding below sumTo

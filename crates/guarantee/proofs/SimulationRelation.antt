@@ -1,7 +1,8 @@
--- The sequential pool that goes with a pool. Its place i shows slot i: the page of the slot's frame with that frame, if the table maps the page
--- there and the frame is not evicted. Its clients stand where the pool's stand. A client's grants are its open ones, and its wanted page once
--- more where that is pinned and not answered yet: at 3, 20 and 21. A release moves the last grant into the freed place while `without` leaves
--- the others in order, so `Mirrors` compares how often each page stands in a list of grants, and not the lists. Assumes nothing.
+-- The simulation relation between a pool and a sequential pool, and a pool's view, which is one sequential pool that it relates. Slot i of the sequential
+-- pool shows the pool's slot i: the page of the slot's frame with that frame, if the table maps the page there and the frame is not evicted. The clients
+-- stand where the pool's stand. A client's grants are its open ones, and its wanted page once more where that is pinned and not answered yet: at 3, 20 and
+-- 21. A release moves the last grant into the freed place while `without` leaves the others in order, so the relation compares how often each page stands
+-- in a list of grants, and not the lists. Assumes nothing.
 use mathlib.Core.Path.{_≡_, refl, sym, ap, _∙_}
 use mathlib.Core.Logic.{_≢_}
 use mathlib.Core.Bool.{Bool, true, false, _&&_, _||_}
@@ -22,50 +23,50 @@ use Rattle.invariant.proofs.Reached.{one, sumTo, mapped, pinsFound, Shape}
 use Rattle.invariant.proofs.After.{slot-past, client-past}
 use Rattle.invariant.proofs.Searches.{none-evicted}
 use Rattle.invariant.proofs.Grants.{grantsOf}
-use Rattle.guarantee.specs.Sequential.{Place, empty, holds, Taker, Sequential, place, resting, taker, member, without}
+use Rattle.guarantee.specs.Sequential.{SeqSlot, empty, stores, SeqClient, Sequential, seqSlot, seqResting, seqClient, member, without}
 
--- ---- places
+-- ---- slots
 
--- a frame and its entry, one more than the page or 0, as a place
-unfoldable pub shown : ℕ → ℕ → Place
-shown f zero = empty
-shown f (suc g) = holds g f
+-- a frame and its entry, one more than the page or 0, as a slot
+unfoldable pub viewEntry : ℕ → ℕ → SeqSlot
+viewEntry f zero = empty
+viewEntry f (suc g) = stores g f
 
-unfoldable pub seen : Pool → ℕ → Place
-seen p f = choose (eqb (pins p f) evicted) empty (shown f (mapped p f))
+unfoldable pub viewFrame : Pool → ℕ → SeqSlot
+viewFrame p f = choose (eqb (pins p f) evicted) empty (viewEntry f (mapped p f))
 
 module _ (p : Pool) (f : ℕ) where
-  pub seen-evicted : pins p f ≡ evicted → seen p f ≡ empty
-  unfolding seen
-  seen-evicted e = chosen _ _ _ (eq-eqb (pins p f) evicted e)
+  pub view-evicted : pins p f ≡ evicted → viewFrame p f ≡ empty
+  unfolding viewFrame
+  view-evicted e = chosen _ _ _ (eq-eqb (pins p f) evicted e)
 
-  pub seen-unmapped : mapped p f ≡ 0 → seen p f ≡ empty
-  unfolding seen shown
-  seen-unmapped e = by-test (λ (x : Place). x ≡ empty) (λ _. refl) (λ _. rw e refl)
+  pub view-unmapped : mapped p f ≡ 0 → viewFrame p f ≡ empty
+  unfolding viewFrame viewEntry
+  view-unmapped e = by-test (λ (x : SeqSlot). x ≡ empty) (λ _. refl) (λ _. rw e refl)
 
-  pub seen-full : {g : ℕ} → pins p f ≢ evicted → mapped p f ≡ suc g → seen p f ≡ holds g f
-  unfolding seen shown
-  seen-full z e = passed _ _ _ (ne-eqb (pins p f) evicted z) ∙ rw e refl
+  pub view-mapped : {g : ℕ} → pins p f ≢ evicted → mapped p f ≡ suc g → viewFrame p f ≡ stores g f
+  unfolding viewFrame viewEntry
+  view-mapped z e = passed _ _ _ (ne-eqb (pins p f) evicted z) ∙ rw e refl
 
-  -- a place that holds a page shows a resident frame
-  pub record Shows (g h : ℕ) : Type 0 where
-    pub live : pins p f ≢ evicted
+  -- a slot that stores a page shows a resident frame
+  pub record ResidentFrame (g h : ℕ) : Type 0 where
+    pub not-evicted : pins p f ≢ evicted
     pub entry : mapped p f ≡ suc g
     pub frame : f ≡ h
 
-  pub seen-shows : {g h : ℕ} → seen p f ≡ holds g h → Shows g h
-  unfolding seen shown choose
-  seen-shows {g} {h} e = go (eqb (pins p f) evicted) (mapped p f) refl refl e
+  pub view-resident : {g h : ℕ} → viewFrame p f ≡ stores g h → ResidentFrame g h
+  unfolding viewFrame viewEntry choose
+  view-resident {g} {h} e = go (eqb (pins p f) evicted) (mapped p f) refl refl e
     where
-      go : (t : Bool) (n : ℕ) → eqb (pins p f) evicted ≡ t → mapped p f ≡ n → choose t empty (shown f n) ≡ holds g h → Shows g h
+      go : (t : Bool) (n : ℕ) → eqb (pins p f) evicted ≡ t → mapped p f ≡ n → choose t empty (viewEntry f n) ≡ stores g h → ResidentFrame g h
       go true n a b e = let z : _≡_ {A = ℕ} 0 1 = cc in absurd (omega arith)
       go false zero a b e = let z : _≡_ {A = ℕ} 0 1 = cc in absurd (omega arith)
-      go false (suc n) a b e = record { live = eqb-false (pins p f) evicted a; entry = cc; frame = cc }
+      go false (suc n) a b e = record { not-evicted = eqb-false (pins p f) evicted a; entry = cc; frame = cc }
 
 -- a frame that is mapped as it was, and evicted as it was
-pub seen-same : (p q : Pool) (f : ℕ) → eqb (pins q f) evicted ≡ eqb (pins p f) evicted → mapped q f ≡ mapped p f → seen q f ≡ seen p f
-unfolding seen
-seen-same p q f a b = rw (a, b) refl
+pub view-same : (p q : Pool) (f : ℕ) → eqb (pins q f) evicted ≡ eqb (pins p f) evicted → mapped q f ≡ mapped p f → viewFrame q f ≡ viewFrame p f
+unfolding viewFrame
+view-same p q f a b = rw (a, b) refl
 
 -- ---- grants
 
@@ -113,18 +114,18 @@ without-length g (x ∷ xs) z = go (eqb x g) refl (without-length g xs)
     go true e ih = omega arith
     go false e ih = omega (arith, ih (λ w. z (omega (arith, ap one e))))
 
--- A client and its like in the sequential pool; x says how many open grants the client has on each page.
-pub record Taken (k : Client) (x : ℕ → ℕ) (t : Taker) : Type 0 where
+-- A client and its client of the sequential pool; x says how many open grants the client has on each page.
+pub record ClientRelation (k : Client) (x : ℕ → ℕ) (t : SeqClient) : Type 0 where
   pub stage : t .stage ≡ k .stage
   pub wants : k .stage ≢ 0 → t .wants ≡ k .page
   pub many : length (t .grants) ≡ k .held + one (pinsFound (k .stage))
   pub grants : (g : ℕ) → times g (t .grants) ≡ x g + one (pinsFound (k .stage) && eqb (k .page) g)
 
-pub taken-as : {k : Client} {x y : ℕ → ℕ} {t : Taker} → ((g : ℕ) → y g ≡ x g) → Taken k x t → Taken k y t
-taken-as e h = record { stage = h .stage; wants = h .wants; many = h .many; grants = λ g. rw (e g) (h .grants g) }
+pub client-relation-as : {k : Client} {x y : ℕ → ℕ} {t : SeqClient} → ((g : ℕ) → y g ≡ x g) → ClientRelation k x t → ClientRelation k y t
+client-relation-as e h = record { stage = h .stage; wants = h .wants; many = h .many; grants = λ g. rw (e g) (h .grants g) }
 
 -- where no page is pinned for it, its grants are the open ones
-module _ {k : Client} {x : ℕ → ℕ} {t : Taker} (old : Taken k x t) (e : pinsFound (k .stage) ≡ false) where
+module _ {k : Client} {x : ℕ → ℕ} {t : SeqClient} (old : ClientRelation k x t) (e : pinsFound (k .stage) ≡ false) where
   pub open-many : length (t .grants) ≡ k .held
   open-many = old .many ∙ rw e (omega arith)
 
@@ -133,11 +134,11 @@ module _ {k : Client} {x : ℕ → ℕ} {t : Taker} (old : Taken k x t) (e : pin
 
 -- ---- the two pools
 
-pub record Mirrors (p : Pool) (q : Sequential) : Type 0 where
-  pub size : length (q .places) ≡ p .size
-  pub places : (i : ℕ) → place q i ≡ seen p (slot p i)
-  pub count : length (q .takers) ≡ clientCount p
-  pub takers : (c : ℕ) → Taken (client p c) (grantsOf p c) (taker q c)
+pub record SimulationRelation (p : Pool) (q : Sequential) : Type 0 where
+  pub size : length (q .slots) ≡ p .size
+  pub slots : (i : ℕ) → seqSlot q i ≡ viewFrame p (slot p i)
+  pub count : length (q .clients) ≡ clientCount p
+  pub clients : (c : ℕ) → ClientRelation (client p c) (grantsOf p c) (seqClient q c)
 
 -- ---- one such sequential pool
 
@@ -150,8 +151,8 @@ unfoldable pub downFrom : (ℕ → ℕ) → ℕ → List ℕ
 downFrom f zero = []
 downFrom f (suc n) = f n ∷ downFrom f n
 
-unfoldable pub viewTaker : Client → List ℕ → Taker
-viewTaker k grants =
+unfoldable pub viewClient : Client → List ℕ → SeqClient
+viewClient k grants =
     record {
       stage = k .stage;
       wants = choose (eqb (k .stage) 0) 0 (k .page);
@@ -161,8 +162,8 @@ viewTaker k grants =
 unfoldable pub view : Pool → Sequential
 view p =
     record {
-      places = upTo (λ i. seen p (slot p i)) (p .size);
-      takers = upTo (λ c. viewTaker (client p c) (downFrom (grantPage p c) (client p c .held))) (clientCount p);
+      slots = upTo (λ i. viewFrame p (slot p i)) (p .size);
+      clients = upTo (λ c. viewClient (client p c) (downFrom (grantPage p c) (client p c .held))) (clientCount p);
     }
 
 module _ {A : Type 0} where
@@ -198,9 +199,9 @@ down-length f (suc n) = ap suc (down-length f n)
 one-and : (a b : Bool) → a ≡ false → one (a && b) ≡ 0
 one-and a b e = rw e refl
 
-view-taken : (k : Client) (l : List ℕ) → length l ≡ k .held → Taken k (λ g. times g l) (viewTaker k l)
-unfolding viewTaker times
-view-taken k l n =
+view-client-related : (k : Client) (l : List ℕ) → length l ≡ k .held → ClientRelation k (λ g. times g l) (viewClient k l)
+unfolding viewClient times
+view-client-related k l n =
     record {
       stage = refl;
       wants = λ z. passed _ _ _ (ne-eqb (k .stage) 0 z);
@@ -210,25 +211,25 @@ view-taken k l n =
           (λ e. rw e refl) (λ e. omega (arith, one-and (pinsFound (k .stage)) (eqb (k .page) g) e));
     }
 
-pub mirrors-view : (p : Pool) → Shape p → Mirrors p (view p)
-unfolding view grantsOf viewTaker choose downFrom
-mirrors-view p s =
+pub view-related : (p : Pool) → Shape p → SimulationRelation p (view p)
+unfolding view grantsOf viewClient choose downFrom
+view-related p s =
     record {
       size = upTo-length _ (p .size);
-      places =
-          upTo-at (λ i. seen p (slot p i)) (p .size) empty
-          (λ i h. ap (seen p) (slot-past p i h) ∙ seen-evicted p none (none-evicted p s));
+      slots =
+          upTo-at (λ i. viewFrame p (slot p i)) (p .size) empty
+          (λ i h. ap (viewFrame p) (slot-past p i h) ∙ view-evicted p none (none-evicted p s));
       count = upTo-length _ (clientCount p);
-      takers =
-          λ c. rw (upTo-at taken (clientCount p) (resting []) past c)
-          (taken-as (λ g. sym (down-times (grantPage p c) _ g)) (view-taken (client p c) (grants c) (down-length (grantPage p c) _)));
+      clients =
+          λ c. rw (upTo-at viewed (clientCount p) (seqResting []) past c)
+          (client-relation-as (λ g. sym (down-times (grantPage p c) _ g)) (view-client-related (client p c) (grants c) (down-length (grantPage p c) _)));
     }
   where
     grants : ℕ → List ℕ
     grants c = downFrom (grantPage p c) (client p c .held)
 
-    taken : ℕ → Taker
-    taken c = viewTaker (client p c) (grants c)
+    viewed : ℕ → SeqClient
+    viewed c = viewClient (client p c) (grants c)
 
-    past : (c : ℕ) → clientCount p ≤ c → taken c ≡ resting []
+    past : (c : ℕ) → clientCount p ≤ c → viewed c ≡ seqResting []
     past c h = rw (client-past p c h) refl

@@ -19,17 +19,17 @@ use Rattle.pool.specs.declared.Pool.{Pool}
 use Rattle.pool.specs.declared.Client.{Client}
 use Rattle.laws.specs.Choices.{chosen, passed}
 use Rattle.laws.specs.Scans.{either-true, some-true}
-use Rattle.invariant.proofs.Reached.{mapped, Seated, Knows, Reached, sumTo}
+use Rattle.invariant.proofs.Reached.{mapped, InSlot, Knows, Reached, sumTo}
 use Rattle.invariant.proofs.After.{few-frames, slot-in, client-here}
-use Rattle.invariant.proofs.Sums.{sum-add, sum-most, sum-gap}
+use Rattle.invariant.proofs.Sums.{sum-add, sum-at-least, sum-gap}
 use Rattle.invariant.proofs.Searches.{free-found, free-none, unused-none}
 use Rattle.invariant.proofs.Table.{suc-not, mapped-none}
-use Rattle.invariant.proofs.Pigeon.{below, equal, below-all, equal-has, equal-none, equal-least, below-least, below-gap, below-full}
+use Rattle.invariant.proofs.Pigeonhole.{below, equal, below-all, equal-has, equal-none, equal-at-most, below-at-most, below-gap, below-full}
 
 module _ (p : Pool) (r : Reached p) where
   -- what a client knows at the stage it stands at
   pub know : (c i : ℕ) → client p c .stage ≡ i → Knows i p (client p c)
-  know c i e = subst (λ s. Knows s p (client p c)) e (r .outline .knowing c)
+  know c i e = subst (λ s. Knows s p (client p c)) e (r .mapping .knowing c)
 
   -- no client has a found frame and a victim
   not-both : (c : ℕ) → client p c .victim ≢ none → client p c .found ≡ none
@@ -42,9 +42,9 @@ module _ (p : Pool) (r : Reached p) where
       go true true a d =
           let l : 12 ≤ s = leb-true 12 s a in
           let h : s ≤ 17 = leb-true s 17 d in
-          r .outline .no-found c (rw (ne-eqb s 2 (λ q. omega arith), ne-eqb s 3 (λ q. omega arith), lt-leb 19 s (omega arith)) tt)
-      go true false a d = absurd (z (r .outline .no-victim c (rw (a, d) tt)))
-      go false y a d = absurd (z (r .outline .no-victim c (rw a tt)))
+          r .mapping .no-found c (rw (ne-eqb s 2 (λ q. omega arith), ne-eqb s 3 (λ q. omega arith), lt-leb 19 s (omega arith)) tt)
+      go true false a d = absurd (z (r .mapping .no-victim c (rw (a, d) tt)))
+      go false y a d = absurd (z (r .mapping .no-victim c (rw a tt)))
 
   -- the frame that a client names besides its own and those of its grants
   second : ℕ → ℕ
@@ -62,81 +62,81 @@ module _ (p : Pool) (r : Reached p) where
   own c = client p c .own
 
   -- how often a frame is in a slot, own, or second
-  times : ℕ → ℕ
-  times f = equal (slot p) (p .size) f + equal own (clientCount p) f + equal second (clientCount p) f
+  times-named : ℕ → ℕ
+  times-named f = equal (slot p) (p .size) f + equal own (clientCount p) f + equal second (clientCount p) f
 
   module _ (f : ℕ) (z : f ≢ none) where
     named-here : (c : ℕ) (g : Client → ℕ) → g (resting 0) ≡ none → g (client p c) ≡ f → c < clientCount p
     named-here c g n e = client-here p (λ k. g k ≡ f) c e (λ w. z (sym w ∙ n))
 
-    in-slot : Seated p f → 1 ≤ times f
-    unfolding times
+    in-slot : InSlot p f → 1 ≤ times-named f
+    unfolding times-named
     in-slot s = omega (arith, equal-has (slot p) (p .size) f (s .0) (slot-in p (s .0) (λ n. z (sym (s .1) ∙ n))) (s .1))
 
-    as-own : (c : ℕ) → client p c .own ≡ f → 1 ≤ times f
-    unfolding times own
+    as-own : (c : ℕ) → client p c .own ≡ f → 1 ≤ times-named f
+    unfolding times-named own
     as-own c e = omega (arith, equal-has own (clientCount p) f c (named-here c (λ k. k .own) refl e) e)
 
-    as-second : (c : ℕ) → c < clientCount p → second c ≡ f → 1 ≤ times f
-    unfolding times
+    as-second : (c : ℕ) → c < clientCount p → second c ≡ f → 1 ≤ times-named f
+    unfolding times-named
     as-second c h e = omega (arith, equal-has second (clientCount p) f c h e)
 
-    as-found : (c : ℕ) → client p c .found ≡ f → 1 ≤ times f
+    as-found : (c : ℕ) → client p c .found ≡ f → 1 ≤ times-named f
     as-found c e = as-second c (named-here c (λ k. k .found) refl e) (second-found c (λ n. z (sym e ∙ n)) ∙ e)
 
-    as-victim : (c : ℕ) → client p c .victim ≡ f → 1 ≤ times f
+    as-victim : (c : ℕ) → client p c .victim ≡ f → 1 ≤ times-named f
     as-victim c e = as-second c (named-here c (λ k. k .victim) refl e) (second-victim c (not-both c (λ n. z (sym e ∙ n))) ∙ e)
 
-    as-mapped : mapped p f ≢ 0 → 1 ≤ times f
+    as-mapped : mapped p f ≢ 0 → 1 ≤ times-named f
     as-mapped n = go (ℕ-discrete (pins p f) evicted)
       where
-        go : Dec (pins p f ≡ evicted) → 1 ≤ times f
-        go (yes d) = let w = r .calm .ghosts f z n d in as-victim (w .0) (w .1 .0)
-        go (no d) = in-slot (r .outline .resident f z d n)
+        go : Dec (pins p f ≡ evicted) → 1 ≤ times-named f
+        go (yes d) = let w = r .evictions .evicted-mapped f z n d in as-victim (w .0) (w .1 .0)
+        go (no d) = in-slot (r .mapping .resident-in-slot f z d n)
 
-    as-entry : (i : ℕ) → entryFrame p i ≡ f → 1 ≤ times f
+    as-entry : (i : ℕ) → entryFrame p i ≡ f → 1 ≤ times-named f
     as-entry i e = as-mapped (λ n. mapped-none p f z n i e)
 
-    as-grant : (c i : ℕ) → grantFrame p c i ≡ f → 1 ≤ times f
+    as-grant : (c i : ℕ) → grantFrame p c i ≡ f → 1 ≤ times-named f
     as-grant c i e =
-        as-mapped (suc-not (ap (mapped p) (sym e) ∙ r .outline .granted c i (λ n. z (sym e ∙ n))))
+        as-mapped (suc-not (ap (mapped p) (sym e) ∙ r .mapping .grant-mapped c i (λ n. z (sym e ∙ n))))
 
-    as-referenced : referenced p f ≡ true → 1 ≤ times f
+    as-referenced : referenced p f ≡ true → 1 ≤ times-named f
     unfolding referenced names holds
     as-referenced e = go (either-true _ _ e)
       where
         k : ℕ → Client
         k c = client p c
 
-        name4 : (c : ℕ) → (eqb (k c .victim) f ≡ true) ⊎ (holds p f c ≡ true) → 1 ≤ times f
+        name4 : (c : ℕ) → (eqb (k c .victim) f ≡ true) ⊎ (holds p f c ≡ true) → 1 ≤ times-named f
         name4 c (inl t) = as-victim c (eqb-true _ _ t)
         name4 c (inr t) = let s = some-true (λ i. eqb (grantFrame p c i) f) (client p c .held) t in as-grant c (s .0) (eqb-true _ _ (s .2))
 
-        name3 : (c : ℕ) → (eqb (k c .found) f ≡ true) ⊎ (either (eqb (k c .victim) f) (holds p f c) ≡ true) → 1 ≤ times f
+        name3 : (c : ℕ) → (eqb (k c .found) f ≡ true) ⊎ (either (eqb (k c .victim) f) (holds p f c) ≡ true) → 1 ≤ times-named f
         name3 c (inl t) = as-found c (eqb-true _ _ t)
         name3 c (inr t) = name4 c (either-true _ _ t)
 
-        name2 : (c : ℕ) → (eqb (k c .own) f ≡ true) ⊎ (either (eqb (k c .found) f) (either (eqb (k c .victim) f) (holds p f c)) ≡ true) → 1 ≤ times f
+        name2 : (c : ℕ) → (eqb (k c .own) f ≡ true) ⊎ (either (eqb (k c .found) f) (either (eqb (k c .victim) f) (holds p f c)) ≡ true) → 1 ≤ times-named f
         name2 c (inl t) = as-own c (eqb-true _ _ t)
         name2 c (inr t) = name3 c (either-true _ _ t)
 
-        shared : (some (λ i. eqb (entryFrame p i) f) (total p) ≡ true) ⊎ (some (names p f) (clientCount p) ≡ true) → 1 ≤ times f
+        shared : (some (λ i. eqb (entryFrame p i) f) (total p) ≡ true) ⊎ (some (names p f) (clientCount p) ≡ true) → 1 ≤ times-named f
         shared (inl t) = let s = some-true (λ i. eqb (entryFrame p i) f) (total p) t in as-entry (s .0) (eqb-true _ _ (s .2))
         shared (inr t) = let s = some-true (names p f) (clientCount p) t in name2 (s .0) (either-true _ _ (s .2))
 
         go : (some (λ i. eqb (slot p i) f) (p .size) ≡ true)
-            ⊎ (either (some (λ i. eqb (entryFrame p i) f) (total p)) (some (names p f) (clientCount p)) ≡ true) → 1 ≤ times f
+            ⊎ (either (some (λ i. eqb (entryFrame p i) f) (total p)) (some (names p f) (clientCount p)) ≡ true) → 1 ≤ times-named f
         go (inl t) = let s = some-true (λ i. eqb (slot p i) f) (p .size) t in in-slot (s .0, eqb-true _ _ (s .2))
         go (inr t) = shared (either-true _ _ t)
 
   -- stage 4 finds a frame
   pub finds-some : (c : ℕ) → c < clientCount p → client p c .stage ≡ 4 → freeFrame p ≢ none
-  unfolding times own
+  unfolding times-named own
   finds-some c here e missing =
       omega (
         arith,
         all,
-        below-least (slot p) (p .size) n,
+        below-at-most (slot p) (p .size) n,
         below-gap own (clientCount p) n c here (omega (arith, few, own-none)),
         below-gap second (clientCount p) n c here (omega (arith, few, second-none)),
       )
@@ -148,15 +148,15 @@ module _ (p : Pool) (r : Reached p) where
       few = few-frames p (r .shape)
 
       own-none : client p c .own ≡ none
-      own-none = r .counts .owns-none c (rw e tt)
+      own-none = r .pin-counts .owns-none c (rw e tt)
 
       second-none : second c ≡ none
-      second-none = second-victim c (r .outline .no-found c (rw e tt)) ∙ r .outline .no-victim c (rw e tt)
+      second-none = second-victim c (r .mapping .no-found c (rw e tt)) ∙ r .mapping .no-victim c (rw e tt)
 
-      most : n ≤ sumTo times n
-      most = sum-most times n (λ f h. as-referenced f (λ w. let z : ⊥ = omega (arith, few) in z) (free-none p (r .shape) missing f h))
+      most : n ≤ sumTo times-named n
+      most = sum-at-least times-named n (λ f h. as-referenced f (λ w. let z : ⊥ = omega (arith, few) in z) (free-none p (r .shape) missing f h))
 
-      split : sumTo times n ≡ sumTo (equal (slot p) (p .size)) n + sumTo (equal own (clientCount p)) n + sumTo (equal second (clientCount p)) n
+      split : sumTo times-named n ≡ sumTo (equal (slot p) (p .size)) n + sumTo (equal own (clientCount p)) n + sumTo (equal second (clientCount p)) n
       split =
           sum-add (λ f. equal (slot p) (p .size) f + equal own (clientCount p) f) (equal second (clientCount p)) n ∙
           ap (λ (x : ℕ). x + sumTo (equal second (clientCount p)) n) (sum-add (equal (slot p) (p .size)) (equal own (clientCount p)) n)
@@ -168,8 +168,8 @@ module _ (p : Pool) (r : Reached p) where
   finds c here e = free-found p (r .shape) (finds-some c here e) .0
 
   -- a client with an own frame leaves an unused place in the table
-  pub room : (c : ℕ) → client p c .own ≢ none → unusedEntry p ≢ none
-  room c z full =
+  pub finds-unused : (c : ℕ) → client p c .own ≢ none → unusedEntry p ≢ none
+  finds-unused c z full =
       omega (
         arith,
         below-all (entryFrame p) n n,
@@ -181,7 +181,7 @@ module _ (p : Pool) (r : Reached p) where
       n = total p
 
       once : (f : ℕ) → equal (entryFrame p) n f ≤ 1
-      once f = equal-least (entryFrame p) n f (λ i j h _ a b. r .outline .entries-apart i j (unused-none p (r .shape) full i h) (a ∙ sym b))
+      once f = equal-at-most (entryFrame p) n f (λ i j h _ a b. r .mapping .entries-distinct i j (unused-none p (r .shape) full i h) (a ∙ sym b))
 
       out : equal (entryFrame p) n (client p c .own) ≡ 0
       out = equal-none (entryFrame p) n (client p c .own) (λ i _. mapped-none p (client p c .own) z (r .private .own-unmapped c z) i)
