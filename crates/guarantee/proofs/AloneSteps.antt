@@ -32,6 +32,7 @@ use Rattle.invariant.proofs.Reached.{Reached}
 use Rattle.invariant.proofs.After.{client-same, client-other}
 use Rattle.invariant.proofs.Valid.{valid-reached}
 use Rattle.invariant.proofs.Allowed.{Allowed, allowed, may-begin}
+use Rattle.invariant.proofs.Edges.{grants}
 use Rattle.invariant.proofs.Calls.{outcomeOf, never-stuck, call-moves, reached-call}
 use Rattle.guarantee.proofs.TurnedDown.{same-answer, same-pool, same-stage, other-answer, TurnedOrMove, turned, one-move, turned-or-move}
 
@@ -140,10 +141,6 @@ module _ (p : Pool) (b g : ℕ) (done : callOf p (Begin b g) .answer ≡ Done g)
       mine = client-same p b m (r .shape) (begun .0 .here)
 
 -- ---- the steps, one by one
-
--- client k, which is to rest, is granted frame f
-abbrev grants : Client → ℕ → Write → Counted → Move
-grants k f w counted = record { next = resting (k .held + 1); grants = Open (k .held) (k .page) f; write = w; answer = Granted f; counted = counted }
 
 -- a working client has room for a grant
 granted-is : {p : Pool} {b g i : ℕ} → AloneAt p b g (suc i) → (f : ℕ) (w : Write) (u : Counted) → granted (client p b) f w u ≡ grants (client p b) f w u

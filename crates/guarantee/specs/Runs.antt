@@ -42,7 +42,7 @@ Throughout P p (x ∷ calls) = P p × Throughout P (callOf p x .pool) calls
 abbrev pub StepAt : ℕ → ℕ → Event → Type 0
 StepAt c i e = (e .asked ≡ Step c) × (client (e .before) c .stage ≡ i)
 
--- a begin of client c that is done; a step of client c that is granted, and one that answers its request
+-- a begin of client c that is done; a step of client c that is granted
 abbrev pub Begins : ℕ → Event → Type 0
 Begins c e = (g : ℕ) × (e .asked ≡ Begin c g) × (e .answer ≡ Done g)
 

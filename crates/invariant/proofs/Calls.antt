@@ -26,7 +26,7 @@ use Rattle.invariant.proofs.StageTests.{differ}
 use Rattle.invariant.proofs.Allowed.{refusal-at}
 use Rattle.invariant.proofs.Edges.{Edge}
 use Rattle.invariant.proofs.Steps.{call-edge}
-use Rattle.invariant.proofs.Effects.{Effect, effect}
+use Rattle.invariant.proofs.Effects.{NotEnding, Effect, effect}
 use Rattle.invariant.proofs.Ranges.{ranges-next}
 use Rattle.invariant.proofs.Places.{places-next}
 use Rattle.invariant.proofs.Private.{private-next}
@@ -58,8 +58,11 @@ abbrev pub outcomeOf : Pool → ℕ → Move → Outcome
 outcomeOf p c m = record { answer = m .answer; counted = m .counted; pool = apply p c m }
 
 module _ (p : Pool) (x : Call) where
+  pub never-ends : Reached p → refusal p x ≡ 0 → NotEnding (refusalOf (moveOf p x .answer))
+  never-ends r e = let w = call-edge p x r e in effect p (caller x) (w .0) r (w .1) .not-stuck
+
   pub never-stuck : Reached p → refusal p x ≡ 0 → refusalOf (moveOf p x .answer) ≢ 8
-  never-stuck r e = let w = call-edge p x r e in differ (refusalOf (moveOf p x .answer)) 8 (effect p (caller x) (w .0) r (w .1) .not-stuck)
+  never-stuck r e eight = subst NotEnding eight (never-ends r e)
 
   reached-next : Reached p → refusal p x ≡ 0 → Reached (apply p (caller x) (moveOf p x))
   reached-next r e = let w = call-edge p x r e in reached-move p (caller x) (moveOf p x) (w .0) r (w .1)

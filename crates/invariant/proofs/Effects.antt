@@ -2,11 +2,11 @@
 -- the table, the frames' pages. Each is a menu of the few ways it can happen, and each kind of move picks one. Assumes nothing.
 use mathlib.Core.Path.{_≡_, refl, sym, ap, subst, _∙_}
 use mathlib.Core.Logic.{_≢_, _⊎_, inl, inr}
-use mathlib.Core.Bool.{false, not}
+use mathlib.Core.Bool.{false, not, _&&_}
 use mathlib.Core.List.{List}
 use Prim.Native.Nat.{ℕ, suc, _+_, _-_, _≤_, _<_}
 use native.Mathlib.Omega.{arith}
-use lib.Dec.{T, eqb}
+use lib.Dec.{T, eqb, ltb, leb}
 use Rattle.pool.specs.Answers.{refusalOf}
 use Rattle.pool.specs.State.{none, evicted, pinned, clientCount, total, slot, page, pins, count, entryPage, entryFrame, client}
 use Rattle.pool.specs.Table.{entryOf, lookup}
@@ -35,9 +35,12 @@ use Rattle.invariant.proofs.Facts.{raised-ok, grant-pinned, found-pinne
 use Rattle.invariant.proofs.Edges.{CountersOnly, keep, hand, counts, free, Edge, moves-on, grants, found1, found18, forgets2, forgets22, pins2, pins19}
 use Rattle.invariant.proofs.Edges.{gets3, gets21, takes, fills, replaces, refuses, drops, removes, admits, revives, evicts20, evicts23, begins, releases}
 
--- the move is not stuck
+-- none of the numbers 1 to 8, by which a run of a schedule ends; 8 is a stuck move
+abbrev pub NotEnding : ℕ → Type 0
+NotEnding n = T (not (ltb 0 n && leb n 8))
+
 abbrev NotStuck : Move → Type 0
-NotStuck m = T (not (eqb (refusalOf (m .answer)) 8))
+NotStuck m = NotEnding (refusalOf (m .answer))
 
 -- a write keeps free, the last frame taken and the counts in their ranges
 pub data CountOk (p : Pool) (w : Write) : Type 0 where

@@ -138,11 +138,11 @@ module _ {p : Pool} {c : ℕ} {m : Move} (x : Effect p c m) where
 
   -- ---- the layer, from the changes
 
-  abbrev Ownless : Type 0
-  Ownless = T (ownless (m .next .stage)) → m .next .own ≡ none
+  abbrev NoOwn : Type 0
+  NoOwn = T (ownless (m .next .stage)) → m .next .own ≡ none
 
   record PinCountsCondition : Type 0 where
-    owns : Ownless
+    owns : NoOwn
     change : (f : ℕ) → f ≢ none → Change p q f (pins p f) (pins q f) (claims p c f) (claims q c f)
 
   pin-counts-of : PinCountsCondition → PinCounts q
@@ -155,11 +155,11 @@ module _ {p : Pool} {c : ℕ} {m : Move} (x : Effect p c m) where
       }
 
   -- no pins change, and no claims
-  no-change : Ownless → PinsStay p (m .write) → ((f : ℕ) → f ≢ none → claims q c f ≡ claims p c f) → PinCountsCondition
+  no-change : NoOwn → PinsStay p (m .write) → ((f : ℕ) → f ≢ none → claims q c f ≡ claims p c f) → PinCountsCondition
   no-change o w e = record { owns = o; change = λ f z. unchanged (pins-kept p c m w f) (e f z) }
 
   -- the pins of one frame change
-  one-frame : (g y : ℕ) → Ownless → PinsPut p (m .write) g y → g < total p
+  one-frame : (g y : ℕ) → NoOwn → PinsPut p (m .write) g y → g < total p
       → (g ≢ none → Change p q g (pins p g) y (claims p c g) (claims q c g)) → ((f : ℕ) → f ≢ none → f ≢ g → claims q c f ≡ claims p c f) → PinCountsCondition
   one-frame g y o w h ch e = record { owns = o; change = λ f z. go f z (ℕ-discrete f g) }
     where
@@ -190,16 +190,13 @@ module _ (p : Pool) (c : ℕ) (r : Reached p) where
     abbrev Condition : Type 0
     Condition = PinCountsCondition x
 
-    abbrev NoOwn : Type 0
-    NoOwn = T (ownless (m .next .stage)) → m .next .own ≡ none
-
     -- the grants stay, no pins change, and the client claims what it did
-    same-claims : NoOwn → PinsStay p (m .write) → m .grants ≡ Same → m .next .held ≡ me .held
+    same-claims : NoOwn x → PinsStay p (m .write) → m .grants ≡ Same → m .next .held ≡ me .held
         → ((f : ℕ) → besides x f ≡ one (pinsFound (me .stage) && eqb (me .found) f) + one (eqb (me .own) f)) → Condition
     same-claims o w g h e = no-change x o w (λ f _. omega (arith, claims-kept x g h f, e f))
 
     -- the found frame has one claim more, and one pin
-    pins-found : (i : ℕ) → client p c .stage ≡ i → T (not (pinsFound i)) → pinsFound (m .next .stage) ≡ true → NoOwn
+    pins-found : (i : ℕ) → client p c .stage ≡ i → T (not (pinsFound i)) → pinsFound (m .next .stage) ≡ true → NoOwn x
         → PinsPut p (m .write) (me .found) (pins p (me .found) + 1) → m .grants ≡ Same → m .next .held ≡ me .held → m .next .found ≡ me .found
         → m .next .own ≡ me .own → me .found ≢ none → pins p (me .found) ≢ evicted → Condition
     pins-found i e t u o w g h fo ow z l =

@@ -2,7 +2,8 @@
 -- goes on. Assumes nothing.
 use mathlib.Core.Path.{_≡_, refl, _∙_}
 use mathlib.Core.Logic.{_≢_, _⊎_, inl, inr}
-use mathlib.Core.Bool.{false}
+use mathlib.Core.Bool.{Bool, true, false, not, _&&_}
+use lib.Dec.{T}
 use Prim.Native.Nat.{ℕ, _≤_, _<_}
 use native.Mathlib.Omega.{arith}
 use native.Mathlib.Decide.{ℕ-discrete}
@@ -15,6 +16,7 @@ use Rattle.pool.specs.Apply.{apply, slotsAfter, pagesAfter, pinsAfter, countsAf
 use Rattle.pool.specs.Apply.{handAfter, freeAfter, lastAfter, grantPagesAfter, grantFramesAfter}
 use Rattle.pool.specs.Calls.{caller, refusalAt, refusal, moveOf, callOf}
 use Rattle.pool.specs.Schedule.{endsRun}
+use Rattle.pool.specs.declared.Answer.{Answer}
 use Rattle.pool.specs.declared.Answer.the-variants.{Refused}
 use Rattle.pool.specs.declared.Call.{Call}
 use Rattle.pool.specs.declared.Call.the-variants.{Begin, Step, Release}
@@ -24,38 +26,21 @@ use Rattle.pool.specs.declared.Pool.{Pool}
 use Rattle.laws.specs.Choices.{by-test, chosen, passed}
 use Rattle.laws.specs.Elements.{client-of-pool}
 use Rattle.invariant.proofs.Reached.{Reached}
-use Rattle.invariant.proofs.Edges.{Edge, moves-on, found1, found18, forgets2, forgets22, pins2, pins19, gets3, gets21, takes, fills, replaces, refuses}
-use Rattle.invariant.proofs.Edges.{drops, removes, admits, revives, evicts20, evicts23, begins, releases}
-use Rattle.invariant.proofs.Steps.{call-edge}
+use Rattle.invariant.proofs.Effects.{NotEnding}
 use Rattle.invariant.proofs.Valid.{valid-reached}
-use Rattle.invariant.proofs.Calls.{call-moves, call-turned-down}
+use Rattle.invariant.proofs.Calls.{never-ends, call-moves, call-turned-down}
 use Rattle.turns.specs.Turn.{seat, seated, still, turnedBy, turn}
 
 -- ---- no answer of a reached pool ends the run
 
-edge-goes-on : {p : Pool} {c : ℕ} {m : Move} → Edge p c m → endsRun (m .answer) ≡ false
-unfolding endsRun refusalOf both choose
-edge-goes-on (moves-on _ _ _ _) = refl
-edge-goes-on (found1 _ _) = refl
-edge-goes-on (found18 _ _) = refl
-edge-goes-on (forgets2 _ _) = refl
-edge-goes-on (forgets22 _ _) = refl
-edge-goes-on (pins2 _ _) = refl
-edge-goes-on (pins19 _ _) = refl
-edge-goes-on (gets3 _) = refl
-edge-goes-on (gets21 _) = refl
-edge-goes-on (takes _ _) = refl
-edge-goes-on (fills _ _) = refl
-edge-goes-on (replaces _ _) = refl
-edge-goes-on (refuses _ _) = refl
-edge-goes-on (drops _ _) = refl
-edge-goes-on (removes _ _) = refl
-edge-goes-on (admits _ _ _) = refl
-edge-goes-on (revives _ _) = refl
-edge-goes-on (evicts20 _) = refl
-edge-goes-on (evicts23 _) = refl
-edge-goes-on (begins _ _ _) = refl
-edge-goes-on (releases _ _ _) = refl
+not-both : (x y : Bool) → T (not (x && y)) → both x y ≡ false
+unfolding both choose
+not-both true false t = refl
+not-both false y t = refl
+
+goes-on-at : (a : Answer) → NotEnding (refusalOf a) → endsRun a ≡ false
+unfolding endsRun
+goes-on-at a h = not-both _ _ h
 
 -- 9 to 13 are no such answers either
 high-goes-on : (n : ℕ) → 9 ≤ n → endsRun (Refused n) ≡ false
@@ -120,7 +105,7 @@ module _ (p : Pool) (call : Call) (r : Reached p) where
           record {
             pool = simp (seated _ _ (is-client e), own-move e, moves);
             answer = simp (own-move e, moves);
-            goes-on = simp moves (edge-goes-on (call-edge p call r (the-refusal ∙ e) .1));
+            goes-on = simp moves (goes-on-at _ (never-ends p call r (the-refusal ∙ e)));
           }
       go (no e) (inl z) = absurd (e z)
       go (no e) (inr h) =
