@@ -1,3 +1,2 @@
 pub mod Refusals
 pub mod Tallied
-pub mod Ways

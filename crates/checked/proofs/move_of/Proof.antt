@@ -9,9 +9,9 @@ use Rattle.pool.specs.State.{client, no-client}
 use Rattle.pool.specs.Frames.{freeFrame}
 use Rattle.pool.specs.Calls.{caller}
 use Rattle.moves.specs.Ready.{slots-fit, clients-fit, grants-fit, searchable, ready}
-use Rattle.calls.specs.Ways.{read-client}
-use Rattle.calls.proofs.move_of.Statement.{statement}
-use Rattle.calls.proofs.move_of.Tie as tie
+use Rattle.checked.specs.Ways.{read-client}
+use Rattle.checked.proofs.move_of.Statement.{statement}
+use Rattle.checked.proofs.move_of.Tie as tie
 
 -- the client that the call names, as it is read
 here :

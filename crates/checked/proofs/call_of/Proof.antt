@@ -5,9 +5,9 @@ use mathlib.Core.Path.{_≡_, _∙_, sym, ap}
 use native.Mathlib.Omega.{arith}
 use Prim.Native.Nat.{ℕ}
 use Rattle.pool.specs.Calls.{turnedDown, refusal}
-use Rattle.calls.specs.Ways.{accepted, not-done, done}
-use Rattle.calls.proofs.call_of.Statement.{statement}
-use Rattle.calls.proofs.call_of.Tie as tie
+use Rattle.checked.specs.Ways.{accepted, not-done, done}
+use Rattle.checked.proofs.call_of.Statement.{statement}
+use Rattle.checked.proofs.call_of.Tie as tie
 
 goes-on : (c : tie.Else1) → refusal (c .before .before .args .pool) (c .before .before .args .call) ≡ 0
 goes-on c = sym (c .before .refusal .ensures) ∙ c .if1 .left

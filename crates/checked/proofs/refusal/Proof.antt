@@ -12,9 +12,9 @@ use Rattle.pool.specs.Valid.{valid}
 use Rattle.pool.specs.Calls.{caller, refusalAt}
 use Rattle.pool.specs.declared.Client.{Client}
 use Rattle.moves.specs.Ready.{clients-fit, grants-fit}
-use Rattle.calls.specs.Ways.{unsound, outside, inside, read-client}
-use Rattle.calls.proofs.refusal.Statement.{statement}
-use Rattle.calls.proofs.refusal.Tie as tie
+use Rattle.checked.specs.Ways.{unsound, outside, inside, read-client}
+use Rattle.checked.proofs.refusal.Statement.{statement}
+use Rattle.checked.proofs.refusal.Tie as tie
 
 sound : (c : tie.Else1) → valid (c .before .before .args .t1) ≡ true
 sound c = sym (c .before .valid .ensures) ∙ not-false _ (c .if1 .left)

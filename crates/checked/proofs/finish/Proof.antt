@@ -10,9 +10,9 @@ use Rattle.pool.specs.Valid.{valid}
 use Rattle.pool.specs.declared.Pool.{Pool}
 use Rattle.pool.specs.declared.Outcome.{Outcome}
 use Rattle.moves.specs.Ready.{slots-fit, clients-fit}
-use Rattle.calls.specs.Ways.{stays, breaks, keeps}
-use Rattle.calls.proofs.finish.Statement.{statement}
-use Rattle.calls.proofs.finish.Tie as tie
+use Rattle.checked.specs.Ways.{stays, breaks, keeps}
+use Rattle.checked.proofs.finish.Statement.{statement}
+use Rattle.checked.proofs.finish.Tie as tie
 
 not-stuck : (c : tie.Else1) → refusalOf (c .before .before .args .m .answer) ≡ 8 → ⊥
 not-stuck c z = c .if1 .left (c .before .refusal-of .ensures ∙ z)
