@@ -210,7 +210,10 @@ def second_example():
          [("0", "step, at stage 18"), ("0", "step, at stage 18"),
           ("1", "step, at stage 22"), ("0", "step, at stage 18")],
          "who is granted where")
-    return "examples/two-clients.txt: client 1 is granted at stage 22"
+    same(picture.draw(schedule), (EXAMPLES / "two-clients.svg").read_text(),
+         "examples/two-clients.svg, the picture of examples/two-clients.txt")
+    return ("examples/two-clients.txt: client 1 is granted at stage 22, and "
+            "the picture beside it")
 
 
 # Explaining.
