@@ -9,7 +9,6 @@ ghost use Rattle.answers.specs.Among.{Among};
 ghost use Rattle.calls.specs.Tallied.{steppedOf};
 use pool::Answer;
 use pool::Call;
-use pool::Client;
 use pool::Counted;
 use pool::EVICTED;
 use pool::NONE;
@@ -23,18 +22,7 @@ use pool::Tally;
 fn fresh(size: u8, client_count: u8, cap: u8, hand: u32) -> Pool
     ensures { λ r. ⌜ r ≡ fresh size «client_count» cap hand ⌝ }
 {
-    let resting = Client {
-        stage: 0,
-        page: 0,
-        own: NONE,
-        found: NONE,
-        victim: NONE,
-        seen: 0,
-        place: 0,
-        start: 0,
-        busy: 0,
-        held: 0,
-    };
+    let resting = endings::resting(0);
     Pool {
         size,
         client_count,

@@ -42,7 +42,8 @@ pub fn lowered(n: u8) -> u8
 
 // ---- what several stages share
 
-fn resting(held: u8) -> Client
+// A client at rest: it names no frame but its grants', and its other numbers are 0.
+pub fn resting(held: u8) -> Client
     ensures { λ r. ⌜ r ≡ resting held ⌝ }
 {
     Client {

@@ -101,12 +101,6 @@ pub grantOf-found : (p : Pool) (c g : ℕ) → grantOf p c g ≢ none → (grant
 unfolding grantOf
 grantOf-found p c g z = let r = first-found (λ i. eqb (grantPage p c i) g) (client p c .held) z in (r .0, eqb-true _ _ (r .1))
 
--- and there is one on the page of each grant
-pub grantOf-some : (p : Pool) (c i : ℕ) → client p c .held ≤ 8 → i < client p c .held → grantOf p c (grantPage p c i) ≢ none
-unfolding grantOf
-grantOf-some p c i few h w =
-    eqb-false (grantPage p c i) (grantPage p c i) (first-none (λ n. eqb (grantPage p c n) (grantPage p c i)) (client p c .held) (omega arith) w i h) refl
-
 -- ---- a frame that is not referenced
 
 pub record Unreferenced (p : Pool) (f : ℕ) : Type 0 where

@@ -37,10 +37,6 @@ unfolding either choose
 either-false true b e = absurd (true≢false e)
 either-false false b e = (refl, e)
 
-pub either-left : (a b : Bool) → a ≡ true → either a b ≡ true
-unfolding either choose
-either-left a b e = rw e
-
 pub either-right : (a b : Bool) → b ≡ true → either a b ≡ true
 unfolding either choose
 either-right true b e = refl

@@ -19,24 +19,6 @@ use Rattle.pool.specs.declared.Pool.{Pool}
 use Rattle.moves.specs.declared.Numbers.{Numbers}
 use Rattle.moves.specs.Lends.{Lends, numbersOf, Asks}
 
--- a pool that lends its own
-pub own-lent : (p : Pool) {t : ℕ} → t ≡ total p →
-    Lends p (numbersOf p t) (p .slots) (p .pages) (p .pins) (p .counts) (p .«table_pages») (p .«table_frames»)
-own-lent p e =
-    record {
-      size = refl;
-      total = sym e;
-      cap = refl;
-      hand = refl;
-      free = refl;
-      slots = refl;
-      pages = refl;
-      pins = refl;
-      counts = refl;
-      «table_pages» = refl;
-      «table_frames» = refl;
-    }
-
 -- ---- the move of a client that stands at stage s
 
 pub at-stage : (p : Pool) (k : Client) (s : ℕ) → k .stage ≡ s → getD stages s noStage p k ≡ stageMove p k

@@ -73,10 +73,13 @@ refusalAt p k (Begin c g) = choose (eqb (k .stage) 0) (choose (ltb (k .held) 8) 
 refusalAt p k (Step c) = choose (eqb (k .stage) 0) 11 0
 refusalAt p k (Release c g) = choose (eqb (k .stage) 0) (choose (eqb (grantOf p c g) none) 13 0) 10
 
--- the number by which a call is turned down before its action, in checking order: 8, 9 ("The bench number is T or more."), then the others
+-- 9. "The bench number is T or more.", then 10 to 13; 0: none of them
+abbrev pub turnedBy : Pool → Call → ℕ
+turnedBy p call = choose (ltb (caller call) (clientCount p)) (refusalAt p (client p (caller call)) call) 9
+
+-- the number by which a call is turned down before its action, in checking order: 8, then the others
 unfoldable pub refusal : Pool → Call → ℕ
-refusal p call =
-    choose (valid p) (choose (ltb (caller call) (clientCount p)) (refusalAt p (client p (caller call)) call) 9) 8
+refusal p call = choose (valid p) (turnedBy p call) 8
 
 -- "Begin (bench, page) puts a resting bench at stage 1."
 abbrev pub beginMove : Client → ℕ → Move

@@ -14,13 +14,13 @@ use Rattle.pool.specs.declared.Client.{Client}
 unfoldable pub numbersOk : ℕ → ℕ → ℕ → Bool
 numbersOk s t c = both (ltb 0 s) (both (leb s 64) (both (ltb 0 t) (both (leb t 16) (both (ltb 0 c) (leb c 100)))))
 
--- no frame, or one of the pool's
-unfoldable pub frameOk : Pool → ℕ → Bool
-frameOk p f = either (eqb f none) (ltb f (total p))
+-- no frame, or one of the pool's n
+unfoldable pub frameOk : ℕ → ℕ → Bool
+frameOk n f = either (eqb f none) (ltb f n)
 
--- one of the pool's frames where the stage uses it, else none or one of them
-unfoldable pub usedOk : Bool → Pool → ℕ → Bool
-usedOk used p f = choose used (ltb f (total p)) (frameOk p f)
+-- one of the pool's n frames where the stage uses it, else none or one of them
+unfoldable pub usedOk : Bool → ℕ → ℕ → Bool
+usedOk used n f = choose used (ltb f n) (frameOk n f)
 
 -- the stages that use the own frame, the found frame, the victim
 abbrev pub usesOwn : ℕ → Bool
@@ -34,7 +34,7 @@ usesVictim s = leb 12 s && leb s 17
 
 -- "A slot is empty or names one frame."
 abbrev pub slotOk : Pool → ℕ → Bool
-slotOk p i = frameOk p (slot p i)
+slotOk p i = frameOk (total p) (slot p i)
 
 -- "pins (-1, evicted, to 128) and a reference count (0 to C)"
 unfoldable pub stateOk : Pool → ℕ → Bool
@@ -49,23 +49,23 @@ unfoldable pub grantOk : Pool → ℕ → ℕ → Bool
 grantOk p c i = both (ltb (grantFrame p c i) (total p)) (eqb (grantFrame p c (grantOf p c (grantPage p c i))) (grantFrame p c i))
 
 -- "A slot number that a bench remembers is 0 to S - 1, and so is a busy run."; a bench "holds 0 to 8 grants"
-unfoldable pub countsOk : Pool → Client → Bool
-countsOk p k =
-    both (leb (k .stage) 23) (both (leb (k .held) 8) (both (ltb (k .place) (p .size)) (both (ltb (k .busy) (p .size)) (leb (k .seen) (p .size)))))
+unfoldable pub countsOk : Client → ℕ → Bool
+countsOk k size = both (leb (k .stage) 23) (both (leb (k .held) 8) (both (ltb (k .place) size) (both (ltb (k .busy) size) (leb (k .seen) size))))
 
-unfoldable pub namesOk : Pool → Client → Bool
-namesOk p k =
-    both (usedOk (usesOwn (k .stage)) p (k .own))
-    (both (usedOk (usesFound (k .stage)) p (k .found)) (usedOk (usesVictim (k .stage)) p (k .victim)))
+-- the frames that a client remembers, of n
+unfoldable pub namesOk : Client → ℕ → Bool
+namesOk k n =
+    both (usedOk (usesOwn (k .stage)) n (k .own))
+    (both (usedOk (usesFound (k .stage)) n (k .found)) (usedOk (usesVictim (k .stage)) n (k .victim)))
 
 unfoldable pub clientOk : Pool → ℕ → Bool
-clientOk p c = let k = client p c in both (countsOk p k) (both (namesOk p k) (every (grantOk p c) (k .held)))
+clientOk p c = let k = client p c in both (countsOk k (p .size)) (both (namesOk k (total p)) (every (grantOk p c) (k .held)))
 
 -- "'Free' starts at S and is 0 to S."
 unfoldable pub valid : Pool → Bool
 valid p =
     both (numbersOk (p .size) (clientCount p) (p .cap))
-    (both (both (leb (p .free) (p .size)) (frameOk p (p .last)))
+    (both (both (leb (p .free) (p .size)) (frameOk (total p) (p .last)))
     (both (every (slotOk p) (p .size))
     (both (every (stateOk p) (total p))
     (both (every (entryOk p) (total p)) (every (clientOk p) (clientCount p))))))

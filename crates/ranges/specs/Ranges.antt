@@ -82,10 +82,6 @@ pub pins-low : (p : Pool) → Ranged p → (f : ℕ) → pins p f ≤ pinned 128
 unfolding pins
 pins-low p r f = low (p .pins) (total p) (pinned 128) f (r .pins f)
 
-pub count-low : (p : Pool) → Ranged p → (f : ℕ) → count p f ≤ p .cap
-unfolding count
-count-low p r f = low (p .counts) (total p) (p .cap) f (r .count f)
-
 -- ---- tests that hold, taken apart and put together
 
 pub numbers-in : (s t c : ℕ) → numbersOk s t c ≡ true → Numbers s t c
@@ -112,11 +108,8 @@ numbers-from s t c n =
     (both-yes _ _ (lt-ltb _ _ (n .some-client))
     (both-yes _ _ (le-leb _ _ (n .clients)) (both-yes _ _ (lt-ltb _ _ (n .some-count)) (le-leb _ _ (n .cap))))))
 
--- the test of a client's counts, whatever it is called
-abbrev pub counted : Client → ℕ → Bool
-counted k size = both (leb (k .stage) 23) (both (leb (k .held) 8) (both (ltb (k .place) size) (both (ltb (k .busy) size) (leb (k .seen) size))))
-
-pub counts-in : (k : Client) (size : ℕ) → counted k size ≡ true → Counts k size
+pub counts-in : (k : Client) (size : ℕ) → countsOk k size ≡ true → Counts k size
+unfolding countsOk
 counts-in k size h =
     let h₂ = both-second _ _ h in
     let h₃ = both-second _ _ h₂ in
@@ -129,7 +122,8 @@ counts-in k size h =
       seen = leb-true _ _ (both-second _ _ h₄);
     }
 
-counts-from : (k : Client) (size : ℕ) → Counts k size → counted k size ≡ true
+counts-from : (k : Client) (size : ℕ) → Counts k size → countsOk k size ≡ true
+unfolding countsOk
 counts-from k size n =
     both-yes _ _ (le-leb _ _ (n .stage))
     (both-yes _ _ (le-leb _ _ (n .held))
@@ -138,11 +132,11 @@ counts-from k size n =
 module _ (p : Pool) where
   -- ---- a frame number
 
-  name-in : (f : ℕ) → frameOk p f ≡ true → Named f → f < total p
+  name-in : (f : ℕ) → frameOk (total p) f ≡ true → Named f → f < total p
   unfolding frameOk either choose
   name-in f h d = ltb-true _ _ (rw (ne-eqb f none d) at h)
 
-  name-from : (f : ℕ) → (Named f → f < total p) → frameOk p f ≡ true
+  name-from : (f : ℕ) → (Named f → f < total p) → frameOk (total p) f ≡ true
   unfolding frameOk either choose
   name-from f r = go (ℕ-discrete f none)
     where
@@ -150,12 +144,12 @@ module _ (p : Pool) where
       go (yes e) = simp (eq-eqb f none e)
       go (no d) = simp (ne-eqb f none d, lt-ltb f (total p) (r d))
 
-  used-in : (u : Bool) (f : ℕ) → usedOk u p f ≡ true → Names u (total p) f
+  used-in : (u : Bool) (f : ℕ) → usedOk u (total p) f ≡ true → Names u (total p) f
   unfolding usedOk choose
   used-in true f h = let l = ltb-true _ _ h in record { named = λ _. l; there = λ _. l }
   used-in false f h = record { named = name-in f h; there = λ e. absurd (true≢false (sym e)) }
 
-  used-from : (u : Bool) (f : ℕ) → Names u (total p) f → usedOk u p f ≡ true
+  used-from : (u : Bool) (f : ℕ) → Names u (total p) f → usedOk u (total p) f ≡ true
   unfolding usedOk choose
   used-from true f r = lt-ltb _ _ (r .there refl)
   used-from false f r = name-from f (r .named)
@@ -202,7 +196,7 @@ module _ (p : Pool) where
         first (λ j. eqb (grantPage p c j) g) none 0 (client p c .held) i (omega arith) (omega arith) (eq-eqb g g refl)
 
     client-in : clientOk p c ≡ true → ClientRanged p c
-    unfolding clientOk countsOk namesOk
+    unfolding clientOk namesOk
     client-in h =
         let r = both-second _ _ h in
         let u = both-first _ _ r in
@@ -218,7 +212,7 @@ module _ (p : Pool) where
         }
 
     client-from : ClientRanged p c → clientOk p c ≡ true
-    unfolding clientOk countsOk namesOk grantOk
+    unfolding clientOk namesOk grantOk
     client-from r =
         both-yes _ _ (counts-from _ _ (r .counts))
         (both-yes _ _

@@ -30,10 +30,6 @@ entry-in p g = refl
 abbrev pub lookupIn : List ℕ → List ℕ → ℕ → ℕ → ℕ
 lookupIn pages frames n g = within frames n none (entryIn pages frames n g)
 
-pub lookup-in : (p : Pool) (g : ℕ) → lookupIn (p .«table_pages») (p .«table_frames») (total p) g ≡ lookup p g
-unfolding mapsIn entryIn entryOf lookup maps entryPage entryFrame
-lookup-in p g = refl
-
 -- the first unused place of n
 unfoldable pub unusedIn : List ℕ → ℕ → ℕ
 unusedIn frames n = scan (λ i. eqb (within frames n none i) none) (λ i. i) none 0 n

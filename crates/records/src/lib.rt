@@ -1,4 +1,4 @@
-// Reading one record at the start of the schedule bytes that are left, and what its line says of it.
+// Reading one record at the start of the schedule bytes that are left.
 //
 // Every function here equals the definition of its name in crate `pool`, `specs/Schedule.antt`.
 ghost use mathlib.Core.Path.{_≡_};
@@ -8,8 +8,7 @@ ghost use Prim.Native.Nat.{_+_, _*_, _≤_};
 ghost use lib.ListN.{length};
 ghost use Rattle.pool.specs.Answers.{unreadOf};
 ghost use Rattle.answers.specs.Among.{Among};
-ghost use Rattle.pool.specs.Schedule.{number, cut, marked, content, read, lengthOf, endsRun, namedBy};
-use pool::Answer;
+ghost use Rattle.pool.specs.Schedule.{number, cut, marked, content, read};
 use pool::Call;
 use pool::Reading;
 
@@ -106,43 +105,10 @@ fn reading(rest: &[u8], first: bool) -> Reading
     content(rest)
 }
 
-// The record at the start of `rest`, the schedule bytes that are left, or the refusal by which it cannot be read whole.
+// The same, with the list of the refusals by which a record cannot be read; 0 is none.
 pub fn read(rest: &[u8], first: bool) -> Reading
     ensures { λ r. ⌜ r ≡ read first (now (rest .entry)) ⌝ }
     ensures { λ r. ⌜ Among (0 ∷ 3 ∷ 4 ∷ 5 ∷ 6 ∷ 7 ∷ []) (unreadOf r) ⌝ }
 {
     reading(rest, first)
-}
-
-// How many bytes the record that was read has: "setup, 10 bytes", "begin, 2 step, 3 release, 8 bytes".
-pub fn length_of(r: Reading) -> usize
-    ensures { λ n. ⌜ n ≡ lengthOf r ⌝ }
-{
-    match r {
-        Reading::Setup(_, _, _, _) => 10,
-        Reading::Asked(_) => 8,
-        Reading::Unreadable(_) => 0,
-    }
-}
-
-// The client of the record's line: "(0 for a setup)"; "3 to 8 write one with bench 0".
-pub fn named_by(r: Reading) -> u8
-    ensures { λ c. ⌜ c ≡ namedBy r ⌝ }
-{
-    match r {
-        Reading::Asked(call) => answers::caller(call),
-        Reading::Setup(_, _, _, _) => 0,
-        Reading::Unreadable(_) => 0,
-    }
-}
-
-// "1 to 8 end the run; .. After 9 to 13 and 15 the run goes on."
-pub fn ends_run(a: Answer) -> bool
-    ensures { λ r. ⌜ r ≡ endsRun a ⌝ }
-{
-    let n = answers::refusal_of(a);
-    if 0 < n {
-        return n <= 8;
-    }
-    false
 }

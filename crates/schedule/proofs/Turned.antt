@@ -14,7 +14,7 @@ use Rattle.pool.specs.Answers.{refusalOf}
 use Rattle.pool.specs.State.{clientCount, client}
 use Rattle.pool.specs.Apply.{apply, slotsAfter, pagesAfter, pinsAfter, countsAfter, entryPagesAfter, entryFramesAfter}
 use Rattle.pool.specs.Apply.{handAfter, freeAfter, lastAfter, grantPagesAfter, grantFramesAfter}
-use Rattle.pool.specs.Calls.{caller, refusalAt, refusal, moveOf, callOf}
+use Rattle.pool.specs.Calls.{caller, refusalAt, refusal, moveOf, callOf, turnedBy}
 use Rattle.pool.specs.Schedule.{endsRun}
 use Rattle.pool.specs.declared.Answer.{Answer}
 use Rattle.pool.specs.declared.Answer.the-variants.{Refused}
@@ -29,7 +29,7 @@ use Rattle.invariant.proofs.Reached.{Reached}
 use Rattle.invariant.proofs.Effects.{NotEnding}
 use Rattle.invariant.proofs.Valid.{valid-reached}
 use Rattle.invariant.proofs.Calls.{never-ends, call-moves, call-turned-down}
-use Rattle.turns.specs.Turn.{seat, seated, still, turnedBy, turn}
+use Rattle.turns.specs.Turn.{seat, seated, still, turn}
 
 -- ---- no answer of a reached pool ends the run
 
@@ -57,7 +57,6 @@ high-at p k (Step c) = by-test NoneOrHigh (λ _. inr (omega arith)) (λ _. inl r
 high-at p k (Release c g) = by-test NoneOrHigh (λ _. by-test NoneOrHigh (λ _. inr (omega arith)) (λ _. inl refl)) (λ _. inr (omega arith))
 
 high : (p : Pool) (call : Call) → NoneOrHigh (turnedBy p call)
-unfolding turnedBy
 high p call = by-test NoneOrHigh (λ _. high-at p (client p (caller call)) call) (λ _. inr (omega arith))
 
 -- ---- a client's record put back as it is, and nothing else
@@ -79,12 +78,11 @@ module _ (p : Pool) (call : Call) (r : Reached p) where
   seat-in = by-test (λ (c : ℕ). c < clientCount p) (λ e. ltb-true _ _ e) (λ _. omega (arith, r .shape .clients-low))
 
   the-refusal : refusal p call ≡ turnedBy p call
-  unfolding refusal turnedBy
+  unfolding refusal
   the-refusal = chosen _ _ _ (valid-reached p r)
 
   -- not turned down, so by 9 neither
   is-client : turnedBy p call ≡ 0 → caller call < clientCount p
-  unfolding turnedBy
   is-client =
       by-test (λ (n : ℕ). n ≡ 0 → caller call < clientCount p) (λ e _. ltb-true _ _ e) (λ _ e. let z : ⊥ = omega arith in absurd z)
 

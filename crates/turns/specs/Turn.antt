@@ -1,4 +1,4 @@
--- One record's action: the move of a call, or where the call is turned down by 9 to 13 one that changes nothing. Assumes nothing.
+-- One call's action: the move of a call, or where the call is turned down by 9 to 13 one that changes nothing. Assumes nothing.
 use mathlib.Core.Path.{_≡_, sym, ap, _∙_}
 use mathlib.Core.List.{List}
 use Prim.Native.Nat.{ℕ, _≤_, _<_}
@@ -8,7 +8,7 @@ use borrow.Author.Tests.{lt-ltb, le-ltb, ne-eqb}
 use Rattle.pool.specs.Choose.{choose}
 use Rattle.pool.specs.State.{clientCount, client}
 use Rattle.pool.specs.Frames.{freeFrame}
-use Rattle.pool.specs.Calls.{caller, refusalAt, moveOf}
+use Rattle.pool.specs.Calls.{caller, refusalAt, turnedBy, moveOf}
 use Rattle.pool.specs.declared.Answer.the-variants.{Refused}
 use Rattle.pool.specs.declared.Call.{Call}
 use Rattle.pool.specs.declared.Client.{Client}
@@ -27,10 +27,6 @@ seat n c = choose (ltb c n) c 0
 -- "All but 15 change no pool, tally or list."
 abbrev pub still : Client → ℕ → Move
 still k n = record { next = k; grants = Same; write = Keep; answer = Refused n; counted = Nothing }
-
--- 9. "The bench number is T or more.", then 10 to 13; 0: none of them. This is `refusal` of a pool that passes check 8.
-unfoldable pub turnedBy : Pool → Call → ℕ
-turnedBy p call = choose (ltb (caller call) (clientCount p)) (refusalAt p (client p (caller call)) call) 9
 
 unfoldable pub turn : Pool → Call → Move
 turn p call =
@@ -54,7 +50,7 @@ seated n c h = chosen _ _ _ (lt-ltb c n h)
 module _ {p : Pool} {call : Call} {n : ℕ} {k : Client} {taken : ℕ} {grantPages grantFrames : List ℕ}
     (t : Turns p call n k taken grantPages grantFrames) where
   pub turned-9 : n ≤ caller call → still k 9 ≡ turn p call
-  unfolding turnedBy turn choose
+  unfolding turn choose
   turned-9 h = simp (le-ltb (caller call) (clientCount p) (omega arith), t .client)
 
   module _ (h : caller call < n) where
@@ -66,7 +62,7 @@ module _ {p : Pool} {call : Call} {n : ℕ} {k : Client} {taken : ℕ} {grantPag
 
     module _ (r : ℕ) (e : r ≡ refusalAt p k call) where
       by : turnedBy p call ≡ r
-      unfolding turnedBy choose
+      unfolding choose
       by = simp (lt-ltb (caller call) (clientCount p) (omega arith), asker, e)
 
       pub turned-by : (r ≡ 0 → ⊥) → still k r ≡ turn p call

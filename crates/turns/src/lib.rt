@@ -1,4 +1,4 @@
-// One record's action on a pool that passes check 8, decided over the pool's arrays where they lie: the move of a call, or where the call is
+// One call's action on a pool that passes check 8, decided over the pool's arrays where they lie: the move of a call, or where the call is
 // turned down by 9 to 13 one that changes nothing.
 ghost use mathlib.Core.Path.{_≡_};
 ghost use Prim.Native.Nat.{_<_, _≤_};

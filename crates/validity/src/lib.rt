@@ -5,8 +5,8 @@
 ghost use mathlib.Core.Path.{_≡_};
 ghost use Prim.Native.Nat.{_+_, _*_, _<_, _≤_};
 ghost use Rattle.pool.specs.Choose.{both};
-ghost use Rattle.pool.specs.Valid.{numbersOk, usesOwn, usesFound, usesVictim, valid};
-ghost use Rattle.validity.specs.Parts.{nameOkIn, usedOkIn, countsOkIn, namesOkIn, slotsOkIn, statesOkIn, clientOkIn, clientsOkIn};
+ghost use Rattle.pool.specs.Valid.{numbersOk, frameOk, usedOk, usesOwn, usesFound, usesVictim, countsOk, namesOk, valid};
+ghost use Rattle.validity.specs.Parts.{slotsOkIn, statesOkIn, clientOkIn, clientsOkIn};
 use pool::Client;
 use pool::Pool;
 
@@ -36,8 +36,8 @@ pub fn numbers_ok(size: u8, client_count: u8, cap: u8) -> bool
 }
 
 // No frame, or one of the pool's n. "There are S + 2T frames, numbered from 0."
-fn name_ok(n: u8, f: u8) -> bool
-    ensures { λ r. ⌜ r ≡ nameOkIn n f ⌝ }
+fn frame_ok(n: u8, f: u8) -> bool
+    ensures { λ r. ⌜ r ≡ frameOk n f ⌝ }
 {
     if f == pool::NONE {
         return true;
@@ -47,12 +47,12 @@ fn name_ok(n: u8, f: u8) -> bool
 
 // One of the pool's n frames where the stage uses it, else none or one of them.
 fn used_ok(used: bool, n: u8, f: u8) -> bool
-    ensures { λ r. ⌜ r ≡ usedOkIn used n f ⌝ }
+    ensures { λ r. ⌜ r ≡ usedOk used n f ⌝ }
 {
     if used {
         return f < n;
     }
-    name_ok(n, f)
+    frame_ok(n, f)
 }
 
 // The stages that use the own frame, the found frame, the victim.
@@ -95,7 +95,7 @@ fn slots_ok(slots: &[u8; 64], size: usize, n: u8) -> bool
     ensures { λ r. ⌜ r ≡ slotsOkIn (now (slots .entry)) size n ⌝ }
 {
     for i in 0..size {
-        let ok = name_ok(n, slots[i]);
+        let ok = frame_ok(n, slots[i]);
         if !ok {
             return false;
         }
@@ -120,7 +120,7 @@ fn states_ok<'a>(pins: &'a [u8; 96], counts: &'a [u8; 96], n: usize, cap: u8) ->
 // "Each working bench stands at one of 23 stages"; a bench "holds 0 to 8 grants"; "A slot number that a bench remembers is 0 to S - 1, and so is
 // a busy run."; the value of free that it read is "0 to S".
 fn counts_ok(client: Client, size: u8) -> bool
-    ensures { λ r. ⌜ r ≡ countsOkIn client size ⌝ }
+    ensures { λ r. ⌜ r ≡ countsOk client size ⌝ }
 {
     both(
         client.stage <= 23,
@@ -136,7 +136,7 @@ fn counts_ok(client: Client, size: u8) -> bool
 
 // The frames that a client remembers are the pool's, and there where its stage uses them.
 fn names_ok(client: Client, n: u8) -> bool
-    ensures { λ r. ⌜ r ≡ namesOkIn client n ⌝ }
+    ensures { λ r. ⌜ r ≡ namesOk client n ⌝ }
 {
     let own = used_ok(uses_own(client.stage), n, client.own);
     let found = used_ok(uses_found(client.stage), n, client.found);
@@ -199,7 +199,7 @@ pub fn valid(pool: Pool) -> bool
     }
     let n = pool.size + 2 * pool.client_count;
     // "'Free' starts at S and is 0 to S."
-    let shared = both(pool.free <= pool.size, name_ok(n, pool.last));
+    let shared = both(pool.free <= pool.size, frame_ok(n, pool.last));
     if !shared {
         return false;
     }

@@ -4,7 +4,8 @@ use borrow.Author.Needs.{needs}
 use borrow.Author.Tests.{not-false}
 use mathlib.Core.Path.{_∙_, sym}
 use Rattle.laws.specs.Loops.{stops, goes}
-use Rattle.validity.specs.Parts.{clientOkIn, few-grants}
+use Rattle.ranges.specs.Ranges.{counts-in}
+use Rattle.validity.specs.Parts.{clientOkIn}
 use Rattle.validity.proofs.client_ok.Statement.{statement}
 use Rattle.validity.proofs.client_ok.Tie as tie
 
@@ -21,7 +22,7 @@ returns-2 c =
 grants-ok-requires : tie.Need-grants-ok-requires
 grants-ok-requires c κs =
     let e = c .before .before in
-    (search needs, few-grants _ _ (sym (e .before .counts-ok .ensures) ∙ not-false _ (e .if1 .left)))
+    (search needs, counts-in _ _ (sym (e .before .counts-ok .ensures) ∙ not-false _ (e .if1 .left)) .held)
 
 returns-3 : tie.Need-returns-3
 unfolding clientOkIn

@@ -1,11 +1,11 @@
 -- The code is the definition, test by test. Assumes nothing.
 use borrow.Author.Needs.{needs}
-use Rattle.validity.specs.Parts.{countsOkIn}
+use Rattle.pool.specs.Valid.{countsOk}
 use Rattle.validity.proofs.counts_ok.Statement.{statement}
 use Rattle.validity.proofs.counts_ok.Tie as tie
 
 returns : tie.Need-returns
-unfolding countsOkIn
+unfolding countsOk
 returns c = cc
 
 pub counts-ok-spec : {M : Type 1} → statement M

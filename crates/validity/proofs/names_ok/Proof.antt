@@ -1,11 +1,11 @@
 -- The code is the definition, test by test. Assumes nothing.
 use borrow.Author.Needs.{needs}
-use Rattle.validity.specs.Parts.{namesOkIn}
+use Rattle.pool.specs.Valid.{namesOk}
 use Rattle.validity.proofs.names_ok.Statement.{statement}
 use Rattle.validity.proofs.names_ok.Tie as tie
 
 returns : tie.Need-returns
-unfolding namesOkIn
+unfolding namesOk
 returns c = cc
 
 pub names-ok-spec : {M : Type 1} → statement M

@@ -17,10 +17,10 @@ abbrev μ-loop : tie.MeasureT-loop
 μ-loop slots size n i₀ i = size - i
 
 tested :
-    (c : tie.After-name-ok Inv-loop μ-loop) →
+    (c : tie.After-frame-ok Inv-loop μ-loop) →
     let l = c .before .before in
     let a = l .before .before .args in
-    c .name-ok .result ≡ slotOkIn (a .slots .now) (a .size) (a .n) (l .before .loop .i)
+    c .frame-ok .result ≡ slotOkIn (a .slots .now) (a .size) (a .n) (l .before .loop .i)
 tested c = let l = c .before .before in cc (element (l .before .before .args .slots .now) _ none _ (l .loop-test .taken))
 
 loop-holds : tie.Need-loop-holds Inv-loop μ-loop

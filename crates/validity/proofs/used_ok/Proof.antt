@@ -2,17 +2,17 @@
 use borrow.Author.Needs.{needs}
 use mathlib.Core.Path.{_∙_}
 use Rattle.pool.specs.Choose.{choose}
-use Rattle.validity.specs.Parts.{usedOkIn}
+use Rattle.pool.specs.Valid.{usedOk}
 use Rattle.validity.proofs.used_ok.Statement.{statement}
 use Rattle.validity.proofs.used_ok.Tie as tie
 
 returns : tie.Need-returns
-unfolding usedOkIn choose
+unfolding usedOk choose
 returns c = simp (c .if1 .taken)
 
 returns-2 : tie.Need-returns-2
-unfolding usedOkIn choose
-returns-2 c = c .name-ok .ensures ∙ simp (c .before .if1 .left)
+unfolding usedOk choose
+returns-2 c = c .frame-ok .ensures ∙ simp (c .before .if1 .left)
 
 pub used-ok-spec : {M : Type 1} → statement M
 used-ok-spec =

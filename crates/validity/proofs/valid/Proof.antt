@@ -11,7 +11,8 @@ use Rattle.pool.specs.State.{clientCount, total}
 use Rattle.pool.specs.Choose.{both}
 use Rattle.pool.specs.Valid.{valid}
 use Rattle.laws.specs.Loops.{stops, goes}
-use Rattle.validity.specs.Parts.{fromClients, fromEntries, fromStates, fromSlots, fromFree, nameOkIn, in-parts}
+use Rattle.pool.specs.Valid.{frameOk}
+use Rattle.validity.specs.Parts.{fromClients, fromEntries, fromStates, fromSlots, fromFree, in-parts}
 use Rattle.ranges.specs.Ranges.{Numbers, numbers-in, total-in}
 use Rattle.validity.proofs.valid.Statement.{statement}
 use Rattle.validity.proofs.valid.Tie as tie
@@ -45,7 +46,7 @@ past-numbers c = goes _ (c .before .numbers-ok .ensures) (c .if1 .left) ∙ in-p
 free-tested :
     (c : tie.After-both) →
     let p = handed (c .before .before) in
-    c .both .result ≡ both (leb (p .free) (p .size)) (nameOkIn (total p) (p .last))
+    c .both .result ≡ both (leb (p .free) (p .size)) (frameOk (total p) (p .last))
 free-tested c = cc
 
 past-free : (c : tie.Else2) → fromSlots (handed (back₂ c)) ≡ valid (handed (back₂ c))
