@@ -29,14 +29,15 @@ use Rattle.guarantee.proofs.SetupDone.{setup-done}
 point3 : Claim-point3
 point3 s t c h e calls =
     let p = setupOf s t c h .pool in
-    let r = setup-done s t c h e .reached in
+    let first = setup-done s t c h e in
+    let r = first .reached in
     record {
       one-copy = one-copies p calls r;
       no-held-evicted = no-held-evicted p calls r;
       held-pinned = helds-pinned p calls r;
       taken-out-once = taken-out-once p calls r;
       sequential = sequential s t c h e calls;
-      one-effect = one-effect p calls r;
+      one-effect = one-effect p calls r (first .rests);
       refused-alone = refused-alone p calls r;
     }
 

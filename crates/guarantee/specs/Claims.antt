@@ -92,9 +92,8 @@ pub data Follows : Pool → Sequential → List Call → Type 0 where
   at-call : {p : Pool} {q q′ : Sequential} {x : Call} {calls : List Call}
       → SamePages p q → SameStages p q → Rule q x (callOf p x .answer) q′ → Follows (callOf p x .pool) q′ calls → Follows p q (x ∷ calls)
 
--- "each grant takes effect at exactly one action after its begin and no later than its answer"; "A grant takes effect where it is added or
--- admitted.": the steps of which the sequential pool's rules `adds` and `admits` speak, by the stage and the answer, which both pools share
--- (`SameStages`, and the answer in `at-call`)
+-- "A grant takes effect where it is added or admitted.": the steps of which the sequential pool's rules `adds` and `admits` speak, by the stage and
+-- the answer, which both pools share (`SameStages`, and the answer in `at-call`)
 unfoldable pub takesEffect : ℕ → Answer → Bool
 takesEffect i (Done n) = false
 takesEffect i (Working j) = adding i j
@@ -112,9 +111,12 @@ SameRequest es c k n = (m : ℕ) → k < m → m < n → At (Begins c) es m → 
 abbrev pub ExactlyOne : (Event → Type 0) → List Event → ℕ → ℕ → Type 0
 ExactlyOne P es k n = (j : ℕ) × (k < j) × (j ≤ n) × At P es j × ((i : ℕ) → k < i → i ≤ n → At P es i → i ≡ j)
 
+-- "each grant takes effect at exactly one action after its begin and no later than its answer": the answer is event n, and the begin is the
+-- client's last that is done before it, event k
 abbrev pub OneEffect : List Event → Type 0
 OneEffect es =
-    (c k n : ℕ) → At (Begins c) es k → k < n → At (GrantedTo c) es n → SameRequest es c k n → ExactlyOne (TakesEffect c) es k n
+    (c n : ℕ) → At (GrantedTo c) es n
+    → (k : ℕ) × (k < n) × At (Begins c) es k × SameRequest es c k n × ExactlyOne (TakesEffect c) es k n
 
 -- ---- e. "A request in the list that is begun and answered while all other benches rest and release nothing is refused for want of a frame
 -- exactly when, at its begin, its page is absent and every slot names a held frame."
