@@ -21,7 +21,7 @@ use Rattle.guarantee.proofs.Sum.{sum}
 use Rattle.guarantee.proofs.Once.{taken-out-once}
 use Rattle.guarantee.proofs.OneEffect.{one-effect}
 use Rattle.guarantee.proofs.Alone.{refused-alone}
-use Rattle.guarantee.proofs.Listed.{listed}
+use Rattle.guarantee.proofs.Listed.{listed, listed-along}
 use Rattle.guarantee.proofs.TurnedDown.{turned-down, refused}
 use Rattle.guarantee.proofs.Limits.{limits}
 use Rattle.guarantee.proofs.SetupDone.{setup-done}
@@ -52,8 +52,8 @@ answers s t c h e calls =
     record {
       in-range = throughout (λ q. valid q ≡ true) valid-reached p calls r;
       finds = throughout (λ q. (d : ℕ) → client q d .stage ≡ 4 → freeFrame q < total q) finds-frame p calls r;
-      listed = listed p calls r;
+      listed = listed-along p calls r;
     }
 
 pub guarantee : Guarantee
-guarantee = record { point3 = point3; answers = answers; turned-down = turned-down; refused = refused; sum = sum; limits = limits }
+guarantee = record { point3 = point3; listed = listed; answers = answers; turned-down = turned-down; refused = refused; sum = sum; limits = limits }

@@ -161,9 +161,9 @@ pub record Point3 (p : Pool) (q : Sequential) (calls : List Call) : Type 0 where
 abbrev pub Claim-point3 : Type 0
 Claim-point3 = (s t c h : ℕ) → setupOf s t c h .answer ≡ Done s → (calls : List Call) → Point3 (setupOf s t c h .pool) (start s t) calls
 
--- ---- answers: "Every call .. ends with a listed answer"; "pools that come from setup and calls never meet this" (8)
+-- ---- answers: "done, a grant, a stage or a numbered refusal"
 
--- a stage, a frame or a refusal number that the call can be answered by
+-- a stage, a frame or a refusal number, 8 aside, that the call can be answered by
 unfoldable pub Listed : Pool → Call → Answer → Type 0
 Listed p (Begin c g) a = (a ≡ Done g) ⊎ ((a ≡ Refused 9) ⊎ ((a ≡ Refused 10) ⊎ (a ≡ Refused 12)))
 Listed p (Step c) a =
@@ -171,7 +171,12 @@ Listed p (Step c) a =
     ⊎ ((a ≡ Refused 9) ⊎ ((a ≡ Refused 11) ⊎ (a ≡ Refused 15))))
 Listed p (Release c g) a = (a ≡ Done g) ⊎ ((a ≡ Refused 9) ⊎ ((a ≡ Refused 10) ⊎ (a ≡ Refused 13)))
 
--- no range is broken in any pool of the run, a client at stage 4 finds a frame, and every answer is a listed one, so never 8
+-- "Every call, on all input, ends with a listed answer": of every pool, from wherever it was handed, one of these or 8
+abbrev pub Claim-listed : Type 0
+Claim-listed = (p : Pool) (x : Call) → (callOf p x .answer ≡ Refused 8) ⊎ Listed p x (callOf p x .answer)
+
+-- "pools that come from setup and calls never meet this" (8): no range is broken in any pool of the run, a client at stage 4 finds a frame, and every
+-- answer is a listed one, so never 8
 pub record Answered (p : Pool) (calls : List Call) : Type 0 where
   pub in-range : Throughout (λ p. valid p ≡ true) p calls
   pub finds : Throughout (λ p. (c : ℕ) → client p c .stage ≡ 4 → freeFrame p < total p) p calls
@@ -234,6 +239,7 @@ Claim-limits =
 
 pub record Guarantee : Type 0 where
   pub point3 : Claim-point3
+  pub listed : Claim-listed
   pub answers : Claim-answers
   pub turned-down : Claim-turned-down
   pub refused : Claim-refused
