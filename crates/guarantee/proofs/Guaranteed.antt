@@ -21,7 +21,7 @@ use Rattle.guarantee.proofs.Sum.{sum}
 use Rattle.guarantee.proofs.Once.{taken-out-once}
 use Rattle.guarantee.proofs.OneEffect.{one-effect}
 use Rattle.guarantee.proofs.Alone.{refused-alone}
-use Rattle.guarantee.proofs.Listed.{listed}
+use Rattle.guarantee.proofs.Listed.{listed, listed-along}
 use Rattle.guarantee.proofs.TurnedDown.{turned-down, refused}
 use Rattle.guarantee.proofs.Limits.{limits}
 use Rattle.guarantee.proofs.SetupDone.{setup-done}
@@ -29,14 +29,15 @@ use Rattle.guarantee.proofs.SetupDone.{setup-done}
 point3 : Claim-point3
 point3 s t c h e calls =
     let p = setupOf s t c h .pool in
-    let r = setup-done s t c h e .reached in
+    let first = setup-done s t c h e in
+    let r = first .reached in
     record {
       one-copy = one-copies p calls r;
       no-held-evicted = no-held-evicted p calls r;
       held-pinned = helds-pinned p calls r;
       taken-out-once = taken-out-once p calls r;
       sequential = sequential s t c h e calls;
-      one-effect = one-effect p calls r;
+      one-effect = one-effect p calls r (first .rests);
       refused-alone = refused-alone p calls r;
     }
 
@@ -51,8 +52,8 @@ answers s t c h e calls =
     record {
       in-range = throughout (λ q. valid q ≡ true) valid-reached p calls r;
       finds = throughout (λ q. (d : ℕ) → client q d .stage ≡ 4 → freeFrame q < total q) finds-frame p calls r;
-      listed = listed p calls r;
+      listed = listed-along p calls r;
     }
 
 pub guarantee : Guarantee
-guarantee = record { point3 = point3; answers = answers; turned-down = turned-down; refused = refused; sum = sum; limits = limits }
+guarantee = record { point3 = point3; listed = listed; answers = answers; turned-down = turned-down; refused = refused; sum = sum; limits = limits }

@@ -2,7 +2,7 @@
 -- every pool of a run is reached, from the setup on, and what holds of reached pools holds along the run
 pub mod SetupDone
 pub mod Along
--- what a call answers, by stage, of every pool; that it is turned down or is one move; the listed answers
+-- of every pool, a handed one too: what a call answers, by stage; that it is turned down or is one move; the listed answers
 pub mod Stages
 pub mod TurnedDown
 pub mod Listed

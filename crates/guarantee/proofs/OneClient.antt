@@ -44,6 +44,17 @@ client-after p x c s = go (turned-or-move p x) (ℕ-discrete c (caller x))
         let a = allowed p x r in
         mine (sym q) a e (ap (λ (o : Outcome). client (o .pool) c) e ∙ (ap (client (moved p x .pool)) q ∙ client-same p (caller x) (moveOf p x) s (a .here)))
 
+-- whether the call is a begin of this client that is done
+pub begins-or-not : (p : Pool) (x : Call) (c : ℕ) → Shape p → Dec (Begins c (eventOf p x))
+unfolding caller moveOf
+begins-or-not p x c s = go x (client-after p x c s)
+  where
+    go : (x : Call) → ClientAfter p x c → Dec (Begins c (eventOf p x))
+    go x (same e d) = no (λ b. other-answer (sym (d (ap caller (b .1)) .1) ∙ b .2) tt)
+    go (Begin d g) (mine e a o n) = yes (g, ap (λ (i : ℕ). Begin i g) e, same-answer o)
+    go (Step d) (mine e a o n) = no (λ b. other-call (b .1) tt)
+    go (Release d g) (mine e a o n) = no (λ b. other-call (b .1) tt)
+
 -- ---- a resting client: it rests on, or its begin is done; its steps are turned down
 
 abbrev RestsOrBegins : Pool → Call → ℕ → Type 0

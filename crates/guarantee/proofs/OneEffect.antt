@@ -1,6 +1,7 @@
--- A granted request takes effect at exactly one action. Whether it has is told by the stage its client stands at, `pinsFound`: a step at which it
--- takes effect leads from a stage that says no to one that says yes, or grants at a stage that says no; every other step of a working client leaves
--- the answer as it is, and grants only where it is yes. Of the invariant only the arrays' lengths are used. Assumes nothing.
+-- A grant is begun before it in the run, as the clients rest at first, and takes effect at exactly one action after its begin. Whether it has is told
+-- by the stage its client stands at, `pinsFound`: a step at which it takes effect leads from a stage that says no to one that says yes, or grants at
+-- a stage that says no; every other step of a working client leaves the answer as it is, and grants only where it is yes. Of the invariant only the
+-- arrays' lengths are used. Assumes nothing.
 use mathlib.Core.Path.{_≡_, refl, sym, ap, subst, _∙_}
 use mathlib.Core.Logic.{_≢_, _⊎_, inl, inr}
 use mathlib.Core.Bool.{Bool, true, false, not, cond, _&&_, true≢false}
@@ -23,11 +24,11 @@ use Rattle.invariant.proofs.Allowed.{may-begin, may-release}
 use Rattle.invariant.proofs.Calls.{reached-call}
 use Rattle.guarantee.specs.Runs.{Event, eventOf, events, At, Begins, GrantedTo}
 use Rattle.guarantee.specs.Sequential.{adding, admitting}
-use Rattle.guarantee.specs.Claims.{AnswersTo, TurnedDown, takesEffect, TakesEffect, OneEffect}
+use Rattle.guarantee.specs.Claims.{AnswersTo, TurnedDown, takesEffect, TakesEffect, SameRequest, ExactlyOne, OneEffect}
 use Rattle.guarantee.proofs.Along.{at-each}
 use Rattle.guarantee.proofs.Stages.{on-successors, on-grants, StageAnswer, goes, grants, refuses, sticks, stage-answer}
 use Rattle.guarantee.proofs.TurnedDown.{same-answer, same-stage, other-answer}
-use Rattle.guarantee.proofs.OneClient.{ClientAfter, same, mine, client-after, rest-unanswered}
+use Rattle.guarantee.proofs.OneClient.{ClientAfter, same, mine, client-after, begins-or-not, rest-unanswered}
 
 -- ---- one event of a working client
 
@@ -140,6 +141,10 @@ effects-last c false e es (inr m) = absurd (true≢false (sym (m .1)))
 abbrev NoBegin : ℕ → List Event → ℕ → Type 0
 NoBegin c es n = (m : ℕ) → m < n → At (Begins c) es m → ⊥
 
+-- a grant answers a request
+answers : (p : Pool) (calls : List Call) → Reached p → (c n : ℕ) → At (GrantedTo c) (events p calls) n → At (AnswersTo c) (events p calls) n
+answers p calls r c n g = at-each (GrantedTo c) (AnswersTo c) (λ _ _ _ g. (g .1, inl (g .0, g .2))) p calls r n g
+
 effects-from : (p : Pool) (calls : List Call) → Reached p → (c n : ℕ) → client p c .stage ≢ 0 → NoBegin c (events p calls) n
     → At (GrantedTo c) (events p calls) n → EffectsUpTo c (tookEffect p c) (events p calls) n
 unfolding events At
@@ -154,34 +159,82 @@ effects-from p (x ∷ calls) r c (suc n) z nb g =
     let q : Pool = callOf p x .pool in
     let later : NoBegin c (events q calls) n = λ m l. nb (suc m) (omega arith) in
     let ih = effects-from q calls (reached-call p x r) c n in
-    let answers = at-each (GrantedTo c) (AnswersTo c) (λ _ _ _ g. (g .1, inl (g .0, g .2))) q calls (reached-call p x r) n g in
-    let end : client q c .stage ≢ 0 = λ w. rest-unanswered q calls (reached-call p x r) c n w later answers in
+    let end : client q c .stage ≢ 0 = λ w. rest-unanswered q calls (reached-call p x r) c n w later (answers q calls (reached-call p x r) c n g) in
     elim (working-event p x c r z) [
       | works w _ m ↦ effects-more c (tookEffect p c) (tookEffect q c) (eventOf p x) (events q calls) n m (ih w later g)
       | granted w _ ↦ absurd (end w)
       | refused w _ ↦ absurd (end w)
     ]
 
-pub one-effect : (p : Pool) (calls : List Call) → Reached p → OneEffect (events p calls)
-unfolding events At EffectsUpTo
-one-effect p [] r c k n b l g sm = absurd b
-one-effect p (x ∷ calls) r c k zero b l g sm = absurd (not-suc-le-zero l)
-one-effect p (x ∷ calls) r c zero (suc n) b l g sm =
-    let q : Pool = callOf p x .pool in
-    let one : client q c .stage ≡ 1 = begun p x c r b in
-    let h = subst (λ (i : ℕ). EffectsUpTo c (pinsFound i) (events q calls) n) one
-    (effects-from q calls (reached-call p x r) c n (λ z. omega arith) (λ m i. sm (suc m) (omega arith) (omega arith)) g) in (
-      suc (h .0),
-      omega arith,
-      omega (arith, h .1),
-      h .2,
-      λ i. elim i [ zero ↦ λ z _ _. absurd (not-suc-le-zero z) | suc i ↦ λ _ z y. ap suc (h .3 i (le-of-suc-le-suc z) y) ],
-    )
-one-effect p (x ∷ calls) r c (suc k) (suc n) b l g sm =
-    let h = one-effect (callOf p x .pool) calls (reached-call p x r) c k n b (le-of-suc-le-suc l) g (λ m y z. sm (suc m) (omega arith) (omega arith)) in (
-      suc (h .0),
-      omega (arith, h .1),
-      omega (arith, h .2),
-      h .3,
-      λ i. elim i [ zero ↦ λ z _ _. absurd (not-suc-le-zero z) | suc i ↦ λ y z w. ap suc (h .4 i (le-of-suc-le-suc y) (le-of-suc-le-suc z) w) ],
-    )
+-- the request of a grant at event n is begun at an event before, and takes effect once from there on
+abbrev BegunAndOnce : ℕ → List Event → ℕ → Type 0
+BegunAndOnce c es n = (k : ℕ) × (k < n) × At (Begins c) es k × SameRequest es c k n × ExactlyOne (TakesEffect c) es k n
+
+-- one event more in front: the begin is a later one, it is this one, or there is none
+begun-later : (c : ℕ) (e : Event) (es : List Event) (n : ℕ) → BegunAndOnce c es n → BegunAndOnce c (e ∷ es) (suc n)
+unfolding At
+begun-later c e es n h = (
+  suc (h .0),
+  omega (arith, h .1),
+  h .2,
+  λ m. elim m [ zero ↦ λ l _ _. not-suc-le-zero l | suc m ↦ λ l g b. h .3 m (le-of-suc-le-suc l) (le-of-suc-le-suc g) b ],
+  (
+    suc (h .4 .0),
+    omega (arith, h .4 .1),
+    omega (arith, h .4 .2),
+    h .4 .3,
+    λ i. elim i [ zero ↦ λ l _ _. absurd (not-suc-le-zero l) | suc i ↦ λ l g w. ap suc (h .4 .4 i (le-of-suc-le-suc l) (le-of-suc-le-suc g) w) ],
+  ),
+)
+
+begun-now : (c : ℕ) (e : Event) (es : List Event) (n : ℕ) → Begins c e → NoBegin c es n → EffectsUpTo c false es n → BegunAndOnce c (e ∷ es) (suc n)
+unfolding At EffectsUpTo
+begun-now c e es n b nb h = (
+  0,
+  omega arith,
+  b,
+  λ m. elim m [ zero ↦ λ l _ _. not-suc-le-zero l | suc m ↦ λ _ g. nb m (le-of-suc-le-suc g) ],
+  (
+    suc (h .0),
+    omega arith,
+    omega (arith, h .1),
+    h .2,
+    λ i. elim i [ zero ↦ λ l _ _. absurd (not-suc-le-zero l) | suc i ↦ λ _ g w. ap suc (h .3 i (le-of-suc-le-suc g) w) ],
+  ),
+)
+
+no-begin : (c : ℕ) (e : Event) (es : List Event) (n : ℕ) → (Begins c e → ⊥) → NoBegin c es n → NoBegin c (e ∷ es) (suc n)
+unfolding At
+no-begin c e es n d nb = λ m. elim m [ zero ↦ λ _. d | suc m ↦ λ l. nb m (le-of-suc-le-suc l) ]
+
+-- a grant has its begin in the run, or none of the client's is done there before it
+begun-or-not : (p : Pool) (calls : List Call) → Reached p → (c n : ℕ) → At (GrantedTo c) (events p calls) n
+    → BegunAndOnce c (events p calls) n ⊎ NoBegin c (events p calls) n
+unfolding events At
+begun-or-not p [] r c n g = absurd g
+begun-or-not p (x ∷ calls) r c zero g = inr (λ m l _. not-suc-le-zero l)
+begun-or-not p (x ∷ calls) r c (suc n) g =
+    elim (begun-or-not q calls (reached-call p x r) c n g) [
+      | inl h ↦ inl (begun-later c (eventOf p x) (events q calls) n h)
+      | inr nb ↦ here nb (begins-or-not p x c (r .shape))
+    ]
+  where
+    q : Pool
+    q = callOf p x .pool
+
+    here : NoBegin c (events q calls) n → Dec (Begins c (eventOf p x))
+        → BegunAndOnce c (eventOf p x ∷ events q calls) (suc n) ⊎ NoBegin c (eventOf p x ∷ events q calls) (suc n)
+    here nb (yes b) =
+        let one : client q c .stage ≡ 1 = begun p x c r b in
+        inl (begun-now c (eventOf p x) (events q calls) n b nb
+        (subst (λ (i : ℕ). EffectsUpTo c (pinsFound i) (events q calls) n) one
+        (effects-from q calls (reached-call p x r) c n (λ z. omega arith) nb g)))
+    here nb (no d) = inr (no-begin c (eventOf p x) (events q calls) n d nb)
+
+-- from a pool whose clients rest: there no client is granted anything before it begins
+pub one-effect : (p : Pool) (calls : List Call) → Reached p → ((c : ℕ) → client p c .stage ≡ 0) → OneEffect (events p calls)
+one-effect p calls r rests c n g =
+    elim (begun-or-not p calls r c n g) [
+      | inl h ↦ h
+      | inr nb ↦ absurd (rest-unanswered p calls r c n (rests c) nb (answers p calls r c n g))
+    ]

@@ -1,5 +1,5 @@
--- The claims are not empty: in one run an eviction at 14 is taken out of its slot, and a request takes effect; in another a request alone is refused
--- by 15. Both are short runs from a setup of one slot and one client, and are computed. Assumes nothing.
+-- The claims are not empty: in one run an eviction at 14 is taken out of its slot, and a request takes effect and is granted; in another a request
+-- alone is refused by 15. Both are short runs from a setup of one slot and one client, and are computed. Assumes nothing.
 use mathlib.Core.Path.{_≡_, refl, sym, ap, subst}
 use mathlib.Core.Logic.{_⊎_, inl, inr}
 use mathlib.Core.List.{List, _∷_, _++_}
@@ -25,7 +25,7 @@ use Rattle.pool.specs.declared.Pool.{Pool}
 use Rattle.pool.specs.declared.Client.{Client}
 use Rattle.pool.specs.declared.Call.the-variants.{Begin, Step}
 use Rattle.invariant.proofs.After.{client-past}
-use Rattle.guarantee.specs.Runs.{Event, events, At, Begins}
+use Rattle.guarantee.specs.Runs.{Event, events, At, Begins, GrantedTo}
 use Rattle.guarantee.specs.Claims.{Evicts, TakenOut, takesEffect, TakesEffect, TurnedDown, Alone}
 use Rattle.guarantee.proofs.TurnedDown.{other-call}
 
@@ -61,10 +61,14 @@ taken-out =
       not-anew = λ m a b _. let none : ⊥ = omega arith in none;
     }
 
--- the request that is begun at event 10 takes effect at event 22
+-- the request that is begun at event 10 takes effect and is granted at event 22
 pub takes-effect : At (TakesEffect 0) swap-run 22
 unfolding computing
 takes-effect = (refl, tt)
+
+pub grants-frame : At (GrantedTo 0) swap-run 22
+unfolding computing
+grants-frame = (1, refl, refl)
 
 -- page 9 is held in the one slot: the request for page 5 that is begun at event 9 is refused by 15 at event 15
 abbrev pub refused-run : List Event

@@ -92,9 +92,8 @@ pub data Follows : Pool → Sequential → List Call → Type 0 where
   at-call : {p : Pool} {q q′ : Sequential} {x : Call} {calls : List Call}
       → SamePages p q → SameStages p q → Rule q x (callOf p x .answer) q′ → Follows (callOf p x .pool) q′ calls → Follows p q (x ∷ calls)
 
--- "each grant takes effect at exactly one action after its begin and no later than its answer"; "A grant takes effect where it is added or
--- admitted.": the steps of which the sequential pool's rules `adds` and `admits` speak, by the stage and the answer, which both pools share
--- (`SameStages`, and the answer in `at-call`)
+-- "A grant takes effect where it is added or admitted.": the steps of which the sequential pool's rules `adds` and `admits` speak, by the stage and
+-- the answer, which both pools share (`SameStages`, and the answer in `at-call`)
 unfoldable pub takesEffect : ℕ → Answer → Bool
 takesEffect i (Done n) = false
 takesEffect i (Working j) = adding i j
@@ -112,9 +111,12 @@ SameRequest es c k n = (m : ℕ) → k < m → m < n → At (Begins c) es m → 
 abbrev pub ExactlyOne : (Event → Type 0) → List Event → ℕ → ℕ → Type 0
 ExactlyOne P es k n = (j : ℕ) × (k < j) × (j ≤ n) × At P es j × ((i : ℕ) → k < i → i ≤ n → At P es i → i ≡ j)
 
+-- "each grant takes effect at exactly one action after its begin and no later than its answer": the answer is event n, and the begin is the
+-- client's last that is done before it, event k
 abbrev pub OneEffect : List Event → Type 0
 OneEffect es =
-    (c k n : ℕ) → At (Begins c) es k → k < n → At (GrantedTo c) es n → SameRequest es c k n → ExactlyOne (TakesEffect c) es k n
+    (c n : ℕ) → At (GrantedTo c) es n
+    → (k : ℕ) × (k < n) × At (Begins c) es k × SameRequest es c k n × ExactlyOne (TakesEffect c) es k n
 
 -- ---- e. "A request in the list that is begun and answered while all other benches rest and release nothing is refused for want of a frame
 -- exactly when, at its begin, its page is absent and every slot names a held frame."
@@ -159,9 +161,9 @@ pub record Point3 (p : Pool) (q : Sequential) (calls : List Call) : Type 0 where
 abbrev pub Claim-point3 : Type 0
 Claim-point3 = (s t c h : ℕ) → setupOf s t c h .answer ≡ Done s → (calls : List Call) → Point3 (setupOf s t c h .pool) (start s t) calls
 
--- ---- answers: "Every call .. ends with a listed answer"; "pools that come from setup and calls never meet this" (8)
+-- ---- answers: "done, a grant, a stage or a numbered refusal"
 
--- a stage, a frame or a refusal number that the call can be answered by
+-- a stage, a frame or a refusal number, 8 aside, that the call can be answered by
 unfoldable pub Listed : Pool → Call → Answer → Type 0
 Listed p (Begin c g) a = (a ≡ Done g) ⊎ ((a ≡ Refused 9) ⊎ ((a ≡ Refused 10) ⊎ (a ≡ Refused 12)))
 Listed p (Step c) a =
@@ -169,7 +171,12 @@ Listed p (Step c) a =
     ⊎ ((a ≡ Refused 9) ⊎ ((a ≡ Refused 11) ⊎ (a ≡ Refused 15))))
 Listed p (Release c g) a = (a ≡ Done g) ⊎ ((a ≡ Refused 9) ⊎ ((a ≡ Refused 10) ⊎ (a ≡ Refused 13)))
 
--- no range is broken in any pool of the run, a client at stage 4 finds a frame, and every answer is a listed one, so never 8
+-- "Every call, on all input, ends with a listed answer": of every pool, from wherever it was handed, one of these or 8
+abbrev pub Claim-listed : Type 0
+Claim-listed = (p : Pool) (x : Call) → (callOf p x .answer ≡ Refused 8) ⊎ Listed p x (callOf p x .answer)
+
+-- "pools that come from setup and calls never meet this" (8): no range is broken in any pool of the run, a client at stage 4 finds a frame, and every
+-- answer is a listed one, so never 8
 pub record Answered (p : Pool) (calls : List Call) : Type 0 where
   pub in-range : Throughout (λ p. valid p ≡ true) p calls
   pub finds : Throughout (λ p. (c : ℕ) → client p c .stage ≡ 4 → freeFrame p < total p) p calls
@@ -232,6 +239,7 @@ Claim-limits =
 
 pub record Guarantee : Type 0 where
   pub point3 : Claim-point3
+  pub listed : Claim-listed
   pub answers : Claim-answers
   pub turned-down : Claim-turned-down
   pub refused : Claim-refused
