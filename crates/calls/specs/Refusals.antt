@@ -1,9 +1,8 @@
 -- By which of document 01's numbers each call can be refused. Assumes nothing.
-use mathlib.Core.Path.{_≡_, refl}
-use mathlib.Core.Bool.{Bool, true, false, _||_}
+use mathlib.Core.Path.{refl}
+use mathlib.Core.Bool.{Bool}
 use mathlib.Core.List.{List, [], _∷_}
 use Prim.Native.Nat.{ℕ, zero, suc}
-use lib.Dec.{eqb}
 use lib.ListN.{getD}
 use Rattle.pool.specs.Choose.{choose}
 use Rattle.pool.specs.Answers.{refusalOf}
@@ -12,7 +11,7 @@ use Rattle.pool.specs.Moves.{granted}
 use Rattle.pool.specs.Stages.{Stage, stages, noStage, stageMove}
 use Rattle.pool.specs.Stages.{busyVisit, evictOwn, stage1, stage2, stage3, stage4, stage5, stage6, stage7, stage8, stage9, stage10, stage11, stage12}
 use Rattle.pool.specs.Stages.{stage13, stage14, stage15, stage16, stage17, stage18, stage19, stage20, stage21, stage22, stage23}
-use Rattle.pool.specs.Calls.{setupOf, refusalAt, refusal, beginMove, releaseMove, moveOf, finished, callOf}
+use Rattle.pool.specs.Calls.{setupOf, refusalAt, refusal, releaseMove, moveOf, finished, callOf}
 use Rattle.laws.specs.Choices.{by-test}
 use Rattle.answers.specs.Among.{Among}
 use Rattle.pool.specs.declared.Pool.{Pool}

@@ -4,7 +4,7 @@ ghost use mathlib.Core.Path.{_≡_};
 ghost use mathlib.Core.List.{[], _∷_};
 ghost use Rattle.pool.specs.Answers.{refusalOf};
 ghost use Rattle.pool.specs.Calls.{fresh, setupOf, callOf};
-ghost use Rattle.pool.specs.declared.Call.the-variants.{Begin, Step, Release};
+ghost use Rattle.pool.specs.declared.Call.the-variants.{Begin, Release};
 ghost use Rattle.answers.specs.Among.{Among};
 ghost use Rattle.calls.specs.Tallied.{steppedOf};
 use pool::Answer;

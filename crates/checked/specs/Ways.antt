@@ -1,12 +1,12 @@
 -- The ways that a call goes, each by what the code has tested on it. Assumes nothing.
 use mathlib.Core.Path.{_≡_, refl, _∙_, sym, ap}
-use mathlib.Core.Bool.{Bool, true, false, not, true≢false}
+use mathlib.Core.Bool.{Bool, true, false, not}
 use native.Mathlib.Omega.{arith}
 use Prim.Native.Nat.{ℕ, _<_, _≤_}
 use lib.Dec.{eqb, ltb}
 use lib.ListN.{getD}
 use borrow.Author.Tests.{lt-ltb, le-ltb, ltb-true, eq-eqb, ne-eqb}
-use Rattle.pool.specs.Choose.{choose, both}
+use Rattle.pool.specs.Choose.{both}
 use Rattle.pool.specs.State.{clientCount, client, no-client}
 use Rattle.pool.specs.Answers.{refusalOf}
 use Rattle.pool.specs.Apply.{apply}
@@ -16,9 +16,7 @@ use Rattle.laws.specs.Choices.{chosen, passed}
 use Rattle.laws.specs.Elements.{client-of-pool}
 use Rattle.pool.specs.declared.Pool.{Pool}
 use Rattle.pool.specs.declared.Call.{Call}
-use Rattle.pool.specs.declared.Client.{Client}
 use Rattle.pool.specs.declared.Move.{Move}
-use Rattle.pool.specs.declared.Outcome.{Outcome}
 
 -- ---- before the action
 

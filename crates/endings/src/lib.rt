@@ -1,7 +1,7 @@
 // How an action ends: the moves that several stages share, and those of a begin and a release. A move says what an action does; it changes
 // nothing by itself.
 ghost use mathlib.Core.Path.{_≡_};
-ghost use Prim.Native.Nat.{_-_, _<_, _≤_};
+ghost use Prim.Native.Nat.{_-_, _<_};
 ghost use Rattle.pool.specs.Stages.{around, raised, nextSlot, busyVisit, evictOwn, grantedFound};
 ghost use Rattle.pool.specs.State.{resting};
 ghost use Rattle.pool.specs.Moves.{worksAs, works, stuck, granted};

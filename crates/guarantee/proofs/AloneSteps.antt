@@ -9,7 +9,7 @@ use lib.ListN.{getD}
 use borrow.Author.Tests.{ne-eqb, eq-eqb, lt-ltb}
 use Rattle.pool.specs.Choose.{choose}
 use Rattle.pool.specs.Answers.{refusalOf}
-use Rattle.pool.specs.State.{none, evicted, pinned, clientCount, resting, slot, page, pins, count, client}
+use Rattle.pool.specs.State.{none, evicted, pinned, clientCount, slot, page, pins, count, client}
 use Rattle.pool.specs.Table.{lookup, entryOf, unusedEntry}
 use Rattle.pool.specs.Frames.{freeFrame}
 use Rattle.pool.specs.Moves.{withOwn, withFound, withVictim, withSeen, withPlace, sweeping, works, worksAs, stuck, granted, refused15}
@@ -21,10 +21,9 @@ use Rattle.pool.specs.declared.Pool.{Pool}
 use Rattle.pool.specs.declared.Client.{Client}
 use Rattle.pool.specs.declared.Move.{Move}
 use Rattle.pool.specs.declared.Call.the-variants.{Begin, Step}
-use Rattle.pool.specs.declared.Answer.the-variants.{Done, Granted}
+use Rattle.pool.specs.declared.Answer.the-variants.{Done}
 use Rattle.pool.specs.declared.Counted.{Counted}
 use Rattle.pool.specs.declared.Counted.the-variants.{Hit, Admitted, Drop}
-use Rattle.pool.specs.declared.GrantChange.the-variants.{Open}
 use Rattle.pool.specs.declared.Write.{Write}
 use Rattle.pool.specs.declared.Write.the-variants.{Keep, PutSlot, PutPins, PutCount, TakeFrame, PutEntry, PutHand, PutFree}
 use Rattle.laws.specs.Choices.{chosen, passed}

@@ -10,7 +10,7 @@ use lib.Dec.{eqb}
 use lib.ListN.{getD}
 use lib.Seq.{getD-set-other}
 use Rattle.pool.specs.State.{none, evicted, slot, pins, client, grantPage, grantFrame}
-use Rattle.pool.specs.Grants.{holds, held}
+use Rattle.pool.specs.Grants.{held}
 use Rattle.pool.specs.Calls.{callOf}
 use Rattle.pool.specs.declared.Pool.{Pool}
 use Rattle.pool.specs.declared.Call.{Call}

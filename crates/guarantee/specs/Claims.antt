@@ -23,7 +23,7 @@ use Rattle.pool.specs.declared.Call.the-variants.{Begin, Step, Release}
 use Rattle.pool.specs.declared.Answer.{Answer}
 use Rattle.pool.specs.declared.Answer.the-variants.{Done, Working, Granted, Refused}
 use Rattle.pool.specs.declared.Counted.the-variants.{Nothing}
-use Rattle.guarantee.specs.Runs.{Event, eventOf, events, At, Throughout, StepAt, Begins, GrantedTo}
+use Rattle.guarantee.specs.Runs.{Event, events, At, Throughout, StepAt, Begins, GrantedTo}
 use Rattle.guarantee.specs.Sequential.{Sequential, Keeps, seqClient, start, Rule, adding, admitting}
 
 -- ---- a. "any two grants of one page that were ever open together name the same frame"

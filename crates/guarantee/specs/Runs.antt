@@ -6,9 +6,9 @@ use Rattle.pool.specs.State.{client}
 use Rattle.pool.specs.Calls.{callOf}
 use Rattle.pool.specs.declared.Pool.{Pool}
 use Rattle.pool.specs.declared.Call.{Call}
-use Rattle.pool.specs.declared.Call.the-variants.{Begin, Step, Release}
+use Rattle.pool.specs.declared.Call.the-variants.{Begin, Step}
 use Rattle.pool.specs.declared.Answer.{Answer}
-use Rattle.pool.specs.declared.Answer.the-variants.{Done, Working, Granted, Refused}
+use Rattle.pool.specs.declared.Answer.the-variants.{Done, Granted}
 use Rattle.pool.specs.declared.Counted.{Counted}
 
 -- one call of a run: the pool it was handed, what was asked and answered, what the tally counted, and the pool it returned

@@ -2,9 +2,9 @@
 -- fed the calls alone". `Rule q x a q′` says that from state q it may answer call x by a and go on as q′. Assumes nothing.
 use mathlib.Core.Path.{_≡_}
 use mathlib.Core.Logic.{_≢_}
-use mathlib.Core.Bool.{Bool, true, false, not, _||_, _&&_}
+use mathlib.Core.Bool.{Bool, false, not, _||_, _&&_}
 use mathlib.Core.List.{List, [], _∷_}
-use Prim.Native.Nat.{ℕ, suc, _≤_, _<_}
+use Prim.Native.Nat.{ℕ, _≤_, _<_}
 use lib.Dec.{T, eqb, ltb}
 use lib.ListN.{length, getD, set, replicate}
 use Rattle.pool.specs.Choose.{choose}

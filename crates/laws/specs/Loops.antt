@@ -1,14 +1,13 @@
 -- How a loop that tests every number below n and stops at the first that fails gives `every`; the same for a loop that looks for the first
 -- number that passes. Assumes nothing.
 use mathlib.Core.Path.{_≡_, refl, _∙_, sym, ap}
-use mathlib.Core.Bool.{Bool, true, false, not, true≢false}
-use native.Mathlib.Decide.{ℕ-discrete}
+use mathlib.Core.Bool.{Bool, true, false, not}
 use native.Mathlib.Numerals.{add-one}
 use native.Mathlib.Omega.{arith}
 use Prim.Native.Nat.{ℕ, zero, suc, _+_, _-_, _<_, _≤_}
 use borrow.Author.Tests.{not-true, not-false}
 use Rattle.pool.specs.Choose.{choose, both, scan, every}
-use Rattle.laws.specs.Choices.{by-test, scan-hit, scan-miss, scan-end, scan-start}
+use Rattle.laws.specs.Choices.{scan-hit, scan-miss, scan-end, scan-start}
 
 -- The loop's invariant: what is left of the search from i on is all of it.
 pub record Left {A : Type 0} (test : ℕ → Bool) (found : ℕ → A) (missing : A) (n i : ℕ) : Type 0 where

@@ -1,5 +1,5 @@
 -- What the code reads of the arrays that it is lent is what the definitions read of the pool. Assumes nothing.
-use mathlib.Core.Path.{_≡_, refl, sym, ap}
+use mathlib.Core.Path.{_≡_, sym, ap}
 use mathlib.Core.Logic.{_⊎_, inl, inr, ⊎-elim}
 use mathlib.Core.List.{List}
 use Prim.Native.Nat.{ℕ, zero, suc, _<_}
@@ -17,7 +17,7 @@ use Rattle.pool.specs.declared.Call.the-variants.{Begin, Step, Release}
 use Rattle.pool.specs.declared.Client.{Client}
 use Rattle.pool.specs.declared.Pool.{Pool}
 use Rattle.moves.specs.declared.Numbers.{Numbers}
-use Rattle.moves.specs.Lends.{Lends, numbersOf, Asks}
+use Rattle.moves.specs.Lends.{Lends, Asks}
 
 -- ---- the move of a client that stands at stage s
 

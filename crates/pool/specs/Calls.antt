@@ -1,7 +1,7 @@
 -- The calls: what each is turned down by, in checking order, the move of one that is not, and check 8 again after it. Assumes nothing.
-use mathlib.Core.Bool.{Bool, not}
+use mathlib.Core.Bool.{not}
 use mathlib.Core.List.{List, [], _∷_}
-use Prim.Native.Nat.{ℕ, _-_, _*_}
+use Prim.Native.Nat.{ℕ, _-_}
 use lib.Dec.{eqb, ltb}
 use lib.ListN.{replicate}
 use Rattle.pool.specs.Choose.{choose, both}

@@ -11,7 +11,7 @@ use Rattle.pool.specs.Choose.{choose}
 use Rattle.pool.specs.State.{none, evicted, pinned, slot, pins, count, client}
 use Rattle.pool.specs.Table.{lookup}
 use Rattle.pool.specs.Calls.{setupOf, callOf, poolAfter}
-use Rattle.pool.specs.Schedule.{Ran, ran}
+use Rattle.pool.specs.Schedule.{ran}
 use Rattle.pool.specs.declared.Pool.{Pool}
 use Rattle.pool.specs.declared.Call.{Call}
 use Rattle.pool.specs.declared.Call.the-variants.{Begin, Step, Release}

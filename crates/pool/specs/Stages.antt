@@ -5,7 +5,7 @@ use Prim.Native.Nat.{ℕ, _+_, _-_, _%_}
 use lib.Dec.{eqb, ltb}
 use lib.ListN.{getD}
 use Rattle.pool.specs.Choose.{choose}
-use Rattle.pool.specs.State.{none, evicted, pinned, slot, page, pins, count, entryFrame}
+use Rattle.pool.specs.State.{none, evicted, pinned, slot, page, pins, count}
 use Rattle.pool.specs.Table.{entryOf, lookup, unusedEntry}
 use Rattle.pool.specs.Frames.{freeFrame}
 use Rattle.pool.specs.Moves.{withOwn, withFound, withVictim, withSeen, withPlace, sweeping, worksAs, works, stuck, granted, refused15}

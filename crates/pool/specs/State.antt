@@ -1,6 +1,5 @@
 -- Reading the pool. Each accessor looks only at the part of an array that the pool has, by its own S and T, and gives a neutral value past
 -- it: no frame, an evicted frame, a resting client without grants. Assumes nothing.
-use mathlib.Core.Bool.{Bool}
 use mathlib.Core.List.{List}
 use Prim.Native.Nat.{ℕ, _+_, _*_}
 use lib.Dec.{ltb}

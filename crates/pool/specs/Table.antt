@@ -2,7 +2,7 @@
 use mathlib.Core.Bool.{Bool, not}
 use Prim.Native.Nat.{ℕ}
 use lib.Dec.{eqb}
-use Rattle.pool.specs.Choose.{choose, both, scan, howMany}
+use Rattle.pool.specs.Choose.{both, scan, howMany}
 use Rattle.pool.specs.State.{none, evicted, total, pins, entryPage, entryFrame}
 use Rattle.pool.specs.declared.Pool.{Pool}
 

@@ -1,6 +1,6 @@
 -- Check 8 of a pool: "whose numbers .. break the ranges above, where one bench's grants of one page name different frames". It looks only at
 -- the slots, frames, places of the table, clients and grants that the pool has. Assumes nothing.
-use mathlib.Core.Bool.{Bool, true, false, not, _&&_, _||_}
+use mathlib.Core.Bool.{Bool, not, _&&_, _||_}
 use Prim.Native.Nat.{ℕ}
 use lib.Dec.{eqb, ltb, leb}
 use Rattle.pool.specs.Choose.{choose, both, either, every}

@@ -8,7 +8,7 @@ use lib.Dec.{eqb}
 use borrow.Author.Tests.{eq-eqb, ne-eqb}
 use Rattle.pool.specs.Choose.{choose, both, either, scan, some}
 use Rattle.pool.specs.State.{none, clientCount, total, within, client, entryPage, entryFrame, ofClient, grantPage, grantFrame}
-use Rattle.pool.specs.Table.{maps, entryOf, lookup, unusedEntry}
+use Rattle.pool.specs.Table.{maps, entryOf, unusedEntry}
 use Rattle.pool.specs.Grants.{grantOf, holds}
 use Rattle.pool.specs.Frames.{names, firstTried}
 use Rattle.laws.specs.Choices.{by-test}

@@ -1,6 +1,6 @@
 -- The tests of a place of the table and of a client's grant, over the arrays that are lent; and the same by the numbers that stand there, where
 -- the place is in range. Assumes nothing.
-use mathlib.Core.Path.{_≡_, refl, sym}
+use mathlib.Core.Path.{_≡_, refl}
 use mathlib.Core.Bool.{Bool, true, false}
 use mathlib.Core.List.{List}
 use native.Mathlib.Omega.{arith}

@@ -3,8 +3,7 @@
 use mathlib.Core.Path.{_≡_, refl, sym, ap, _∙_}
 use mathlib.Core.List.{List, [], _∷_, map}
 use Prim.Native.Nat.{ℕ}
-use Rattle.pool.specs.Choose.{choose}
-use Rattle.pool.specs.Calls.{turnedDown, setupOf, moveOf, releaseMove, finished, callOf, poolAfter}
+use Rattle.pool.specs.Calls.{setupOf, moveOf, releaseMove, finished, callOf, poolAfter}
 use Rattle.pool.specs.Tallies.{tallied, zeroTally}
 use Rattle.pool.specs.declared.Pool.{Pool}
 use Rattle.pool.specs.declared.Tally.{Tally}
@@ -18,9 +17,9 @@ use Rattle.pool.specs.declared.Counted.the-variants.{Nothing}
 use Rattle.laws.specs.Choices.{by-test}
 use Rattle.calls.specs.declared.Stepped.{Stepped}
 use Rattle.guarantee.specs.Runs.{Event, events}
-use Rattle.guarantee.specs.Claims.{Point3, tallyOf, BelowLargest}
+use Rattle.guarantee.specs.Claims.{tallyOf}
 use Rattle.guarantee.proofs.Guaranteed.{guarantee}
-use Rattle.tie.specs.Ties.{Code, Promised, Fits, AllFit, made, Played, played, Claim-tied, Claim-any-tally, Claim-code, Claim-lent, Tied}
+use Rattle.tie.specs.Ties.{Code, Promised, Fits, AllFit, made, played, Claim-tied, Claim-any-tally, Claim-code, Claim-lent, Tied}
 
 -- a call whose move counts nothing counts nothing
 uncounted : (p : Pool) (x : Call) → moveOf p x .counted ≡ Nothing → callOf p x .counted ≡ Nothing

@@ -2,13 +2,11 @@
 -- nothing.
 use borrow.Author.Needs.{needs}
 use mathlib.Core.Path.{_≡_, _∙_, sym, ap}
-use mathlib.Core.Bool.{true, false}
 use borrow.Author.Tests.{not-true, not-false}
 use native.Mathlib.Omega.{arith}
 use Rattle.pool.specs.Answers.{refusalOf}
 use Rattle.pool.specs.Valid.{valid}
 use Rattle.pool.specs.declared.Pool.{Pool}
-use Rattle.pool.specs.declared.Outcome.{Outcome}
 use Rattle.moves.specs.Ready.{slots-fit, clients-fit}
 use Rattle.checked.specs.Ways.{stays, breaks, keeps}
 use Rattle.checked.proofs.finish.Statement.{statement}

@@ -1,10 +1,10 @@
 -- `read` is `reading`; by the definition a refusal is one of 3 to 7. Assumes nothing.
-use mathlib.Core.Path.{_≡_, sym, ap, _∙_}
+use mathlib.Core.Path.{ap, _∙_}
 use borrow.Author.Needs.{needs}
 use denote.Ref.{now}
 use Rattle.pool.specs.Answers.{unreadOf}
 use Rattle.pool.specs.declared.Reading.{Reading}
-use Rattle.answers.specs.Among.{Among, listed}
+use Rattle.answers.specs.Among.{listed}
 use Rattle.records.specs.Whole.{numbers, read-refusals}
 use Rattle.records.proofs.read.Statement.{statement}
 use Rattle.records.proofs.read.Tie as tie
