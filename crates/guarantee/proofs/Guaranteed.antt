@@ -22,6 +22,7 @@ use Rattle.guarantee.proofs.Once.{taken-out-once}
 use Rattle.guarantee.proofs.OneEffect.{one-effect}
 use Rattle.guarantee.proofs.Alone.{refused-alone}
 use Rattle.guarantee.proofs.Listed.{listed, listed-along}
+use Rattle.guarantee.proofs.GrantLists.{grant-lists}
 use Rattle.guarantee.proofs.TurnedDown.{turned-down, refused}
 use Rattle.guarantee.proofs.Limits.{limits}
 use Rattle.guarantee.proofs.SetupDone.{setup-done}
@@ -56,4 +57,14 @@ answers s t c h e calls =
     }
 
 pub guarantee : Guarantee
-guarantee = record { point3 = point3; listed = listed; answers = answers; turned-down = turned-down; refused = refused; sum = sum; limits = limits }
+guarantee =
+    record {
+      point3 = point3;
+      grants = grant-lists;
+      listed = listed;
+      answers = answers;
+      turned-down = turned-down;
+      refused = refused;
+      sum = sum;
+      limits = limits;
+    }

@@ -6,6 +6,8 @@ pub mod Along
 pub mod Stages
 pub mod TurnedDown
 pub mod Listed
+-- the clients' grants are those that the answers told them
+pub mod GrantLists
 -- claim d: the simulation relation; the sequential pool's pages, its clients, its number of pages
 pub mod SimulationRelation
 pub mod Frames

@@ -1,5 +1,6 @@
--- The claims are not empty: in one run an eviction at 14 is taken out of its slot, and a request takes effect and is granted; in another a request
--- alone is refused by 15. Both are short runs from a setup of one slot and one client, and are computed. Assumes nothing.
+-- The claims are not empty: in one run a grant is told and released, an eviction at 14 is taken out of its slot, and a request takes effect and is
+-- granted; in another a request alone is refused by 15. Both are short runs from a setup of one slot and one client, and are computed. Assumes
+-- nothing.
 use mathlib.Core.Path.{_≡_, refl, sym, ap, subst}
 use mathlib.Core.Logic.{_⊎_, inl, inr}
 use mathlib.Core.List.{List, _∷_, _++_}
@@ -25,7 +26,7 @@ use Rattle.pool.specs.declared.Pool.{Pool}
 use Rattle.pool.specs.declared.Client.{Client}
 use Rattle.pool.specs.declared.Call.the-variants.{Begin, Step}
 use Rattle.invariant.proofs.After.{client-past}
-use Rattle.guarantee.specs.Runs.{Event, events, At, Begins, GrantedTo}
+use Rattle.guarantee.specs.Runs.{Event, events, At, Begins, GrantedTo, Releases}
 use Rattle.guarantee.specs.Claims.{Evicts, TakenOut, takesEffect, TakesEffect, TurnedDown, Alone}
 use Rattle.guarantee.proofs.TurnedDown.{other-call}
 
@@ -44,6 +45,15 @@ computing = 0
 -- page 9 is admitted and released, and page 5 takes its slot: event 18 is the stage 14, event 19 the stage 15, event 22 the answer
 abbrev pub swap-run : List Event
 swap-run = events (setupOf 1 1 3 0 .pool) (admitAndRelease 9 ++ Begin 0 5 ∷ steps 0 12)
+
+-- page 9 is granted at event 8 and released at event 9
+pub told : At (GrantedTo 0) swap-run 8
+unfolding computing
+told = (0, refl, refl)
+
+pub ended : At (Releases 0) swap-run 9
+unfolding computing
+ended = (9, refl, refl)
 
 zero-one : _≡_ {A = ℕ} 0 1 → ⊥
 zero-one e = omega arith

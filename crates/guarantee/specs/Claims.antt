@@ -23,7 +23,7 @@ use Rattle.pool.specs.declared.Call.the-variants.{Begin, Step, Release}
 use Rattle.pool.specs.declared.Answer.{Answer}
 use Rattle.pool.specs.declared.Answer.the-variants.{Done, Working, Granted, Refused}
 use Rattle.pool.specs.declared.Counted.the-variants.{Nothing}
-use Rattle.guarantee.specs.Runs.{Event, events, At, Throughout, StepAt, Begins, GrantedTo}
+use Rattle.guarantee.specs.Runs.{Event, events, At, Throughout, StepAt, Begins, GrantedTo, Releases}
 use Rattle.guarantee.specs.Sequential.{Sequential, Keeps, seqClient, start, Rule, adding, admitting}
 
 -- ---- a. "any two grants of one page that were ever open together name the same frame"
@@ -161,6 +161,67 @@ pub record Point3 (p : Pool) (q : Sequential) (calls : List Call) : Type 0 where
 abbrev pub Claim-point3 : Type 0
 Claim-point3 = (s t c h : ℕ) → setupOf s t c h .answer ≡ Done s → (calls : List Call) → Point3 (setupOf s t c h .pool) (start s t) calls
 
+-- ---- the clients' grants: "a grant is open from its answer until a release ends it". `OneCopy` speaks of the grants that the pool lists for each client;
+-- here they are those that the answers told it and that it has not released.
+
+pub record OpenGrant : Type 0 where
+  pub page : ℕ
+  pub frame : ℕ
+
+module _ (c : ℕ) (e : Event) where
+  -- how many grants client c had before the call and has after it, and the one at place i, before and after
+  abbrev pub had : ℕ
+  had = client (e .before) c .held
+
+  abbrev pub has : ℕ
+  has = client (e .next) c .held
+
+  abbrev pub was : ℕ → OpenGrant
+  was i = record { page = grantPage (e .before) c i; frame = grantFrame (e .before) c i }
+
+  abbrev pub is : ℕ → OpenGrant
+  is i = record { page = grantPage (e .next) c i; frame = grantFrame (e .next) c i }
+
+  -- one grant more, the last: of the page that the client wanted, and on frame f
+  pub record GrantOpens (f : ℕ) : Type 0 where
+    pub one-more : has ≡ had + 1
+    pub new : is had ≡ record { page = client (e .before) c .page; frame = f }
+    pub others : (i : ℕ) → i < had → is i ≡ was i
+
+  -- one grant less: the one at a place, of page g. The last moves to its place, if it was not the last itself.
+  pub record GrantEnds (g : ℕ) : Type 0 where
+    pub one-less : had ≡ has + 1
+    pub place : ℕ
+    pub inside : place < had
+    pub of-page : was place .page ≡ g
+    pub moved : place < has → is place ≡ was has
+    pub others : (i : ℕ) → i < has → i ≢ place → is i ≡ was i
+
+  pub record GrantsStay : Type 0 where
+    pub as-many : has ≡ had
+    pub each : (i : ℕ) → is i ≡ was i
+
+  pub record GrantsAsTold : Type 0 where
+    -- "a grant is open from its answer": a step "granted (value: the frame)"
+    pub granted : (f : ℕ) → e .asked ≡ Step c → e .answer ≡ Granted f → GrantOpens f
+    -- "Release (bench, page) ends one grant"
+    pub released : (g : ℕ) → e .asked ≡ Release c g → e .answer ≡ Done g → GrantEnds g
+    -- "until a release ends it": every other call leaves them, the client's own or another's, whatever its answer
+    pub otherwise : (GrantedTo c e → ⊥) → (Releases c e → ⊥) → GrantsStay
+    -- "Begin: the bench wants the page"; after every other call a client that works worked before it, for the same page
+    pub begun : (g : ℕ) → e .asked ≡ Begin c g → e .answer ≡ Done g → client (e .next) c .page ≡ g
+    pub still-wants : (Begins c e → ⊥) → client (e .next) c .stage ≢ 0
+        → (client (e .before) c .stage ≢ 0) × (client (e .next) c .page ≡ client (e .before) c .page)
+
+-- "At setup .. every bench rests with no grants."
+pub record GrantLists (p : Pool) (calls : List Call) : Type 0 where
+  pub rests-at-first : (c : ℕ) → client p c .stage ≡ 0
+  pub none-at-first : (c : ℕ) → client p c .held ≡ 0
+  pub as-told : (n : ℕ) (e : Event) → At (λ x. x ≡ e) (events p calls) n → (c : ℕ) → GrantsAsTold c e
+
+abbrev pub Claim-grants : Type 0
+Claim-grants = (s t c h : ℕ) → setupOf s t c h .answer ≡ Done s → (calls : List Call) → GrantLists (setupOf s t c h .pool) calls
+
 -- ---- answers: "done, a grant, a stage or a numbered refusal"
 
 -- a stage, a frame or a refusal number, 8 aside, that the call can be answered by
@@ -239,6 +300,7 @@ Claim-limits =
 
 pub record Guarantee : Type 0 where
   pub point3 : Claim-point3
+  pub grants : Claim-grants
   pub listed : Claim-listed
   pub answers : Claim-answers
   pub turned-down : Claim-turned-down

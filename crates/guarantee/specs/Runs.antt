@@ -6,7 +6,7 @@ use Rattle.pool.specs.State.{client}
 use Rattle.pool.specs.Calls.{callOf}
 use Rattle.pool.specs.declared.Pool.{Pool}
 use Rattle.pool.specs.declared.Call.{Call}
-use Rattle.pool.specs.declared.Call.the-variants.{Begin, Step}
+use Rattle.pool.specs.declared.Call.the-variants.{Begin, Step, Release}
 use Rattle.pool.specs.declared.Answer.{Answer}
 use Rattle.pool.specs.declared.Answer.the-variants.{Done, Granted}
 use Rattle.pool.specs.declared.Counted.{Counted}
@@ -42,9 +42,12 @@ Throughout P p (x ∷ calls) = P p × Throughout P (callOf p x .pool) calls
 abbrev pub StepAt : ℕ → ℕ → Event → Type 0
 StepAt c i e = (e .asked ≡ Step c) × (client (e .before) c .stage ≡ i)
 
--- a begin of client c that is done; a step of client c that is granted
+-- a begin of client c that is done; a step of client c that is granted; a release of client c that is done
 abbrev pub Begins : ℕ → Event → Type 0
 Begins c e = (g : ℕ) × (e .asked ≡ Begin c g) × (e .answer ≡ Done g)
 
 abbrev pub GrantedTo : ℕ → Event → Type 0
 GrantedTo c e = (f : ℕ) × (e .asked ≡ Step c) × (e .answer ≡ Granted f)
+
+abbrev pub Releases : ℕ → Event → Type 0
+Releases c e = (g : ℕ) × (e .asked ≡ Release c g) × (e .answer ≡ Done g)

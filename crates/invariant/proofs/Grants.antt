@@ -137,17 +137,17 @@ module _ (p : Pool) (c : ℕ) (m : Move) (shape : Shape p) (here : c < clientCou
   frames-long : N ≤ length (p .«grant_frames»)
   frames-long = let a = shape .grant-frames in let b = shape .clients-high in omega arith
 
-  held-next : client q c .held ≡ m .next .held
+  pub held-next : client q c .held ≡ m .next .held
   held-next = ap (λ (k : Client). k .held) (client-same p c m shape here)
 
   -- ---- the acting client's: none changes
 
   module _ (e : m .grants ≡ Same) (s : m .next .held ≡ n) where
-    keep-page : (j : ℕ) → grantPage q c j ≡ grantPage p c j
+    pub keep-page : (j : ℕ) → grantPage q c j ≡ grantPage p c j
     unfolding apply grantPagesAfter grantPage
     keep-page j = rw (held-next, s, e) refl
 
-    keep-frame : (j : ℕ) → grantFrame q c j ≡ grantFrame p c j
+    pub keep-frame : (j : ℕ) → grantFrame q c j ≡ grantFrame p c j
     unfolding apply grantFramesAfter grantFrame
     keep-frame j = rw (held-next, s, e) refl
 
@@ -170,6 +170,22 @@ module _ (p : Pool) (c : ℕ) (m : Move) (shape : Shape p) (here : c < clientCou
     unfolding apply grantFramesAfter
     frame-opened = rw e refl
 
+    pub page-open-old : (j : ℕ) → j < n → grantPage q c j ≡ grantPage p c j
+    unfolding grantPage
+    page-open-old j h = rw (held-next ∙ s) (open-old N c _ _ 0 n mine pages-long g page-opened room j h)
+
+    pub frame-open-old : (j : ℕ) → j < n → grantFrame q c j ≡ grantFrame p c j
+    unfolding grantFrame
+    frame-open-old j h = rw (held-next ∙ s) (open-old N c _ _ none n mine frames-long f frame-opened room j h)
+
+    pub page-open-new : grantPage q c n ≡ g
+    unfolding grantPage
+    page-open-new = rw (held-next ∙ s) (open-new N c _ _ 0 n mine pages-long g page-opened room)
+
+    pub frame-open-new : grantFrame q c n ≡ f
+    unfolding grantFrame
+    frame-open-new = rw (held-next ∙ s) (open-new N c _ _ none n mine frames-long f frame-opened room)
+
     pub grantsOn-opens : (x : ℕ) → grantsOn q c x ≡ grantsOn p c x + one (eqb f x)
     unfolding grantsOn grantFrame
     grantsOn-opens x = rw (held-next ∙ s) (many-open N c _ _ none n mine frames-long f frame-opened room x)
@@ -189,6 +205,22 @@ module _ (p : Pool) (c : ℕ) (m : Move) (shape : Shape p) (here : c < clientCou
     unfolding apply grantFramesAfter
     frame-ended = rw e refl
 
+    pub page-end-old : (j : ℕ) → j < n - 1 → j ≢ a → grantPage q c j ≡ grantPage p c j
+    unfolding grantPage
+    page-end-old j h o = rw (held-next ∙ s) (end-old N c _ _ 0 n mine pages-long a page-ended low (few c) j h o)
+
+    pub frame-end-old : (j : ℕ) → j < n - 1 → j ≢ a → grantFrame q c j ≡ grantFrame p c j
+    unfolding grantFrame
+    frame-end-old j h o = rw (held-next ∙ s) (end-old N c _ _ none n mine frames-long a frame-ended low (few c) j h o)
+
+    pub page-end-moved : a < n - 1 → grantPage q c a ≡ grantPage p c (n - 1)
+    unfolding grantPage
+    page-end-moved h = rw (held-next ∙ s) (end-moved N c _ _ 0 n mine pages-long a page-ended low (few c) h)
+
+    pub frame-end-moved : a < n - 1 → grantFrame q c a ≡ grantFrame p c (n - 1)
+    unfolding grantFrame
+    frame-end-moved h = rw (held-next ∙ s) (end-moved N c _ _ none n mine frames-long a frame-ended low (few c) h)
+
     pub grantsOn-ends : (x : ℕ) → grantsOn q c x + one (eqb (grantFrame p c a) x) ≡ grantsOn p c x
     unfolding grantsOn grantFrame
     grantsOn-ends x = rw (held-next ∙ s) (many-end N c _ _ none n mine frames-long a frame-ended low (few c) x)
@@ -200,7 +232,7 @@ module _ (p : Pool) (c : ℕ) (m : Move) (shape : Shape p) (here : c < clientCou
   -- ---- the others' grants stay
 
   module _ (how : GrantsOk p c m) (d : ℕ) (other : d ≢ c) where
-    held-other : client q d .held ≡ client p d .held
+    pub held-other : client q d .held ≡ client p d .held
     held-other = ap (λ (k : Client). k .held) (client-other p c m d other)
 
     pages-put : GrantsOk p c m → Put N c (p .«grant_pages») (q .«grant_pages»)
@@ -239,28 +271,16 @@ module _ (p : Pool) (c : ℕ) (m : Move) (shape : Shape p) (here : c < clientCou
     past : m .next .held ≤ j → GrantFrom j
 
   pub grant-from : GrantsOk p c m → (j : ℕ) → GrantFrom j
-  unfolding grantPage grantFrame
   grant-from how j = by (decLt j (m .next .held))
     where
       opened : (g f : ℕ) (e : m .grants ≡ Open n g f) (s : m .next .held ≡ n + 1) (r : n < 8) → j < m .next .held → Dec (j ≡ n) → GrantFrom j
-      opened g f e s r h (yes w) =
-          rw w (new g f e
-          (rw (held-next ∙ s) (open-new N c _ _ 0 n mine pages-long g (page-opened g f e s r) r))
-          (rw (held-next ∙ s) (open-new N c _ _ none n mine frames-long f (frame-opened g f e s r) r)))
-      opened g f e s r h (no w) =
-          old j (omega arith)
-          (rw (held-next ∙ s) (open-old N c _ _ 0 n mine pages-long g (page-opened g f e s r) r j (omega arith)))
-          (rw (held-next ∙ s) (open-old N c _ _ none n mine frames-long f (frame-opened g f e s r) r j (omega arith)))
+      opened g f e s r h (yes w) = rw w (new g f e (page-open-new g f e s r) (frame-open-new g f e s r))
+      opened g f e s r h (no w) = let l : j < n = omega arith in old j l (page-open-old g f e s r j l) (frame-open-old g f e s r j l)
 
       ended : (a : ℕ) (e : m .grants ≡ End a (n - 1)) (s : m .next .held ≡ n - 1) (r : a < n) → j < m .next .held → Dec (j ≡ a) → GrantFrom j
       ended a e s r h (yes w) =
-          rw w (old (n - 1) (omega arith)
-          (rw (held-next ∙ s) (end-moved N c _ _ 0 n mine pages-long a (page-ended a e s r) r (few c) (omega arith)))
-          (rw (held-next ∙ s) (end-moved N c _ _ none n mine frames-long a (frame-ended a e s r) r (few c) (omega arith))))
-      ended a e s r h (no w) =
-          old j (omega arith)
-          (rw (held-next ∙ s) (end-old N c _ _ 0 n mine pages-long a (page-ended a e s r) r (few c) j (omega arith) w))
-          (rw (held-next ∙ s) (end-old N c _ _ none n mine frames-long a (frame-ended a e s r) r (few c) j (omega arith) w))
+          let l : a < n - 1 = omega arith in rw w (old (n - 1) (omega arith) (page-end-moved a e s r l) (frame-end-moved a e s r l))
+      ended a e s r h (no w) = let l : j < n - 1 = omega arith in old j (omega arith) (page-end-old a e s r j l w) (frame-end-old a e s r j l w)
 
       how-to : j < m .next .held → GrantsOk p c m → GrantFrom j
       how-to h (grants-stay e s) = old j (omega arith) (keep-page e s j) (keep-frame e s j)
