@@ -24,3 +24,10 @@ pub holdings-refusals : (p : Pool) (c : ℕ) (lent rows : List Row) (a : Answer)
 unfolding refusalOf
 holdings-refusals p c lent rows a (fills e l) = refl
 holdings-refusals p c lent rows a (refuses e z) = rw (← e) (refusal-listed p c (length lent))
+
+-- what holdings promises: what it answers and leaves on the list, and by which numbers it can be refused
+abbrev pub Promised : Pool → ℕ → List Row → Answer → List Row → Type 0
+Promised p c lent a rows = Holdings p c lent a rows × Among (0 ∷ 8 ∷ 9 ∷ 14 ∷ []) (refusalOf a)
+
+pub promised : (p : Pool) (c : ℕ) (lent rows : List Row) (a : Answer) → Holdings p c lent a rows → Promised p c lent a rows
+promised p c lent rows a h = (h, holdings-refusals p c lent rows a h)

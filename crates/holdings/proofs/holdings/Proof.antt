@@ -54,6 +54,7 @@ use denote.Exit.{yes}
 use Rattle.pool.specs.Holdings.{Holdings}
 use Rattle.holdings.specs.Rows.{noRow}
 use Rattle.holdings.specs.Collects.{Collects, fills-list}
+use Rattle.holdings.specs.Refusals.{promised}
 use Rattle.pool.specs.declared.Row.{Row}
 use Rattle.pool.specs.declared.Pool.{Pool}
 use Rattle.holdings.specs.declared.Collected.{Collected}
@@ -184,7 +185,7 @@ module _ {M : Type 1} (𝓤 : URA M) (H : Heap 𝓤) (A : Atoms 𝓤) (W : Given
         qed W (Closed i) ∵
         suffices ! _ (ends-at 𝓤 H A f.ended stayed (f.clauses 𝓤 H A at-mem run) W (((κ, tt), (q, tt), tt, x, at), tt) (av (c .answer)) (c .answer)
         (tt, (tt, (after i, tt))) (tt, (tt, (l, tt)))) $
-        says ! (subst (λ (k : ℕ). Holdings p n ys (c .answer) (after k)) (sym e) (fills-list p n ys c eight told)) $
+        says ! (promised p n ys _ _ (subst (λ (k : ℕ). Holdings p n ys (c .answer) (after k)) (sym e) (fills-list p n ys c eight told))) $
         nothing ! $ move ! (3 ∷ 0 ∷ []) $ join ! $ frame ! $
         fjoin ! $ pureI ! (at-slice T.the-row (at-list (after i)) (s ∷ [])) (tt, (tt, tt))
         (ap (λ (k : ℕ). sliceVal (b, o) k ∷ []) (sym l), subst (Room T.the-row) (sym l) room) $ fjoin ! $

@@ -52,6 +52,7 @@ use denote.Triple.Table.{entered, cited}
 use denote.Triple.Walked.{says, Stays, stay-none, walkOf, AllGo, goes-none, Walks, ends-at, walked, walk-meets}
 use denote.Exit.{yes}
 use Rattle.pool.specs.Holdings.{Holdings}
+use Rattle.holdings.specs.Refusals.{Promised, promised}
 use Rattle.pool.specs.declared.Row.{Row}
 use Rattle.pool.specs.declared.Pool.{Pool}
 use Rattle.pool.specs.declared.Answer.{Answer}
@@ -165,7 +166,7 @@ module _ {M : Type 1} (𝓤 : URA M) (H : Heap 𝓤) (A : Atoms 𝓤) (W : Given
   exits r zs is e =
       qed W [] ∵ suffices ! _ (ends-at 𝓤 H A f.ended stayed (f.clauses 𝓤 H A at-mem run) W ((tt, tt, tt, x, at), tt) (lv r zs) (listed r zs)
       (tt, (tt, (tt, tt))) (tt, (tt, (tt, tt)))) $
-      says ! e $ nothing ! $ frame ! $ nothing ! $
+      says ! (promised p n ys _ _ e) $ nothing ! $ frame ! $ nothing ! $
       owned ! Ar (Is Ar) (array-makes 𝓤 H A W T.the-row (LL.makes T.the-type T′.the-plain 𝓤 H A) 8) ys _ ys-is $ fjoin ! $
       asked ! p n p-is n-fits $ owned ! L.the-row (Is L.the-row) (LL.makes L.the-type L′.the-plain 𝓤 H A) (listed r zs) _ is $
       move ! (1 ∷ 0 ∷ []) $ done !
@@ -223,8 +224,8 @@ module _ {M : Type 1} (𝓤 : URA M) (H : Heap 𝓤) (A : Atoms 𝓤) (W : Given
         (ensured 𝓤 H A callee.ended (callee.clauses 𝓤 H A at-mem run) (α ∷ [], tt) (p, (n, (ref l₄ γ, tt))) tt r)))) (id⊢ 𝓤 _) $ await ! tt $
         pick ! (λ r. split ! $ move ! (1 ∷ []) $
         use1 W (some (λ (ws : Unit {0} × (Unit {0} × (List Row × Unit {0}))).
-        ‵ (lasts callee.ended (α ∷ [], tt) (p, (n, (ref l₄ γ, tt))) ws) ⊛ raw (fact 𝓤 (Holdings p n ys r (ws .1 .1 .0))))) (id⊢ 𝓤 _) $
-        pick ! (λ ws. let zs = ws .1 .1 .0 in split ! $ move ! (1 ∷ []) $ heard ! (Holdings p n ys r zs) (λ e.
+        ‵ (lasts callee.ended (α ∷ [], tt) (p, (n, (ref l₄ γ, tt))) ws) ⊛ raw (fact 𝓤 (Promised p n ys r (ws .1 .1 .0))))) (id⊢ 𝓤 _) $
+        pick ! (λ ws. let zs = ws .1 .1 .0 in split ! $ move ! (1 ∷ []) $ heard ! (Promised p n ys r zs) (λ e.
         fsplit ! $ drop ! $ fsplit ! $ drop ! $ fsplit ! $ fsplit ! $ move ! (1 ∷ []) $ feqL ! (λ len. move ! (1 ∷ []) $ drop ! $
         -- [the last list; the token and the result; the lender's part; _8; …; room for _5; …; (_4's) …; _3; …; room for _0; …]
         move ! (1 ∷ []) $ split ! $ move ! (1 ∷ []) $ facts ! An.the-row (Is An.the-row) (shows 𝓤 H A An.the-row) r (v ∷ []) (λ is₀.
@@ -246,7 +247,7 @@ module _ {M : Type 1} (𝓤 : URA M) (H : Heap 𝓤) (A : Atoms 𝓤) (W : Given
         move ! (17 ∷ 18 ∷ []) $ free1 ! $ move ! (15 ∷ 16 ∷ []) $ free1 ! $ move ! (13 ∷ 14 ∷ []) $ free1 ! $ move ! (11 ∷ 12 ∷ []) $ free1 ! $
         move ! (0 ∷ 10 ∷ []) $ free1 ! $ move ! (7 ∷ 8 ∷ []) $ free1 ! $ move ! (5 ∷ 6 ∷ []) $ free1 ! $ move ! (3 ∷ 4 ∷ []) $ free1 ! $
         move ! (1 ∷ 2 ∷ []) $ free1 ! $ free0 ! $
-        keep ! [] $ by ! (exits r zs (listed-is r zs (is-of r v is₀) zs-is) e)))))))))))))))))))
+        keep ! [] $ by ! (exits r zs (listed-is r zs (is-of r v is₀) zs-is) (e .0))))))))))))))))))))
 
 module _ {M : Type 1} (𝓤 : URA M) (H : Heap 𝓤) (A : Atoms 𝓤) (W : Given 𝓤 H A) (at-mem : Memory → SProp 𝓤) (run : Routine → Fun 𝓤) where
   holdings-on-walks : (C : Calls 𝓤 H) (Λ : Loops 𝓤 H) → FmC 𝓤 H (W .laws) C → Triple 𝓤 (C #holdings·holdings) (Callee 𝓤 H A at-mem run) →
