@@ -1,5 +1,5 @@
--- What stays as it was at a begin while its client runs alone and has written nothing that shows: slots, look-up, and the pins of the frames in slots.
--- Every write of counters alone leaves them, and emptying an entry leaves an absent page absent. Assumes nothing.
+-- What stays as it was at a begin while its client runs alone and has written counters alone: slots, look-up, and the pins of the frames in
+-- slots. Every write of counters alone leaves them, and emptying an entry leaves an absent page absent. Assumes nothing.
 use mathlib.Core.Path.{_≡_, sym, ap, subst, _∙_}
 use mathlib.Core.Logic.{_≢_}
 use mathlib.Core.List.{[]}

@@ -1,5 +1,5 @@
 -- What a move of a reached pool does to each thing that the layers speak of: the own frame, the slots, the pins, the found frame, the grants,
--- the table, the frames' pages. Each is a menu of the few ways it can happen, and each kind of move picks one. Assumes nothing.
+-- the table, the frames' pages. Each has a data type with the few ways it can happen, and each kind of move shows one. Assumes nothing.
 use mathlib.Core.Path.{_≡_, refl, sym, ap, subst, _∙_}
 use mathlib.Core.Logic.{_≢_, _⊎_, inl, inr}
 use mathlib.Core.Bool.{false, not, _&&_}

@@ -1,11 +1,11 @@
 -- The invariant of the pools that come from setup and calls, and its proof. To read it:
 --   Reached says what holds: one record of seven layers with named clauses. Who uses the invariant needs no other file.
 --   Edges lists the moves that a call can make in such a pool, Steps shows that every call makes one of them.
---   Effects says of each of these moves what it does to each thing the layers speak of: one menu a thing, a few ways a menu.
---   Next draws from the menus what every layer needs: which frames keep their slot, entry, page, pins and grants.
+--   Effects says of each of these moves what it does to each thing the layers speak of: one data type for each thing, with its few ways.
+--   Next draws from these ways what every layer needs: which frames keep their slot, entry, page, pins and grants.
 --   Then a file a layer carries that layer over a move, from Effects and Next, and where it asks for more, edge by edge.
 --   Calls puts the layers together over a move, a call and a list of calls: `reached-after`.
--- Every proof goes over one of three lists: the 23 stages (Steps), the 21 edges, or a menu.
+-- Every proof goes over one of three lists: the 23 stages (Steps), the 21 edges, or the ways of one thing.
 
 pub mod Reached
 -- tools: how the pool reads after a write; numbers that stay distinct; sums and the pigeonhole; facts of every stage; tests on stage numbers

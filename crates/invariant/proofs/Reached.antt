@@ -34,12 +34,13 @@ mapped p f = scan (λ i. eqb (entryFrame p i) f) (λ i. suc (entryPage p i)) 0 0
 abbrev pub InSlot : Pool → ℕ → Type 0
 InSlot p f = (i : ℕ) × (slot p i ≡ f)
 
--- The stages at which the own frame has no slot yet; at which a client has no own frame, no found frame, no victim; at which the found frame
--- is pinned for this client and no grant names it yet; at which a victim is taken out of its slot and may still be in the table; at which a
--- client has claimed an empty slot and not filled it; at which it examines a victim, which stands in no slot but its place.
+-- ---- stages
+
+-- the own frame has no slot yet
 abbrev pub unplaced : ℕ → Bool
 unplaced s = (leb 5 s && leb s 8) || (leb 10 s && leb s 15)
 
+-- a client has no own frame, no found frame, no victim
 abbrev pub ownless : ℕ → Bool
 ownless s = leb s 4 || eqb s 21
 
@@ -49,15 +50,19 @@ foundless s = not (eqb s 2 || eqb s 3 || (leb 19 s && leb s 22))
 abbrev pub victimless : ℕ → Bool
 victimless s = not (leb 12 s && leb s 17)
 
+-- the found frame is pinned for this client, and no grant names it yet
 abbrev pub pinsFound : ℕ → Bool
 pinsFound s = eqb s 3 || eqb s 20 || eqb s 21
 
+-- the victim is taken out of its slot and may still be in the table
 abbrev pub unmapping : ℕ → Bool
 unmapping s = eqb s 16 || eqb s 17
 
+-- the client has claimed an empty slot and not filled it
 abbrev pub filling : ℕ → Bool
 filling s = eqb s 7 || eqb s 8
 
+-- the client examines a victim, which stands in no slot but its place
 abbrev pub examining : ℕ → Bool
 examining s = leb 12 s && leb s 15
 
@@ -72,7 +77,7 @@ claims p c f = let k = client p c in grantsOn p c f + one (pinsFound (k .stage) 
 unfoldable pub claimed : Pool → ℕ → ℕ
 claimed p f = sumTo (λ c. claims p c f) (clientCount p)
 
--- A frame that only its number knows: no slot, no table entry, no client's own or found frame and no grant names it. Refusal 15 leaves one,
+-- A frame that nothing but a victim may name: no slot, no table entry, no client's own or found frame and no grant does. Refusal 15 leaves one,
 -- with its pins.
 pub record Orphan (p : Pool) (f : ℕ) : Type 0 where
   pub no-slot : (i : ℕ) → slot p i ≢ f

@@ -20,6 +20,10 @@ pub grant-element : (l : List ℕ) (c n d i : ℕ) → i < n → ofClient l c n 
 unfolding ofClient
 grant-element l c n d i h = chosen _ _ _ (lt-ltb i n h)
 
+-- the page of client c's grant i, in the list of all grants' pages
+abbrev pub pageOf : List ℕ → ℕ → ℕ → ℕ
+pageOf pages c i = getD pages (grantPlace c i) 0
+
 -- client c of the first n of a list
 unfoldable pub clientIn : List Client → ℕ → ℕ → Client
 clientIn l n c = choose (ltb c n) (getD l c no-client) (resting 0)

@@ -9,12 +9,12 @@ use pool::Row;
 use pool::Tally;
 
 // The pool, and the tally that is lent throughout, "each time as the last call left it".
-struct Desk {
+struct State {
     pool: Pool,
     tally: Tally,
 }
 
-fn set_up(size: u8, client_count: u8, cap: u8, hand: u32) -> Desk {
+fn set_up(size: u8, client_count: u8, cap: u8, hand: u32) -> State {
     let done = calls::setup(size, client_count, cap, hand);
     let pool = done.pool;
     let tally = Tally {
@@ -25,39 +25,39 @@ fn set_up(size: u8, client_count: u8, cap: u8, hand: u32) -> Desk {
         drops: 0,
         refused: 0,
     };
-    Desk { pool, tally }
+    State { pool, tally }
 }
 
-fn begin(desk: Desk, client: u8, page: u32) -> Desk {
-    let pool = desk.pool;
-    let tally = desk.tally;
+fn begin(state: State, client: u8, page: u32) -> State {
+    let pool = state.pool;
+    let tally = state.tally;
     let done = calls::begin(pool, client, page);
     let next = done.pool;
-    Desk { pool: next, tally }
+    State { pool: next, tally }
 }
 
-fn release(desk: Desk, client: u8, page: u32) -> Desk {
-    let pool = desk.pool;
-    let tally = desk.tally;
+fn release(state: State, client: u8, page: u32) -> State {
+    let pool = state.pool;
+    let tally = state.tally;
     let done = calls::release(pool, client, page);
     let next = done.pool;
-    Desk { pool: next, tally }
+    State { pool: next, tally }
 }
 
-fn step(desk: Desk, client: u8) -> Desk {
-    let pool = desk.pool;
-    let tally = desk.tally;
+fn step(state: State, client: u8) -> State {
+    let pool = state.pool;
+    let tally = state.tally;
     let done = step::step_of(pool, client, tally);
     let next = done.pool;
     let counts = done.tally;
-    Desk {
+    State {
         pool: next,
         tally: counts,
     }
 }
 
-fn steps(desk: Desk, client: u8, n: u8) -> Desk {
-    let mut at = desk;
+fn steps(state: State, client: u8, n: u8) -> State {
+    let mut at = state;
     for _ in 0..n {
         at = step(at, client);
     }
@@ -65,8 +65,8 @@ fn steps(desk: Desk, client: u8, n: u8) -> Desk {
 }
 
 // Client 0 and client 1 by turns.
-fn rounds(desk: Desk, n: u8) -> Desk {
-    let mut at = desk;
+fn rounds(state: State, n: u8) -> State {
+    let mut at = state;
     for _ in 0..n {
         at = step(at, 0);
         at = step(at, 1);
@@ -74,8 +74,8 @@ fn rounds(desk: Desk, n: u8) -> Desk {
     at
 }
 
-fn request(desk: Desk, client: u8, page: u32, n: u8) -> Desk {
-    steps(begin(desk, client, page), client, n)
+fn request(state: State, client: u8, page: u32, n: u8) -> State {
+    steps(begin(state, client, page), client, n)
 }
 
 fn print_line(n: u32) {
@@ -94,8 +94,8 @@ fn print_row(row: Row) {
 }
 
 // The list is lent with the page 77, seven times, in every row: "Rows after them stay untouched."
-fn print_holdings(desk: Desk, client: u8) {
-    let pool = desk.pool;
+fn print_holdings(state: State, client: u8) {
+    let pool = state.pool;
     let filler = Row { page: 77, times: 7 };
     let listed = holdings::holdings_on(pool, client, [filler; 8]);
     let answer = listed.answer;
@@ -106,8 +106,8 @@ fn print_holdings(desk: Desk, client: u8) {
     print_row(rows[2]);
 }
 
-fn print_tally(desk: Desk) {
-    let tally = desk.tally;
+fn print_tally(state: State) {
+    let tally = state.tally;
     print_line(tally.hits);
     print_line(tally.joins);
     print_line(tally.admitted);
@@ -118,52 +118,52 @@ fn print_tally(desk: Desk) {
 
 fn main() {
     // S 2, T 2, C 3.
-    let mut desk = set_up(2, 2, 3, 0);
+    let mut state = set_up(2, 2, 3, 0);
 
     // Case P5: "both want 9 and alternate from the start, bench 0 first: bench 0 is granted frame 0, bench 1 joins it". Client 0 does stages 1, 4 to
     // 9, 18; client 1 does 1, 4, 5, 6, 5 (free is no more what it read), 6 to 9, 18 to 21. The five steps more of client 0 are turned down by 11
     // and count nothing. Admitted 1, joins 1.
-    desk = begin(desk, 0, 9);
-    desk = begin(desk, 1, 9);
-    desk = rounds(desk, 13);
+    state = begin(state, 0, 9);
+    state = begin(state, 1, 9);
+    state = rounds(state, 13);
 
     // Stages 1 to 3, twice. Hits 2.
-    desk = request(desk, 0, 9, 3);
-    desk = request(desk, 0, 9, 3);
+    state = request(state, 0, 9, 3);
+    state = request(state, 0, 9, 3);
 
     // Slot 0 has the held frame 0, slot 1 the evicted frame 1: stages 1, 4, 5, 10, 11, 12 (busy), 11, 12, 15 to 18. Admitted 2.
-    desk = request(desk, 0, 5, 12);
+    state = request(state, 0, 5, 12);
 
     // Both slots have held frames: stages 1, 4, 5, 10, 11, 12 (busy), 11, 12 (busy: "at S it is refusal 15"). Refused 1.
-    desk = request(desk, 1, 7, 8);
+    state = request(state, 1, 7, 8);
 
     // Client 0 holds 9 three times and 5 once, client 1 holds 9 once; the order of rows is open, and here that of the first grants. There is no
     // client 2: refusal 9, and no row.
-    print_holdings(desk, 0);
-    print_holdings(desk, 1);
-    print_holdings(desk, 2);
-    print_tally(desk);
+    print_holdings(state, 0);
+    print_holdings(state, 1);
+    print_holdings(state, 2);
+    print_tally(state);
 
     // Page 5 is not held any more, its count is 1: stages 1, 4, 5, 10, 11, 12 (busy), 11 to 18. Drops 1, admitted 3.
-    desk = release(desk, 0, 5);
-    desk = request(desk, 1, 7, 14);
+    state = release(state, 0, 5);
+    state = request(state, 1, 7, 14);
 
     // Nothing is held any more. Page 9 has the count 3, page 7 the count 1.
-    desk = release(desk, 0, 9);
-    desk = release(desk, 0, 9);
-    desk = release(desk, 0, 9);
-    desk = release(desk, 1, 9);
-    desk = release(desk, 1, 7);
+    state = release(state, 0, 9);
+    state = release(state, 0, 9);
+    state = release(state, 0, 9);
+    state = release(state, 1, 9);
+    state = release(state, 1, 7);
 
     // As case P6: client 0 swaps 7 out for 5 by stages 1, 4, 5, 10 to 13, 11 to 16, and stands at 17. Drops 2. Client 1 wants 7: stages 1, 2, 4, 5,
     // 10 to 13 (page 9's count is 1 now), 11, 12 (busy), 11 to 17 (9 goes), 18, 19, 22. Drops 3, revived 1. Client 0's removal then removes
     // nothing, and it is granted at 18. Admitted 4.
-    desk = request(desk, 0, 5, 13);
-    desk = request(desk, 1, 7, 20);
-    desk = steps(desk, 0, 2);
+    state = request(state, 0, 5, 13);
+    state = request(state, 1, 7, 20);
+    state = steps(state, 0, 2);
 
     // Client 0 holds 5, client 1 holds 7. "resident pages = admitted + revived - drops": 4 + 1 - 3 is 2.
-    print_holdings(desk, 0);
-    print_holdings(desk, 1);
-    print_tally(desk);
+    print_holdings(state, 0);
+    print_holdings(state, 1);
+    print_tally(state);
 }

@@ -56,7 +56,7 @@ entryFrame p i = within (p .«table_frames») (total p) none i
 abbrev pub resting : ℕ → Client
 resting n = record { stage = 0; page = 0; own = none; found = none; victim = none; seen = 0; place = 0; start = 0; busy = 0; held = n }
 
--- what an array of clients gives past its end
+-- what a read past the end of the array of clients gives, all numbers 0 as the language has it; `client` never reads there
 abbrev pub no-client : Client
 no-client = record { stage = 0; page = 0; own = 0; found = 0; victim = 0; seen = 0; place = 0; start = 0; busy = 0; held = 0 }
 

@@ -12,7 +12,7 @@ use Rattle.pool.specs.Choose.{choose, both, either, every}
 use Rattle.pool.specs.State.{none, within, ofClient, grantPlace}
 use Rattle.laws.specs.Scans.{first}
 use Rattle.laws.specs.Loops.{found-at}
-use Rattle.laws.specs.Elements.{element, grant-element}
+use Rattle.laws.specs.Elements.{element, grant-element, pageOf}
 use Rattle.reads.specs.Lists.{mapsIn, entryIn, grantIn}
 use Rattle.repeats.specs.Marks.{New}
 
@@ -63,9 +63,6 @@ module _ (pages frames : List ℕ) (c held n : ℕ) where
 
   unfoldable pub grantsOkIn : Bool
   grantsOkIn = every grantOkIn held
-
-abbrev pub pageOf : List ℕ → ℕ → ℕ → ℕ
-pageOf pages c i = getD pages (grantPlace c i) 0
 
 module _ (pages : List ℕ) (c held i : ℕ) (h : i < held) where
   -- the first grant of its page is one that is held

@@ -4,7 +4,8 @@
 ghost use mathlib.Core.Path.{_≡_};
 ghost use Prim.Native.Nat.{_<_, _≤_};
 ghost use Rattle.repeats.specs.Marks.{New};
-ghost use Rattle.repeats.specs.Places.{pageAt, pageOf, entryOkIn, entriesOkIn, grantOkIn, grantsOkIn};
+ghost use Rattle.laws.specs.Elements.{pageOf};
+ghost use Rattle.repeats.specs.Places.{pageAt, entryOkIn, entriesOkIn, grantOkIn, grantsOkIn};
 
 // "The table maps a page to at most one frame.": place i is unused, or names one of the pool's n frames and is the first that maps its page.
 // A mark of 0 says that the page stands at no earlier place, so that no search is needed.

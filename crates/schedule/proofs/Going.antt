@@ -25,7 +25,7 @@ use Rattle.invariant.proofs.Setup.{reached-setup}
 use Rattle.invariant.proofs.Calls.{reached-call}
 use Rattle.records.specs.Whole.{read-fits, unread-ends}
 use Rattle.report.specs.Lines.{written}
-use Rattle.turns.specs.Turn.{seat, turn}
+use Rattle.turns.specs.Turn.{clientOrFirst, turn}
 use Rattle.schedule.specs.Rest.{endAfter, reportAfter, stopped, rest, SetUp}
 use Rattle.schedule.proofs.Runs.{before, from, from-all, after-line, line-written, same-space, line-done}
 use Rattle.schedule.proofs.Runs.{stop-line, at-end, no-space, stops, goes-on}
@@ -124,7 +124,7 @@ module _ {s space : List ℕ} {first : Pool} {start : ℕ} {p : Pool} {at to n :
 
         pub next : (m : Move) {p′ : Pool} {ys : List ℕ} {k : ℕ} →
             m ≡ turn p call →
-            p′ ≡ apply p (seat (clientCount p) (caller call)) m →
+            p′ ≡ apply p (clientOrFirst (clientCount p) (caller call)) m →
             length (callLine n call (m .answer)) ≤ 24 →
             k ≡ length (callLine n call (m .answer)) →
             ys ≡ written (callLine n call (m .answer)) (from to now) →
@@ -135,7 +135,7 @@ module _ {s space : List ℕ} {first : Pool} {start : ℕ} {p : Pool} {at to n :
             let w = callLine n call (m .answer) in
             let same-answer : m .answer ≡ callOf p call .answer = ap (λ (m : Move). m .answer) is-turn ∙ d .answer in
             let same-pool : p′ ≡ callOf p call .pool =
-            is-next ∙ ap (apply p (seat (clientCount p) (caller call))) is-turn ∙ d .pool in
+            is-next ∙ ap (apply p (clientOrFirst (clientCount p) (caller call))) is-turn ∙ d .pool in
             let its-line : lineFor n (Asked call) (callOf p call .answer) ≡ w =
             line-of n call _ (d .goes-on) ∙ ap (callLine n call) (sym same-answer) in
             let fits : to + length w ≤ length now = omega arith in

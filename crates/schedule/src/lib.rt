@@ -56,7 +56,7 @@ fn run_calls(schedule: &[u8], report: &mut [u8], first: Pool, start: usize) -> E
         let count = pool.client_count;
         let total = reads::total(size, count);
         let c = answers::caller(call);
-        let b = turns::seat(count, c);
+        let b = turns::client_or_first(count, c);
         let who = pool.clients[b];
         let mut fresh = NONE;
         if who.stage == 4 {

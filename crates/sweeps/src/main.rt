@@ -7,13 +7,14 @@ use libc::STDOUT_FILENO;
 use pool::Pool;
 use pool::Tally;
 
-struct Desk {
+// The pool, and the tally that is lent throughout.
+struct State {
     pool: Pool,
     tally: Tally,
 }
 
 // S 64, T 16, C 100.
-fn set_up() -> Desk {
+fn set_up() -> State {
     let done = calls::setup(64, 16, 100, 0);
     let pool = done.pool;
     let tally = Tally {
@@ -24,31 +25,31 @@ fn set_up() -> Desk {
         drops: 0,
         refused: 0,
     };
-    Desk { pool, tally }
+    State { pool, tally }
 }
 
-fn begin(desk: Desk, client: u8, page: u32) -> Desk {
-    let pool = desk.pool;
-    let tally = desk.tally;
+fn begin(state: State, client: u8, page: u32) -> State {
+    let pool = state.pool;
+    let tally = state.tally;
     let done = calls::begin(pool, client, page);
     let next = done.pool;
-    Desk { pool: next, tally }
+    State { pool: next, tally }
 }
 
-fn step(desk: Desk, client: u8) -> Desk {
-    let pool = desk.pool;
-    let tally = desk.tally;
+fn step(state: State, client: u8) -> State {
+    let pool = state.pool;
+    let tally = state.tally;
     let done = step::step_of(pool, client, tally);
     let next = done.pool;
     let counts = done.tally;
-    Desk {
+    State {
         pool: next,
         tally: counts,
     }
 }
 
-fn request(desk: Desk, client: u8, page: u32, n: u8) -> Desk {
-    let mut at = begin(desk, client, page);
+fn request(state: State, client: u8, page: u32, n: u8) -> State {
+    let mut at = begin(state, client, page);
     for _ in 0..n {
         at = step(at, client);
     }
@@ -56,8 +57,8 @@ fn request(desk: Desk, client: u8, page: u32, n: u8) -> Desk {
 }
 
 // Each of 64 pages into an empty slot, by stages 1, 4 to 9 and 18; every client keeps four of them.
-fn fill(desk: Desk) -> Desk {
-    let mut at = desk;
+fn fill(state: State) -> State {
+    let mut at = state;
     for page in 0..64u8 {
         at = request(at, page % 16, page as u32, 8);
     }
@@ -65,8 +66,8 @@ fn fill(desk: Desk) -> Desk {
 }
 
 // Client 0 wants page 64: stages 1, 4, 5, 10, then 11 and 12 at each of 64 slots.
-fn sweeps(desk: Desk, n: usize) -> Desk {
-    let mut at = desk;
+fn sweeps(state: State, n: usize) -> State {
+    let mut at = state;
     for _ in 0..n {
         at = request(at, 0, 64, 132);
     }
@@ -76,10 +77,10 @@ fn sweeps(desk: Desk, n: usize) -> Desk {
 fn main() {
     let mut input = [0u8; 4096];
     let n = io::read_full(STDIN_FILENO, &mut input);
-    let mut desk = set_up();
-    desk = fill(desk);
-    desk = sweeps(desk, n);
-    let tally = desk.tally;
+    let mut state = set_up();
+    state = fill(state);
+    state = sweeps(state, n);
+    let tally = state.tally;
     io::print_decimal(STDOUT_FILENO, tally.refused as u64);
     io::write_all(STDOUT_FILENO, b"\n");
 }

@@ -1,6 +1,6 @@
 -- The tie between the code and the guarantee: whatever keeps the promises of the calls, as crate `calls` states them, on the values that their
--- types have, goes through the very pools and answers that the guarantee speaks of. "Setup gives the first pool, each later call gets the pool the last one returned, any tally may be
--- lent, and nobody else changes the pool meanwhile." Statements only. Assumes nothing.
+-- types have, goes through the very pools and answers that the guarantee speaks of. "Setup gives the first pool, each later call gets the pool
+-- the last one returned, any tally may be lent, and nobody else changes the pool meanwhile." Statements only. Assumes nothing.
 use mathlib.Core.Path.{_≡_}
 use mathlib.Core.List.{List, [], _∷_, map}
 use Prim.Native.Nat.{ℕ, _+_, _<_}

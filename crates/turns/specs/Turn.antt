@@ -21,8 +21,8 @@ use Rattle.laws.specs.Choices.{chosen}
 use Rattle.moves.specs.Lends.{Asks}
 
 -- the client whose record is put back: of n clients the one with number c, the first where there is none
-unfoldable pub seat : ℕ → ℕ → ℕ
-seat n c = choose (ltb c n) c 0
+unfoldable pub clientOrFirst : ℕ → ℕ → ℕ
+clientOrFirst n c = choose (ltb c n) c 0
 
 -- "All but 15 change no pool, tally or list."
 abbrev pub still : Client → ℕ → Move
@@ -31,19 +31,19 @@ still k n = record { next = k; grants = Same; write = Keep; answer = Refused n; 
 unfoldable pub turn : Pool → Call → Move
 turn p call =
     let n = turnedBy p call in
-    choose (eqb n 0) (moveOf p call) (still (client p (seat (clientCount p) (caller call))) n)
+    choose (eqb n 0) (moveOf p call) (still (client p (clientOrFirst (clientCount p) (caller call))) n)
 
 -- the client that is lent, and the frame to take where it stands at stage 4, are those of a call on pool p; so are the grants
 pub record Turns (p : Pool) (call : Call) (n : ℕ) (k : Client) (taken : ℕ) (grantPages grantFrames : List ℕ) : Type 0 where
   pub count : clientCount p ≡ n
-  pub client : client p (seat (clientCount p) (caller call)) ≡ k
+  pub client : client p (clientOrFirst (clientCount p) (caller call)) ≡ k
   pub fresh : k .stage ≡ 4 → taken ≡ freeFrame p
   pub «grant_pages» : p .«grant_pages» ≡ grantPages
   pub «grant_frames» : p .«grant_frames» ≡ grantFrames
 
-pub seated : (n c : ℕ) → c < n → seat n c ≡ c
-unfolding seat
-seated n c h = chosen _ _ _ (lt-ltb c n h)
+pub its-number : (n c : ℕ) → c < n → clientOrFirst n c ≡ c
+unfolding clientOrFirst
+its-number n c h = chosen _ _ _ (lt-ltb c n h)
 
 -- ---- the turn, once the tests are known
 
@@ -55,7 +55,7 @@ module _ {p : Pool} {call : Call} {n : ℕ} {k : Client} {taken : ℕ} {grantPag
 
   module _ (h : caller call < n) where
     pub asker : client p (caller call) ≡ k
-    asker = ap (client p) (sym (seated (clientCount p) (caller call) (omega arith))) ∙ t .client
+    asker = ap (client p) (sym (its-number (clientCount p) (caller call) (omega arith))) ∙ t .client
 
     pub asks : Asks p call k taken grantPages grantFrames
     asks = record { client = asker; fresh = t .fresh; «grant_pages» = t .«grant_pages»; «grant_frames» = t .«grant_frames» }

@@ -6,7 +6,7 @@ ghost use Rattle.pool.specs.State.{client};
 ghost use Rattle.pool.specs.Calls.{caller, refusalAt};
 ghost use Rattle.pool.specs.declared.Pool.{Pool};
 ghost use Rattle.moves.specs.Lends.{Lends, Ready};
-ghost use Rattle.turns.specs.Turn.{seat, still, turn, Turns};
+ghost use Rattle.turns.specs.Turn.{clientOrFirst, still, turn, Turns};
 use moves::Numbers;
 use pool::Answer;
 use pool::Call;
@@ -18,8 +18,8 @@ use pool::NONE;
 use pool::Write;
 
 // The client whose record is put back: the one with number c, the first where the pool has none such.
-pub fn seat(client_count: u8, c: u8) -> usize
-    ensures { λ r. ⌜ r ≡ seat «client_count» c ⌝ }
+pub fn client_or_first(client_count: u8, c: u8) -> usize
+    ensures { λ r. ⌜ r ≡ clientOrFirst «client_count» c ⌝ }
 {
     if c < client_count { c as usize } else { 0 }
 }

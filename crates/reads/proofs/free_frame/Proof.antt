@@ -1,5 +1,6 @@
--- The outer invariant: what is left of the search from n on is all of it. Each inner one: so it is of the slots, the table and the clients, and the turn's n has not changed. A hit in an inner loop makes the frame referenced, so both searches pass it over; a
--- turn that reaches its end has found it unreferenced. Each measure is what is left of its loop's range. Assumes nothing.
+-- The outer invariant: what is left of the search from n on is all of it. Each inner one: so it is of the slots, the table and the clients,
+-- and the turn's n has not changed. A hit in an inner loop makes the frame referenced, so both searches pass it over; a turn that reaches its end
+-- has found it unreferenced. Each measure is what is left of its loop's range. Assumes nothing.
 use borrow.Author.Needs.{needs}
 use native.Mathlib.Omega.{arith}
 use native.Mathlib.Nat.{mod-lt}

@@ -6,7 +6,7 @@ use native.Mathlib.Omega.{arith}
 use Prim.Native.Nat.{_-_}
 use Rattle.laws.specs.Loops.{Passing, starts, fails, passes, all-pass}
 use Rattle.repeats.specs.Marks.{Marked, no-marks, unmarked, mark}
-use Rattle.repeats.specs.Places.{pageOf}
+use Rattle.laws.specs.Elements.{pageOf}
 use Rattle.repeats.specs.Places.{grantOkIn, grantsOkIn}
 use Rattle.repeats.proofs.grants_ok.Statement.{statement}
 use Rattle.repeats.proofs.grants_ok.Tie as tie

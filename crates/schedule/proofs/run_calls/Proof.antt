@@ -24,11 +24,11 @@ use Rattle.laws.specs.Elements.{client-of-pool}
 use Rattle.moves.specs.Applied.{applied}
 use Rattle.moves.specs.Ready.{searchable, ready, grants-fit}
 use Rattle.report.specs.Lines.{written, line-fits}
-use Rattle.turns.specs.Turn.{seat, turn}
+use Rattle.turns.specs.Turn.{clientOrFirst, turn}
 use Rattle.invariant.proofs.Valid.{valid-reached}
 use Rattle.schedule.proofs.Readings.{later-unread}
 use Rattle.schedule.proofs.Runs.{from, from-length, end-here, report-here}
-use Rattle.schedule.proofs.Turned.{seat-in}
+use Rattle.schedule.proofs.Turned.{client-or-first-in}
 use Rattle.schedule.proofs.Going.{callLine, same-line, Going, at-start, comes-to, all-read, full, unread, next}
 use Rattle.schedule.proofs.run_calls.Statement.{statement}
 use Rattle.schedule.proofs.run_calls.Tie as tie
@@ -39,7 +39,7 @@ Inv-loop schedule report₀ start pool₀ at₀ to₀ n₀ report pool at to n =
 abbrev μ-loop : tie.MeasureT-loop
 μ-loop schedule report₀ start pool₀ at₀ to₀ n₀ report pool at to n = length schedule - at
 
--- ---- the places of the walk: past the let .. else, past `seat`, past each store
+-- ---- the places of the walk: past the let .. else, past `client_or_first`, past each store
 
 abbrev Told : Type 0
 Told = tie.After-known-told Inv-loop μ-loop
@@ -53,23 +53,23 @@ call-of c = c .before .reading .given .0 .0
 abbrev pool-of : Told → Pool
 pool-of c = loop-of c .loop .pool
 
-abbrev Seated : Type 0
-Seated = tie.After-seat Inv-loop μ-loop
+abbrev Past-client : Type 0
+Past-client = tie.After-client-or-first Inv-loop μ-loop
 
-abbrev told : Seated → Told
+abbrev told : Past-client → Told
 told c = c .before .before .before
 
-abbrev at-joined : tie.Joined2 Inv-loop μ-loop → Seated
+abbrev at-joined : tie.Joined2 Inv-loop μ-loop → Past-client
 at-joined c = c .before .before .before
 
-abbrev at-decide : tie.After-decide-arg8 Inv-loop μ-loop → Seated
+abbrev at-decide : tie.After-decide-arg8 Inv-loop μ-loop → Past-client
 at-decide c = at-joined (c .before .before .before .before .before .before .before .before .before)
 
 abbrev Next : Type 0
 Next = tie.After-next Inv-loop μ-loop
 
-abbrev seated : Next → Seated
-seated c = at-decide (c .before .before)
+abbrev past-client : Next → Past-client
+past-client c = at-decide (c .before .before)
 
 abbrev move-of : Next → Move
 move-of c = c .before .decide .result
@@ -109,18 +109,18 @@ at-line c = c .before .before .before .before
 is-call : (c : Told) → read false (from (loop-of c .loop .at) (now (loop-of c .before .before .before .args .schedule))) ≡ Asked (call-of c)
 is-call c = sym (c .before .before .before .read .ensures .0) ∙ c .before .reading .given .1
 
-seat-is : (c : Seated) → c .seat .result ≡ seat (clientCount (pool-of (told c))) (caller (call-of (told c)))
-seat-is c = c .seat .ensures ∙ ap (seat (clientCount (pool-of (told c)))) (c .before .caller .ensures)
+client-is : (c : Past-client) → c .client-or-first .result ≡ clientOrFirst (clientCount (pool-of (told c))) (caller (call-of (told c)))
+client-is c = c .client-or-first .ensures ∙ ap (clientOrFirst (clientCount (pool-of (told c)))) (c .before .caller .ensures)
 
 -- the client's number is one of the pool's
-seat-below : (c : Seated) → c .seat .result < clientCount (pool-of (told c))
-seat-below c = omega (arith, seat-is c, seat-in (pool-of (told c)) (call-of (told c)) (loop-of (told c) .loop .inv .reached))
+client-below : (c : Past-client) → c .client-or-first .result < clientCount (pool-of (told c))
+client-below c = omega (arith, client-is c, client-or-first-in (pool-of (told c)) (call-of (told c)) (loop-of (told c) .loop .inv .reached))
 
-seat-small : (c : Seated) → c .seat .result < 16
-seat-small c = omega (arith, seat-below c, loop-of (told c) .loop .inv .reached .shape .clients-high)
+client-small : (c : Past-client) → c .client-or-first .result < 16
+client-small c = omega (arith, client-below c, loop-of (told c) .loop .inv .reached .shape .clients-high)
 
-its-client : (c : Seated) → client (pool-of (told c)) (c .seat .result) ≡ getD (pool-of (told c) .clients) (c .seat .result) no-client
-its-client c = client-of-pool (pool-of (told c)) (c .seat .result) (seat-below c)
+its-client : (c : Past-client) → client (pool-of (told c)) (c .client-or-first .result) ≡ getD (pool-of (told c) .clients) (c .client-or-first .result) no-client
+its-client c = client-of-pool (pool-of (told c)) (c .client-or-first .result) (client-below c)
 
 valid : (c : Told) → Valid.valid (pool-of c) ≡ true
 valid c = valid-reached (pool-of c) (loop-of c .loop .inv .reached)
@@ -131,11 +131,11 @@ slots-few c = loop-of c .loop .inv .reached .shape .size-high
 clients-few : (c : Told) → clientCount (pool-of c) ≤ 16
 clients-few c = loop-of c .loop .inv .reached .shape .clients-high
 
-frames-few : (c : Next) → seated c .before .before .total .result ≤ 96
-frames-few c = let s = seated c in omega (arith, s .before .before .total .ensures, slots-few (told s), clients-few (told s))
+frames-few : (c : Next) → past-client c .before .before .total .result ≤ 96
+frames-few c = let s = past-client c in omega (arith, s .before .before .total .ensures, slots-few (told s), clients-few (told s))
 
-grants-here : (c : Next) → (clientCount (pool-of (told (seated c))) ≤ 16) × (seated c .seat .result < 16)
-grants-here c = (clients-few (told (seated c)), seat-small (seated c))
+grants-here : (c : Next) → (clientCount (pool-of (told (past-client c))) ≤ 16) × (past-client c .client-or-first .result < 16)
+grants-here c = (clients-few (told (past-client c)), client-small (past-client c))
 
 records-few : (c : Told) → loop-of c .loop .n ≤ 9999
 records-few c = let g = loop-of c .loop .inv in omega arith
@@ -190,18 +190,18 @@ decide-requires c κs =
     let s = at-decide c in
     let p = pool-of (told s) in
     let v = valid-reached p (loop-of (told s) .loop .inv .reached) in (
-      rw (← its-client s) (ready p v (s .seat .result) (seat-below s) (s .before .before .total .ensures)),
-      (clients-few (told s), rw (← its-client s) (grants-fit p v (s .seat .result) (seat-below s))),
+      rw (← its-client s) (ready p v (s .client-or-first .result) (client-below s) (s .before .before .total .ensures)),
+      (clients-few (told s), rw (← its-client s) (grants-fit p v (s .client-or-first .result) (client-below s))),
     )
 
 write-line-requires : tie.Need-write-line-requires Inv-loop μ-loop
 write-line-requires c κs =
-    let t = told (seated (at-value (c .before))) in
+    let t = told (past-client (at-value (c .before))) in
     let l = loop-of t .loop in
     (rw (from-length (l .to) (l .report)) (space-left t), records-few t, omega (arith, c .before .before .code-of .ensures .1))
 
 loop-less : tie.Need-loop-less Inv-loop μ-loop
-loop-less c = omega (arith, told (seated (at-value (at-line c))) .before .before .before .before .before .before .loop-test .taken)
+loop-less c = omega (arith, told (past-client (at-value (at-line c))) .before .before .before .before .before .before .loop-test .taken)
 
 same-length-3 : tie.Need-same-length-3 Inv-loop μ-loop
 same-length-3 c = c .before .loop .inv .size
@@ -217,13 +217,13 @@ returns-3 c =
 -- the frame to take, where the client stands at stage 4
 searched : (c : tie.Joined2 Inv-loop μ-loop) →
     let p = pool-of (told (at-joined c)) in
-    getD (p .clients) (at-joined c .seat .result) no-client .stage ≡ 4 → c .if2 .fresh ≡ freeFrame p
+    getD (p .clients) (at-joined c .client-or-first .result) no-client .stage ≡ 4 → c .if2 .fresh ≡ freeFrame p
 searched c four = ⊎-elim (λ w. w .2 ∙ w .1 .ensures) (λ w. absurd (w .0 .left four)) (c .if2 .came)
 
 -- the move is the record's turn
-is-turn : (c : Next) → move-of c ≡ turn (pool-of (told (seated c))) (call-of (told (seated c)))
+is-turn : (c : Next) → move-of c ≡ turn (pool-of (told (past-client c))) (call-of (told (past-client c)))
 is-turn c =
-    let s = seated c in
+    let s = past-client c in
     let p = pool-of (told s) in
     let frames = s .before .before .total in
     c .before .decide .ensures p
@@ -242,7 +242,7 @@ is-turn c =
     })
     (record {
       count = refl;
-      client = ap (client p) (sym (seat-is s)) ∙ its-client s;
+      client = ap (client p) (sym (client-is s)) ∙ its-client s;
       fresh = searched (c .before .before .before .before .before .before .before .before .before .before .before);
       «grant_pages» = refl;
       «grant_frames» = refl;
@@ -250,28 +250,28 @@ is-turn c =
 
 -- the line that is written is the record's
 line-is : (c : Valued) →
-    let s = seated (at-value c) in
+    let s = past-client (at-value c) in
     let n = loop-of (told s) .loop .n in
     line n (s .before .caller .result) (c .before .code-of .result) (c .value-of .result) ≡ callLine n (call-of (told s)) (move-of (at-value c) .answer)
-line-is c = same-line _ (seated (at-value c) .before .caller .ensures) (c .before .code-of .ensures .0) (c .value-of .ensures)
+line-is c = same-line _ (past-client (at-value c) .before .caller .ensures) (c .before .code-of .ensures .0) (c .value-of .ensures)
 
 few : (c : Valued) →
-    let s = seated (at-value c) in
+    let s = past-client (at-value c) in
     length (line (loop-of (told s) .loop .n) (s .before .caller .result) (c .before .code-of .result) (c .value-of .result)) ≤ 24
 few c =
-    line-fits _ _ _ _ (records-few (told (seated (at-value c)))) (omega (arith, seated (at-value c) .before .caller .ok))
+    line-fits _ _ _ _ (records-few (told (past-client (at-value c)))) (omega (arith, past-client (at-value c) .before .caller .ok))
     (omega (arith, c .before .code-of .ensures .1)) (omega (arith, c .value-of .ok))
 
 add-to : tie.Need-add-to Inv-loop μ-loop
 add-to c =
     let v = at-line c in
-    let t = told (seated (at-value v)) in
+    let t = told (past-client (at-value v)) in
     let l = loop-of t in
     let g = l .loop .inv in
     omega (arith, few v, c .before .before .write-line .ensures .0, space-left t, g .room, g .size, l .before .before .before .good)
 
 add-n : tie.Need-add-n Inv-loop μ-loop
-add-n c = omega (arith, records-few (told (seated (at-value (at-line c)))))
+add-n c = omega (arith, records-few (told (past-client (at-value (at-line c)))))
 
 loop-again : tie.Need-loop-again Inv-loop μ-loop
 loop-again c =
@@ -287,17 +287,17 @@ loop-again c =
     let pg = pn .before .before in
     let sl = pg .before .before in
     let x = at-slots sl in
-    let s = seated x in
+    let s = past-client x in
     let t = told s in
     let l = loop-of t .loop in
     let frames = s .before .before .total in
     let is-next =
-    applied (l .pool) (s .seat .result) (frames .result) (move-of x) (frames .ensures)
+    applied (l .pool) (s .client-or-first .result) (frames .result) (move-of x) (frames .ensures)
     (la .before .before .hand-after .ensures) (la .before .free-after .ensures) (la .last-after .ensures)
     (sl .put-slots .ensures) (pg .put-pages .ensures) (pn .put-pins .ensures) (ct .put-counts .ensures)
     (tp .put-table-pages .ensures) (tf .put-table-frames .ensures) (gp .put-grant-pages .ensures) (gf .put-grant-frames .ensures) in
     next (l .inv) (t .before .before .before .before .before .before .loop-test .taken) (space-left t) (call-of t) (is-call t) (move-of x) (is-turn x)
-    (is-next ∙ ap (λ (b : ℕ). apply (l .pool) b (move-of x)) (seat-is s))
+    (is-next ∙ ap (λ (b : ℕ). apply (l .pool) b (move-of x)) (client-is s))
     (rw (line-is v) at (few v)) (wrote .0 ∙ ap length (line-is v)) (wrote .1 ∙ ap (λ (w : List ℕ). written w (from (l .to) (l .report))) (line-is v))
 
 pub run-calls-spec : {M : Type 1} → statement M
@@ -307,12 +307,12 @@ run-calls-spec =
     Inv-loop μ-loop loop-holds sub-if1 same-length returns (λ c. search needs) (λ c. search needs) (λ c. search needs) (λ c κs. search needs)
     (λ c. search needs) (λ c κs. search needs) stop-requires same-length-2 returns-2 add-at
     (λ c κs. (slots-few c, clients-few c)) (λ c κs. search needs) (λ c κs. search needs)
-    (λ c. omega (arith, seat-small c)) seat-small free-frame-requires decide-requires
-    (λ c. omega (arith, seat-small (seated c))) (λ c. seat-small (seated c))
-    (λ c κs. slots-few (told (seated (c .before))))
+    (λ c. omega (arith, client-small c)) client-small free-frame-requires decide-requires
+    (λ c. omega (arith, client-small (past-client c))) (λ c. client-small (past-client c))
+    (λ c κs. slots-few (told (past-client (c .before))))
     (λ c κs. frames-few (at-slots (c .before))) (λ c κs. frames-few (at-pages (c .before))) (λ c κs. frames-few (at-pins (c .before)))
     (λ c κs. frames-few (at-counts (c .before))) (λ c κs. frames-few (at-table-pages (c .before)))
     (λ c κs. grants-here (at-table-frames (c .before))) (λ c κs. grants-here (at-grant-pages (c .before)))
     (λ c κs. search needs) (λ c κs. search needs) (λ c κs. search needs) (λ c κs. search needs) (λ c κs. search needs)
-    (λ c. loop-of (told (seated (at-value c))) .loop .inv .room) (λ c. loop-of (told (seated (at-value c))) .loop .inv .room) (λ c. search needs)
+    (λ c. loop-of (told (past-client (at-value c))) .loop .inv .room) (λ c. loop-of (told (past-client (at-value c))) .loop .inv .room) (λ c. search needs)
     write-line-requires add-to add-n loop-less loop-again same-length-3 returns-3)

@@ -2,17 +2,17 @@
 use mathlib.Core.Path.{sym}
 use borrow.Author.Tests.{lt-ltb, le-ltb}
 use Rattle.laws.specs.Choices.{chosen, passed}
-use Rattle.turns.specs.Turn.{seat}
-use Rattle.turns.proofs.seat.Statement.{statement}
-use Rattle.turns.proofs.seat.Tie as tie
+use Rattle.turns.specs.Turn.{clientOrFirst}
+use Rattle.turns.proofs.client_or_first.Statement.{statement}
+use Rattle.turns.proofs.client_or_first.Tie as tie
 
 returns : tie.Need-returns
-unfolding seat
+unfolding clientOrFirst
 returns c = sym (chosen _ _ _ (lt-ltb _ _ (c .if1 .taken)))
 
 returns-2 : tie.Need-returns-2
-unfolding seat
+unfolding clientOrFirst
 returns-2 c = sym (passed _ _ _ (le-ltb _ _ (c .if1 .left)))
 
-pub seat-spec : {M : Type 1} → statement M
-seat-spec = tie.close (tie.spec returns returns-2)
+pub client-or-first-spec : {M : Type 1} → statement M
+client-or-first-spec = tie.close (tie.spec returns returns-2)
