@@ -1,14 +1,17 @@
-"""Reports of the program beside those of the second program.
+"""Runs of the proved programs beside those of the second program.
 
 usage: python3 tests/compare.py [PROGRAM] [--seeds N]
 
 Plays generated schedules (seeds 0 to N - 1, 500 if not said) and the edge
 files below with PROGRAM, target/bin/replay if not said, and with second.py,
-and compares the reports byte for byte. It prints what it compared. At the
-first difference it keeps the schedule and both reports in target/compare/,
+and compares the reports byte for byte. Without PROGRAM it does the same with
+target/bin/spaces, on 60 generated schedules: what a run returns, and what it
+leaves of report spaces of many sizes. It prints what it compared. At the
+first difference it keeps the schedule and both outputs in target/compare/,
 says where they differ, and ends with exit status 1.
 """
 
+import itertools
 import pathlib
 import subprocess
 import sys
@@ -20,7 +23,11 @@ import generate  # noqa: E402
 import second  # noqa: E402
 
 TOP = pathlib.Path(__file__).resolve().parent.parent
+PROGRAMS = TOP / "target" / "bin"
+BUILDS = {"replay": "./replay", "spaces": "rt check spaces"}
 KEPT = TOP / "target" / "compare"
+TIME_LIMIT = 20  # seconds for one schedule, which takes a few milliseconds
+SPACES_SEEDS = 60  # generate.py's whole rotation
 
 
 def step(client):
@@ -65,6 +72,48 @@ def frames_go_round():
     return generate.setup_record(64, 16, 1, 0) + pages
 
 
+def must_be(found, expected, what):
+    if found != expected:
+        sys.exit("%s is %s and not %s: the edge file is not what it says" % (what, found, expected))
+
+
+def most_pins():
+    """16 clients hold 8 grants each of one page, pins 128: the most there can be.
+
+    Each is refused one more by 12, and then gives its grants back. The page
+    is swapped out after all, once a sweep has lowered its count to 0.
+    """
+    script = generate.Script(1, 16, 100, 0)
+    for client in 8 * tuple(range(16)):
+        script.fix(client, 9)
+    must_be(script.pool.cache.frames[0].pinning, 128, "the pins")
+    for client in range(16):
+        script.begin(client, 9)
+    for client in 8 * tuple(range(16)):
+        script.release(client, 9)
+    must_be(script.pool.cache.frames[0].pinning, 0, "the pins")
+    script.fix(0, 5)
+    must_be(script.held(0), [5], "the held pages")
+    return bytes(script.data)
+
+
+def most_references():
+    """A page is fixed until its count is the cap, 100, and 5 times more.
+
+    How long the sweep for another page then goes round tells the count.
+    """
+    script = generate.Script(1, 1, 100, 0)
+    counts = []
+    for _ in range(105):
+        script.fix(0, 9)
+        script.release(0, 9)
+        counts.append(script.pool.cache.frames[0].refcount)
+    must_be(counts[98:], [99] + 6 * [100], "the count at the end")
+    script.fix(0, 5)
+    must_be(script.held(0), [5], "the held pages")
+    return bytes(script.data)
+
+
 def edge_files():
     """Names and bytes of files that random ones would rarely be."""
     yield "empty", b""
@@ -75,6 +124,8 @@ def edge_files():
     yield "16,384 zero bytes", bytes(16384)
     yield "hand wraps", hand_wraps()
     yield "frames go round", frames_go_round()
+    yield "128 pins", most_pins()
+    yield "count 100", most_references()
 
 
 def generated(count):
@@ -82,57 +133,122 @@ def generated(count):
         yield "seed %d" % seed, generate.generate(seed)
 
 
+# What second.py has to say to a schedule, in the words of each program.
+
+
+def report(schedule):
+    """As the program replay: the report."""
+    return second.run(schedule)[0]
+
+
+def after_run(schedule, size):
+    """A line of the program spaces: what a run returns, and its space's sum.
+
+    The space is filled with 255 before the run. Its sum is the space read as
+    one number, the first byte highest, modulo a prime.
+    """
+    lines, records, refusal = second.run(schedule, size)
+    space = lines.ljust(size, b"\xff")
+    return b"%d %d %d %d %d\n" % (size, records, len(lines), refusal, int.from_bytes(space, "big") % 4294967291)
+
+
+def spaces(schedule):
+    """As the program spaces: a line for each size that it tries."""
+    whole = len(report(schedule))
+    sizes = [second.REPORT_SPACE, *range(49), *range(whole, whole + 25)]
+    return b"".join(after_run(schedule, size) for size in sizes)
+
+
+# The comparison.
+
+
+class NotPlayed(Exception):
+    """The program has no output for a schedule; why."""
+
+
 def played(program, schedule):
-    done = subprocess.run([program], input=schedule, stdout=subprocess.PIPE)
-    return done.stdout if done.returncode == 0 else b"exit status %d\n" % done.returncode
+    """What the program prints."""
+    try:
+        done = subprocess.run([program], input=schedule, stdout=subprocess.PIPE, timeout=TIME_LIMIT)
+    except subprocess.TimeoutExpired:
+        raise NotPlayed("did not end within %d seconds" % TIME_LIMIT) from None
+    except OSError as wrong:
+        raise NotPlayed("cannot be run: %s" % wrong.strerror) from None
+    if done.returncode != 0:
+        raise NotPlayed("ended with exit status %d" % done.returncode)
+    return done.stdout
+
+
+def shown(line):
+    """A line with its end, in quotes, whatever bytes it has."""
+    return repr(line)[1:] if line else "nothing more"
 
 
 def first_difference(ours, theirs):
-    """The number of the first line that differs, and both lines."""
-    ours, theirs = ours.splitlines(), theirs.splitlines()
-    for number in range(max(len(ours), len(theirs))):
-        pair = [lines[number].decode() if number < len(lines) else "(no line)" for lines in (ours, theirs)]
-        if pair[0] != pair[1]:
-            return "line %d: the program says %r, the second program %r" % (number, *pair)
-    return "in the bytes after the last line"
+    """The first line that differs, by its number from 0, and both forms of it."""
+    pairs = itertools.zip_longest(ours.splitlines(True), theirs.splitlines(True), fillvalue=b"")
+    number, (ours, theirs) = next((number, pair) for number, pair in enumerate(pairs) if pair[0] != pair[1])
+    place = "the end of line" if ours.rstrip(b"\r\n") == theirs.rstrip(b"\r\n") else "line"
+    return "%s %d: the program says %s, second.py %s" % (place, number, shown(ours), shown(theirs))
 
 
-def keep(name, schedule, ours, theirs):
+def stop(name, what, **kept):
+    """Keep some bytes of this schedule, say what is wrong, and end."""
     KEPT.mkdir(parents=True, exist_ok=True)
-    for end, data in (("schedule", schedule), ("report", ours), ("second", theirs)):
+    for end, data in kept.items():
         (KEPT / (name.replace(" ", "-") + "." + end)).write_bytes(data)
+    sys.exit("%s: %s\nkept in target/compare/: the %s" % (name, what, ", ".join(kept)))
 
 
-def compare(program, files):
-    """How many files, records and bytes were compared; stops at a difference."""
+def compare(program, expected, files):
+    """How many files and lines were compared; stops at a difference."""
     count = lines = 0
     for name, schedule in files:
-        ours, theirs = played(program, schedule), second.run(schedule)[0]
+        theirs = expected(schedule)
+        try:
+            ours = played(program, schedule)
+        except NotPlayed as why:
+            stop(name, "%s %s" % (program.name, why), schedule=schedule)
         if ours != theirs:
-            keep(name, schedule, ours, theirs)
-            sys.exit("%s: the reports differ, %s\nthe files are kept in target/compare/" % (name, first_difference(ours, theirs)))
+            stop(name, "%s and second.py differ at %s" % (program.name, first_difference(ours, theirs)), schedule=schedule, program=ours, second=theirs)
         count += 1
         lines += theirs.count(b"\n")
     return count, lines
 
 
-def main(arguments):
-    program, seeds = str(TOP / "target" / "bin" / "replay"), 500
+def comparisons(program, seeds):
+    """The program, what it must print, and the number of generated files."""
+    if program:
+        return [(pathlib.Path(program).resolve(), report, seeds)]
+    return [(PROGRAMS / "replay", report, seeds), (PROGRAMS / "spaces", spaces, min(seeds, SPACES_SEEDS))]
+
+
+def read_arguments(arguments):
+    """The program, if one is given, and the number of seeds."""
+    program, seeds = None, 500
     while arguments:
         word = arguments.pop(0)
         if word == "--seeds" and arguments and arguments[0].isdigit():
             seeds = int(arguments.pop(0))
         elif word.startswith("-"):
             print(__doc__.strip())
-            return 0 if word in ("-h", "--help") else 2
+            sys.exit(0 if word in ("-h", "--help") else 2)
         else:
             program = word
-    if not pathlib.Path(program).exists():
-        sys.exit("%s is not there: build it first (rt check)" % program)
+    return program, seeds
+
+
+def main(arguments):
+    todo = comparisons(*read_arguments(arguments))
+    for program, _, _ in todo:
+        if not program.is_file():
+            how = BUILDS.get(program.name)
+            sys.exit("%s is not there" % program + (": %s builds it" % how if how else ""))
     started = time.time()
-    for what, files in (("generated schedules", generated(seeds)), ("edge files", edge_files())):
-        count, lines = compare(program, files)
-        print("%d %s, %d report lines: no difference" % (count, what, lines), flush=True)
+    for program, expected, seeds in todo:
+        for what, files in (("generated schedules", generated(seeds)), ("edge files", edge_files())):
+            count, lines = compare(program, expected, files)
+            print("%s: %d %s, %d lines: no difference" % (program.name, count, what, lines), flush=True)
     print("compared in %.0f s" % (time.time() - started))
     return 0
 

@@ -13,9 +13,10 @@ first, are left out of the copy. A file has these lines, besides comments:
     new: what to put in its place
     refused by: CRATE                       the crate that must not be proved
 
-Every crate below that one must still be proved, so that the edit is well
-formed; the first error is printed. Exit status 0 if all are refused, 1 if
-one is not.
+Every crate below that one must still be proved, and the first error, which is
+printed, must not stand in the changed file itself, so that the edit is well
+formed. Exit status 0 if all are refused, 1 if one is not, 2 if none can be
+tried.
 """
 
 import concurrent.futures
@@ -74,6 +75,18 @@ def first_error(output):
     return f"{found.group(1)}: {found.group(2)[:160]}" if found else "?"
 
 
+def verdict(fields, well, output):
+    """What became of an edit, in words, and whether it was refused."""
+    if well:
+        return "NOT REFUSED", False
+    where, error = failed_crate(output), first_error(output)
+    if where != fields["refused by"]:
+        return f"refused by {where} and not by {fields['refused by']}\n  {error}", False
+    if error.startswith(fields["file"] + ":"):
+        return f"BAD EDIT: what it puts there is refused itself\n  {error}", False
+    return f"refused by {where}, as it must be\n  {error}", True
+
+
 def try_edit(path):
     """A line that says how it went, and whether the edit was refused."""
     fields = read_edit(path)
@@ -86,21 +99,19 @@ def try_edit(path):
         if text.count(fields["old"]) != 1:
             return f"{path.stem}: BAD EDIT: the text stands {text.count(fields['old'])} times in {fields['file']}", False
         target.write_text(text.replace(fields["old"], fields["new"]))
-        well, output = proved(folder, fields["refused by"])
-        took = f"{time.time() - started:.0f} s"
-        if well:
-            return f"{path.stem}: NOT REFUSED ({took})", False
-        where = failed_crate(output)
-        if where != fields["refused by"]:
-            return f"{path.stem}: refused by {where} and not by {fields['refused by']} ({took})\n  {first_error(output)}", False
-        return f"{path.stem}: refused by {where}, as it must be ({took})\n  {first_error(output)}", True
+        said, refused = verdict(fields, *proved(folder, fields["refused by"]))
+    return f"{path.stem} ({time.time() - started:.0f} s): {said}", refused
 
 
 def main(names):
     paths = [EDITS / f"{name}.edit" for name in names] or sorted(EDITS.glob("*.edit"))
     unknown = [path.stem for path in paths if not path.exists()]
     if unknown:
-        sys.exit(f"no such edit: {', '.join(unknown)}")
+        print(f"no such edit: {', '.join(unknown)}", file=sys.stderr)
+        return 2
+    if not shutil.which("rt"):
+        print("the Rattle kit's command 'rt' is not on the PATH; install the kit and run this again", file=sys.stderr)
+        return 2
     good = True
     with concurrent.futures.ThreadPoolExecutor(os.cpu_count()) as pool:
         for line, refused in pool.map(try_edit, paths):

@@ -8,6 +8,7 @@ program itself is run where its exit status and its messages matter. What the
 tool says is compared with the files' bytes and with the reports of second.py.
 """
 
+import itertools
 import pathlib
 import re
 import subprocess
@@ -27,6 +28,11 @@ import generate  # noqa: E402 (after the lines above, or they come too late)
 import second  # noqa: E402
 from scheduling import (BadInput, explain, picture, report, symbols,  # noqa
                         svg, text, words)
+
+README = TOP / "README.md"
+EXAMPLE_FILES = (EXAMPLES / "example.schedule",
+                 *(TOP / "crates" / name / "stdin"
+                   for name in ("replay", "spaces")))
 
 SEEDS = range(200)
 PICTURE_SEEDS = (0, 1, 4, 7, 16, 20, 24, 25, 27, 35, 44, 50, 54, 57)
@@ -199,7 +205,13 @@ def first_example():
     same(schedule[:18].hex(" "), "46 43 00 01 01 03 00 00 00 00 "
          "46 43 01 00 09 00 00 00", "document 01's first two records")
     same(second.run(schedule), (LISTING, 12, 0), "document 01's listing")
-    return "examples/example.txt gives document 01's listing"
+    for path in EXAMPLE_FILES:
+        same(path.read_bytes(), schedule, "the bytes of %s" % path)
+    row = explain.explain(schedule, answers_to(schedule)).splitlines()[1]
+    same(row.split(None, 1)[1], "setup slots 1 clients 1 cap 3 hand 0  done",
+         "how a setup is explained")
+    return ("examples/example.txt gives document 01's listing, and the %d "
+            "files of it are the same" % len(EXAMPLE_FILES))
 
 
 def second_example():
@@ -214,6 +226,44 @@ def second_example():
          "examples/two-clients.svg, the picture of examples/two-clients.txt")
     return ("examples/two-clients.txt: client 1 is granted at stage 22, and "
             "the picture beside it")
+
+
+# The README.
+
+
+def readme_lines(first, mark):
+    """The lines from the first one that begins so, as far as the mark does."""
+    lines = README.read_text(encoding="utf-8").splitlines()
+    places = [place for place, line in enumerate(lines)
+              if line.startswith(mark + first)]
+    same(len(places), 1, "the places in README.md that begin %r" % first)
+    return list(itertools.takewhile(lambda line: line.startswith(mark),
+                                    lines[places[0]:]))
+
+
+def readme_listings():
+    """The example as text, and the numbers of its report."""
+    schedule = example("example.txt")
+    shown = readme_lines("setup ", "    ")
+    same("".join(line.strip() + "\n" for line in shown),
+         text.show(schedule), "the text in README.md")
+    lines = readme_lines("0 0 0 1 ", "    ")
+    same("".join(" ".join(line.split()[:4]) + "\n" for line in lines),
+         second.run(schedule)[0].decode(), "the report in README.md")
+    return "README.md, the example as text and its report"
+
+
+def readme_refusals():
+    """A row for each refusal, which says whether it ends a run."""
+    _, _, *rows = readme_lines(" n | refused because", "|")
+    cells = [[cell.strip() for cell in row.strip("|").split("|")]
+             for row in rows]
+    same([int(number) for number, _, _ in cells], sorted(words.REFUSALS),
+         "the refusals in README.md")
+    for number, _, then in cells:
+        same("the run ends" in then, int(number) <= words.LAST_TO_END,
+             "that refusal %s ends a run" % number)
+    return "README.md, the table of %d refusals" % len(rows)
 
 
 # Explaining.
@@ -460,8 +510,8 @@ def whole_way():
 
 
 TESTS = (round_trips, cuts_and_spoils, forms_of_text, errors_in_texts,
-         first_example, second_example, explanations, given_reports,
-         pictures, statuses, whole_way)
+         first_example, second_example, readme_listings, readme_refusals,
+         explanations, given_reports, pictures, statuses, whole_way)
 
 
 def main():

@@ -2,7 +2,7 @@
 
 import collections
 
-from . import words
+from . import text, words
 from .records import BEGIN, LONGEST_FILE, NAMES, SETUP, STEP, read
 from .report import DONE, GRANTED, WORKING
 
@@ -31,7 +31,7 @@ def asked(record, clients):
     if record is None:
         return "(cannot be read)"
     if record.kind == SETUP:
-        return "setup S %d T %d C %d hand %d" % record.numbers
+        return text.command(record)
     if record.kind == STEP:
         stage = clients.stage.get(record.client)
         return "step" if stage is None else "step, at stage %d" % stage

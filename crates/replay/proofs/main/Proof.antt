@@ -1,21 +1,13 @@
 -- `read_full` answers a count within its buffer, and a run's lines stand at the start of the report, so both counts cut a part that is there.
 -- Assumes nothing.
 use borrow.Author.Needs.{needs}
-use native.Mathlib.Omega.{arith}
-use mathlib.Core.Path.{_≡_, sym}
-use mathlib.Core.List.{List}
-use Prim.Native.Nat.{ℕ, _≤_}
-use lib.ListN.{length, length-append}
+use mathlib.Core.Path.{sym}
+use Prim.Native.Nat.{_≤_}
+use lib.ListN.{length}
 use lib.Seq.{length-take-le}
-use Rattle.pool.specs.Schedule.{endOf, reportOf}
-use Rattle.pool.specs.declared.Ended.{Ended}
+use Rattle.schedule.specs.Written.{within-report}
 use Rattle.replay.proofs.main.Statement.{statement}
 use Rattle.replay.proofs.main.Tie as tie
-
--- the bytes that a run counts are in the report that it leaves
-within-report : (s space : List ℕ) {ended : Ended} {left : List ℕ} → ended ≡ endOf s space → left ≡ reportOf s space → ended .bytes ≤ length left
-unfolding endOf reportOf
-within-report s space e l = rw (e, l, length-append) (omega arith)
 
 fits : (c : tie.After-run) → c .run .result .bytes ≤ length (c .run .last .1 .0)
 fits c = within-report _ _ (c .run .ensures .0) (c .run .ensures .1)
