@@ -37,7 +37,7 @@ pub record Code : Type 1 where
   pub release : (pool : Pool) (client page : ℕ) → Outcome
 
 -- The promises of `setup`, `begin`, `step_tallied` and `release` in crate `calls`, on values of their parameters' types; what they return is a
--- value of its type too.
+-- value of its type too. `step_of` in crate `step` has the promise of `step_tallied`, and `step` there the same of a tally that is lent.
 pub record Promised (code : Code) : Type 0 where
   pub zero : code .Counts zeroTally
   pub setup : (size clients cap hand : ℕ) → Byte size → Byte clients → Byte cap → Word hand
