@@ -2,17 +2,13 @@
 use mathlib.Core.Path.{refl}
 use mathlib.Core.Bool.{Bool}
 use mathlib.Core.List.{List, [], _∷_}
-use Prim.Native.Nat.{ℕ, zero, suc}
-use lib.ListN.{getD}
+use Prim.Native.Nat.{ℕ}
 use Rattle.pool.specs.Choose.{choose}
 use Rattle.pool.specs.Answers.{refusalOf}
 use Rattle.pool.specs.State.{client}
-use Rattle.pool.specs.Moves.{granted}
-use Rattle.pool.specs.Stages.{Stage, stages, noStage, stageMove}
-use Rattle.pool.specs.Stages.{busyVisit, evictOwn, stage1, stage2, stage3, stage4, stage5, stage6, stage7, stage8, stage9, stage10, stage11, stage12}
-use Rattle.pool.specs.Stages.{stage13, stage14, stage15, stage16, stage17, stage18, stage19, stage20, stage21, stage22, stage23}
 use Rattle.pool.specs.Calls.{setupOf, refusalAt, refusal, releaseMove, moveOf, finished, callOf}
 use Rattle.laws.specs.Choices.{by-test}
+use Rattle.laws.specs.StageAnswers.{StageAnswer, goes, grants, refuses, sticks, stage-answer}
 use Rattle.answers.specs.Among.{Among}
 use Rattle.pool.specs.declared.Pool.{Pool}
 use Rattle.pool.specs.declared.Client.{Client}
@@ -65,55 +61,13 @@ module _ (p : Pool) (c g : ℕ) where
 
 -- ---- a step: only a stuck move and a sweep's end refuse
 
-abbrev Fine : Move → Type 0
-Fine m = Among byStep (refusalOf (m .answer))
-
-abbrev FineStage : Stage → Type 0
-FineStage s = (p : Pool) (k : Client) → Fine (s p k)
-
-no-stage : FineStage noStage
+of-answer : {k : Client} {m : Move} → StageAnswer k m → Among byStep (refusalOf (m .answer))
 unfolding refusalOf
-no-stage p k = refl
-
-data Each : List Stage → Type 0 where
-  none : Each []
-  more : {s : Stage} {ss : List Stage} → FineStage s → Each ss → Each (s ∷ ss)
-
-at-each : {ss : List Stage} → Each ss → (n : ℕ) → FineStage (getD ss n noStage)
-at-each none n = no-stage
-at-each (more f fs) zero = f
-at-each (more f fs) (suc n) = at-each fs n
-
-each : Each stages
-unfolding granted busyVisit evictOwn refusalOf stage1 stage2 stage3 stage4 stage5 stage6 stage7 stage8 stage9 stage10 stage11 stage12 stage13
-    stage14 stage15 stage16 stage17 stage18 stage19 stage20 stage21 stage22 stage23
-each =
-    more no-stage
-    (more (λ p k. pick Fine _ refl refl)  -- 1
-    (more (λ p k. pick Fine _ refl refl)  -- 2
-    (more (λ p k. pick Fine _ refl refl)  -- 3
-    (more (λ p k. pick Fine _ refl refl)  -- 4
-    (more (λ p k. pick Fine _ refl refl)  -- 5
-    (more (λ p k. pick Fine _ (pick Fine _ refl refl) refl)  -- 6
-    (more (λ p k. refl)  -- 7
-    (more (λ p k. pick Fine _ refl refl)  -- 8
-    (more (λ p k. refl)  -- 9
-    (more (λ p k. refl)  -- 10
-    (more (λ p k. pick Fine _ (pick Fine _ refl refl) refl)  -- 11
-    (more (λ p k. pick Fine _ refl (pick Fine _ refl (pick Fine _ refl refl)))  -- 12
-    (more (λ p k. pick Fine _ refl refl)  -- 13
-    (more (λ p k. pick Fine _ refl refl)  -- 14
-    (more (λ p k. pick Fine _ refl refl)  -- 15
-    (more (λ p k. refl)  -- 16
-    (more (λ p k. pick Fine _ refl refl)  -- 17
-    (more (λ p k. pick Fine _ (pick Fine _ refl (pick Fine _ refl refl)) refl)  -- 18
-    (more (λ p k. pick Fine _ refl refl)  -- 19
-    (more (λ p k. pick Fine _ refl refl)  -- 20
-    (more (λ p k. pick Fine _ refl refl)  -- 21
-    (more (λ p k. pick Fine _ (pick Fine _ refl refl) refl)  -- 22
-    (more (λ p k. pick Fine _ refl refl)  -- 23
-    none)))))))))))))))))))))))
+of-answer (goes j l a n) = rw a refl
+of-answer (grants f g e a n) = rw a refl
+of-answer (refuses e) = rw e refl
+of-answer (sticks e) = rw e refl
 
 pub step-refusals : (p : Pool) (c : ℕ) → Among byStep (refusalOf (callOf p (Step c) .answer))
-unfolding refusalAt moveOf stageMove
-step-refusals p c = call-refusals byStep p (Step c) refl refl (λ k. pick (Among byStep) _ refl refl) (at-each each (client p c .stage) p (client p c))
+unfolding refusalAt moveOf
+step-refusals p c = call-refusals byStep p (Step c) refl refl (λ k. pick (Among byStep) _ refl refl) (of-answer (stage-answer p (client p c)))

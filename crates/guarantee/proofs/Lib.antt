@@ -3,7 +3,6 @@
 pub mod SetupDone
 pub mod Along
 -- of every pool, a handed one too: what a call answers, by stage; that it is turned down or is one move; the listed answers
-pub mod Stages
 pub mod TurnedDown
 pub mod Listed
 -- the clients' grants are those that the answers told them

@@ -23,13 +23,13 @@ use Rattle.pool.specs.declared.Answer.the-variants.{Refused}
 use Rattle.laws.specs.Choices.{by-test}
 use Rattle.ranges.specs.Ranges.{Names, ClientRanged, ranged}
 use Rattle.invariant.proofs.Reached.{Reached}
-use Rattle.invariant.proofs.StageTests.{and-parts}
+use Rattle.laws.specs.Scans.{and-parts}
 use Rattle.invariant.proofs.Allowed.{Allowed, allowed}
 use Rattle.invariant.proofs.Calls.{never-stuck, call-moves, call-turned-down, refusal-not-8}
 use Rattle.guarantee.specs.Runs.{Event, events, At}
 use Rattle.guarantee.specs.Claims.{Listed, Claim-listed}
 use Rattle.guarantee.proofs.Along.{at-some}
-use Rattle.guarantee.proofs.Stages.{granting, among, given, on-successors, on-grants, goes, grants, refuses, sticks, stage-answer}
+use Rattle.laws.specs.StageAnswers.{granting, among, given, on-successors, on-grants, goes, grants, refuses, sticks, stage-answer}
 use Rattle.guarantee.proofs.TurnedDown.{same-answer, TurnedOrMove, turned, one-move, turned-or-move, is-done, is-stuck, done-or-stuck}
 
 abbrev ListedOr8 : Pool → Call → Answer → Type 0

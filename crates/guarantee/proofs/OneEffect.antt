@@ -19,14 +19,15 @@ use Rattle.pool.specs.declared.Move.{Move}
 use Rattle.pool.specs.declared.Call.{Call}
 use Rattle.pool.specs.declared.Call.the-variants.{Begin, Step, Release}
 use Rattle.invariant.proofs.Reached.{pinsFound, Reached}
-use Rattle.invariant.proofs.StageTests.{T-false, and-parts}
+use Rattle.laws.specs.Scans.{and-parts}
+use Rattle.invariant.proofs.StageTests.{T-false}
 use Rattle.invariant.proofs.Allowed.{may-begin, may-release}
 use Rattle.invariant.proofs.Calls.{reached-call}
 use Rattle.guarantee.specs.Runs.{Event, eventOf, events, At, Begins, GrantedTo}
 use Rattle.guarantee.specs.Sequential.{adding, admitting}
 use Rattle.guarantee.specs.Claims.{AnswersTo, TurnedDown, takesEffect, TakesEffect, SameRequest, ExactlyOne, OneEffect}
 use Rattle.guarantee.proofs.Along.{at-each}
-use Rattle.guarantee.proofs.Stages.{on-successors, on-grants, StageAnswer, goes, grants, refuses, sticks, stage-answer}
+use Rattle.laws.specs.StageAnswers.{on-successors, on-grants, StageAnswer, goes, grants, refuses, sticks, stage-answer}
 use Rattle.guarantee.proofs.TurnedDown.{same-answer, same-stage, other-answer}
 use Rattle.guarantee.proofs.OneClient.{ClientAfter, same, mine, client-after, begins-or-not, rest-unanswered}
 

@@ -18,7 +18,8 @@ use Rattle.pool.specs.declared.Counted.the-variants.{Refusal}
 use Rattle.pool.specs.declared.GrantChange.{GrantChange}
 use Rattle.pool.specs.declared.GrantChange.the-variants.{Same, Open}
 use Rattle.invariant.proofs.Reached.{one, pinsFound}
-use Rattle.invariant.proofs.StageTests.{and-parts, at-most, iff, iff-same, Onward}
+use Rattle.laws.specs.Scans.{and-parts}
+use Rattle.invariant.proofs.StageTests.{at-most, iff, iff-same, Onward}
 use Rattle.guarantee.specs.Sequential.{SeqClient, seqResting, adding, dropping}
 use Rattle.guarantee.proofs.SimulationRelation.{times, ClientRelation, open-many, open-grants}
 

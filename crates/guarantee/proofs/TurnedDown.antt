@@ -27,7 +27,7 @@ use Rattle.invariant.proofs.StageTests.{differ}
 use Rattle.invariant.proofs.Allowed.{refusal-low}
 use Rattle.invariant.proofs.Calls.{outcomeOf}
 use Rattle.guarantee.specs.Claims.{Claim-turned-down, Claim-refused}
-use Rattle.guarantee.proofs.Stages.{StageAnswer, goes, grants, refuses, sticks, stage-answer}
+use Rattle.laws.specs.StageAnswers.{StageAnswer, goes, grants, refuses, sticks, stage-answer}
 
 -- ---- answers and calls of different kinds
 

@@ -14,7 +14,7 @@ use Rattle.pool.specs.declared.Move.{Move}
 use Rattle.invariant.proofs.Reached.{Reached, mapped, InSlot, Know, Owns, Placed, FoundMapped, FoundEvicted, VictimInSlot, VictimEvicted, Nothing, _and_}
 use Rattle.invariant.proofs.Reached.{knows, Knows}
 use Rattle.invariant.proofs.After.{EntryPagesStay, EntryFramesStay, slot-kept, slot-here, pins-kept, pins-here}
-use Rattle.invariant.proofs.Each.{Each, fin, _also_, each-at}
+use Rattle.laws.specs.Each.{Each, fin, _also_, each-at}
 use Rattle.invariant.proofs.Table.{mapped-kept, lookup-mapped}
 use Rattle.invariant.proofs.NeverFails.{know}
 use Rattle.invariant.proofs.Facts.{own-not-evicted}

@@ -14,7 +14,6 @@ pub mod Writes
 pub mod Distinct
 pub mod Sums
 pub mod Pigeonhole
-pub mod Each
 pub mod StageTests
 -- what the pool's searches find, its table by frame, its grants after a move, what a call has passed
 pub mod Searches

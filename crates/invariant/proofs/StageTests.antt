@@ -9,6 +9,7 @@ use native.Mathlib.Decide.{ℕ-discrete}
 use lib.Dec.{T, eqb, leb}
 use borrow.Author.Tests.{eqb-false, leb-true}
 use Rattle.invariant.proofs.Reached.{unplaced, ownless, foundless, victimless, pinsFound, unmapping, filling, examining}
+use Rattle.laws.specs.Scans.{and-parts}
 
 -- ---- what a test says
 
@@ -23,10 +24,6 @@ T-false false h = refl
 pub T-not : (a : Bool) → T (not a) → T a → ⊥
 T-not true h t = h
 T-not false h t = t
-
-pub and-parts : (a b : Bool) → T (a && b) → T a × T b
-and-parts true b h = (tt, h)
-and-parts false b h = absurd h
 
 or-parts : (a b : Bool) → T (not (a || b)) → T (not a) × T (not b)
 or-parts true b h = absurd h

@@ -29,7 +29,7 @@ use Rattle.pool.specs.declared.Write.{Write}
 use Rattle.pool.specs.declared.Write.the-variants.{Keep, PutPins, PutFree}
 use Rattle.laws.specs.Choices.{by-test, chosen}
 use Rattle.invariant.proofs.Reached.{Reached, Knows, WillUnmap, mapped, victimless, filling, examining}
-use Rattle.invariant.proofs.Each.{Each, fin, _also_, each-in}
+use Rattle.laws.specs.Each.{Each, fin, _also_, each-in}
 use Rattle.invariant.proofs.Searches.{grantOf-found}
 use Rattle.invariant.proofs.NeverFails.{know, finds-some, finds-unused}
 use Rattle.invariant.proofs.StageTests.{T-false, never, differ, imp-mp, onward, onward-means, keepsVictim, keeps-victim-means, unmapsNone, unmaps-none}

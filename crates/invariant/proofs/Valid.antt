@@ -12,7 +12,7 @@ use Rattle.pool.specs.declared.Pool.{Pool}
 use Rattle.pool.specs.declared.Client.{Client}
 use Rattle.ranges.specs.Ranges.{Named, ClientRanged, Ranged, valid-from}
 use Rattle.invariant.proofs.Reached.{Reached, Know, Owns, Placed, FoundMapped, FoundEvicted, VictimInSlot, VictimEvicted, Nothing, _and_, knows}
-use Rattle.invariant.proofs.Each.{Each, fin, _also_, each-in}
+use Rattle.laws.specs.Each.{Each, fin, _also_, each-in}
 use Rattle.invariant.proofs.Table.{mapped-lookup}
 
 -- ---- a client has the frames that its stage uses

@@ -2,3 +2,5 @@ pub mod Choices
 pub mod Scans
 pub mod Loops
 pub mod Elements
+pub mod Each
+pub mod StageAnswers

@@ -1,7 +1,8 @@
 -- What `both`, `either`, `some` and `every` say, what a search finds, and what it means that it finds nothing. Assumes nothing.
 use mathlib.Core.Path.{_≡_, refl, sym, ap, _∙_}
 use mathlib.Core.Logic.{_≢_, _⊎_, inl, inr}
-use mathlib.Core.Bool.{Bool, true, false, not, true≢false}
+use mathlib.Core.Bool.{Bool, true, false, not, true≢false, _&&_}
+use lib.Dec.{T}
 use Prim.Native.Nat.{ℕ, zero, suc, _+_, _≤_, _<_}
 use native.Mathlib.Omega.{arith}
 use native.Mathlib.Decide.{ℕ-discrete}
@@ -16,6 +17,10 @@ pub both-true : (a b : Bool) → both a b ≡ true → (a ≡ true) × (b ≡ tr
 unfolding both choose
 both-true true b e = (refl, e)
 both-true false b e = absurd (true≢false (sym e))
+
+pub and-parts : (a b : Bool) → T (a && b) → T a × T b
+and-parts true b h = (tt, h)
+and-parts false b h = absurd h
 
 pub both-first : (a b : Bool) → both a b ≡ true → a ≡ true
 both-first a b e = both-true a b e .0

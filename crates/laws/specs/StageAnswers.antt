@@ -18,9 +18,9 @@ use Rattle.pool.specs.declared.Move.{Move}
 use Rattle.pool.specs.declared.Write.{Write}
 use Rattle.pool.specs.declared.Answer.the-variants.{Working, Granted}
 use Rattle.pool.specs.declared.Counted.{Counted}
 use Rattle.laws.specs.Choices.{by-test}
-use Rattle.invariant.proofs.StageTests.{and-parts}
-use Rattle.invariant.proofs.Each.{Each, fin, _also_, each-at}
+use Rattle.laws.specs.Scans.{and-parts}
+use Rattle.laws.specs.Each.{Each, fin, _also_, each-at}
 
 -- ---- the stages that follow each stage
 
