@@ -2,7 +2,7 @@
 -- every pool of a run is reached, from the setup on, and what holds of reached pools holds along the run
 pub mod SetupDone
 pub mod Along
--- of every pool, a handed one too: what a call answers, by stage; that it is turned down or is one move; the listed answers
+-- of every pool, a handed one too: a call is turned down or is one move; the listed answers
 pub mod TurnedDown
 pub mod Listed
 -- the clients' grants are those that the answers told them
