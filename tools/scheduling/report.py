@@ -87,9 +87,18 @@ def read_report(data, schedule):
     return answers
 
 
+def is_built():
+    """Whether the proved program is there and no source is newer."""
+    if not PROGRAM.exists():
+        return False
+    sources = TOP / "crates.txt", *(TOP / "crates").rglob("*")
+    built = PROGRAM.stat().st_mtime
+    return all(source.stat().st_mtime <= built for source in sources)
+
+
 def proved_report(schedule):
     """The report of the proved program, or None while it is not built."""
-    if not PROGRAM.exists():
+    if not is_built():
         return None
     done = subprocess.run([PROGRAM], input=schedule, stdout=subprocess.PIPE)
     if done.returncode:
@@ -107,5 +116,4 @@ def check_alike(schedule):
     """Complain where the two programs are there and do not agree."""
     if proved_report(schedule) not in (None, second_report(schedule)):
         raise BadInput("target/bin/replay and tests/second.py report "
-                       "differently; is the program built from these "
-                       "sources?")
+                       "differently: one of them is wrong")
