@@ -2,7 +2,7 @@
 
 usage: python3 bench/steps.py PROGRAM
 
-PROGRAM is the proved program sweeps (crates/sweeps): it fills a pool of S 64
+PROGRAM is the proved program test_sweeps (crates/test_sweeps): it fills a pool of S 64
 and T 16 and then, for each byte of its input, plays a begin and 132 steps. The
 time of a run without input, which is the filling, is taken off.
 """

@@ -5,7 +5,7 @@ usage: python3 tests/compare.py [PROGRAM] [--seeds N]
 Plays generated schedules (seeds 0 to N - 1, 500 if not said) and the edge
 files below with PROGRAM, target/bin/replay if not said, and with second.py,
 and compares the reports byte for byte. Without PROGRAM it does the same with
-target/bin/spaces, on 60 generated schedules: what a run returns, and what it
+target/bin/test_spaces, on 60 generated schedules: what a run returns, and what it
 leaves of report spaces of many sizes. It prints what it compared. At the
 first difference it keeps the schedule and both outputs in target/compare/,
 says where they differ, and ends with exit status 1.
@@ -24,7 +24,7 @@ import second  # noqa: E402
 
 TOP = pathlib.Path(__file__).resolve().parent.parent
 PROGRAMS = TOP / "target" / "bin"
-BUILDS = {"replay": "./replay", "spaces": "rt check spaces"}
+BUILDS = {"replay": "./replay", "test_spaces": "rt check test_spaces"}
 KEPT = TOP / "target" / "compare"
 TIME_LIMIT = 20  # seconds for one schedule, which takes a few milliseconds
 SPACES_SEEDS = 60  # generate.py's whole rotation
@@ -142,7 +142,7 @@ def report(schedule):
 
 
 def after_run(schedule, size):
-    """A line of the program spaces: what a run returns, and its space's sum.
+    """A line of the program test_spaces: what a run returns, and its space's sum.
 
     The space is filled with 255 before the run. Its sum is the space read as
     one number, the first byte highest, modulo a prime.
@@ -153,7 +153,7 @@ def after_run(schedule, size):
 
 
 def spaces(schedule):
-    """As the program spaces: a line for each size that it tries."""
+    """As the program test_spaces: a line for each size that it tries."""
     whole = len(report(schedule))
     sizes = [second.REPORT_SPACE, *range(49), *range(whole, whole + 25)]
     return b"".join(after_run(schedule, size) for size in sizes)
@@ -220,7 +220,7 @@ def comparisons(program, seeds):
     """The program, what it must print, and the number of generated files."""
     if program:
         return [(pathlib.Path(program).resolve(), report, seeds)]
-    return [(PROGRAMS / "replay", report, seeds), (PROGRAMS / "spaces", spaces, min(seeds, SPACES_SEEDS))]
+    return [(PROGRAMS / "replay", report, seeds), (PROGRAMS / "test_spaces", spaces, min(seeds, SPACES_SEEDS))]
 
 
 def read_arguments(arguments):

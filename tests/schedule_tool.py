@@ -32,7 +32,7 @@ from scheduling import (BadInput, explain, picture, report, symbols,  # noqa
 README = TOP / "README.md"
 EXAMPLE_FILES = (EXAMPLES / "example.schedule",
                  *(TOP / "crates" / name / "stdin"
-                   for name in ("replay", "spaces")))
+                   for name in ("replay", "test_spaces")))
 
 SEEDS = range(200)
 PICTURE_SEEDS = (0, 1, 4, 7, 16, 20, 24, 25, 27, 35, 44, 50, 54, 57)

@@ -22,7 +22,7 @@ use pool::Tally;
 fn fresh(size: u8, client_count: u8, cap: u8, hand: u32) -> Pool
     ensures { λ r. ⌜ r ≡ fresh size «client_count» cap hand ⌝ }
 {
-    let resting = endings::resting(0);
+    let resting = moves::resting(0);
     Pool {
         size,
         client_count,

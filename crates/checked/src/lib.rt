@@ -6,7 +6,7 @@ ghost use Prim.Native.Nat.{_<_};
 ghost use Rattle.pool.specs.State.{clientCount};
 ghost use Rattle.pool.specs.Valid.{valid};
 ghost use Rattle.pool.specs.Calls.{turnedDown, caller, refusal, moveOf, finished, callOf};
-use moves::Numbers;
+use dispatch::Numbers;
 use pool::Answer;
 use pool::Call;
 use pool::Counted;
@@ -67,7 +67,7 @@ fn move_of(pool: Pool, call: Call) -> Move
     if client.stage == 4 {
         fresh = reads::free_frame(pool);
     }
-    moves::call_move(
+    dispatch::call_move(
         call,
         client,
         n,
@@ -93,7 +93,7 @@ fn finish(pool: Pool, c: usize, m: Move) -> Outcome
     if n == 8 {
         return turned_down(8, pool);
     }
-    let next = moves::apply(pool, c, m);
+    let next = dispatch::apply(pool, c, m);
     let sound = validity::valid(next);
     if !sound {
         return turned_down(8, pool);

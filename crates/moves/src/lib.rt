@@ -1,199 +1,215 @@
-// The move of a call, decided over the pool's arrays where they lie, and a move applied to a pool by value.
+// How an action ends: the moves that several stages share, and those of a begin and a release. A move says what an action does; it changes
+// nothing by itself.
 ghost use mathlib.Core.Path.{_≡_};
-ghost use Prim.Native.Nat.{_<_, _≤_};
-ghost use Rattle.pool.specs.Frames.{freeFrame};
-ghost use Rattle.pool.specs.Stages.{stageMove};
-ghost use Rattle.pool.specs.Calls.{caller, moveOf};
-ghost use Rattle.pool.specs.Apply.{apply};
-ghost use Rattle.pool.specs.declared.Pool.{Pool};
-ghost use Rattle.moves.specs.Lends.{Lends, Asks, Ready};
-use pool::Call;
+ghost use Prim.Native.Nat.{_-_, _<_};
+ghost use Rattle.pool.specs.Stages.{around, raised, nextSlot, busyVisit, evictOwn, grantedFound};
+ghost use Rattle.pool.specs.State.{resting};
+ghost use Rattle.pool.specs.Moves.{worksAs, works, stuck, granted};
+ghost use Rattle.pool.specs.Calls.{beginMove, releaseMove};
+use pool::Answer;
 use pool::Client;
+use pool::Counted;
 use pool::EVICTED;
+use pool::GrantChange;
 use pool::Move;
 use pool::NONE;
-use pool::Pool;
+use pool::ONE_PIN;
+use pool::Write;
 
-// The numbers of a pool that a move reads.
-pub struct Numbers {
-    pub size: u8,
-    // S + 2T
-    pub total: u8,
-    pub cap: u8,
-    pub hand: u32,
-    pub free: u8,
+// ---- numbers
+
+// "moves on one, round the end": the slot after slot i.
+pub fn around(size: u8, i: u8) -> u8
+    requires { ⌜ i < size ⌝ }
+    ensures { λ r. ⌜ r ≡ around size i ⌝ }
+{
+    if i + 1 < size { i + 1 } else { 0 }
 }
 
-// The 23 stages: the move of a client by the stage that it stands at. `fresh` is the frame to take, which stage 4 alone looks at.
-pub fn stage_move<'a>(
-    client: Client,
-    n: Numbers,
-    fresh: u8,
-    slots: &'a [u8; 64],
-    pages: &'a [u32; 96],
-    pins: &'a [u8; 96],
-    counts: &'a [u8; 96],
-    table_pages: &'a [u32; 96],
-    table_frames: &'a [u8; 96],
-) -> Move
-    requires { ⌜ Ready client n (now pins) ⌝ }
-    ensures { λ r. ⌜ ((p : Pool) →
-        Lends p n (now (slots .entry)) (now (pages .entry)) (now (pins .entry)) (now (counts .entry))
-        (now («table_pages» .entry)) (now («table_frames» .entry)) →
-        (client .stage ≡ 4 → fresh ≡ freeFrame p) → r ≡ stageMove p client) ⌝ }
+// "Raise its count by one unless at C"
+fn raised(cap: u8, n: u8) -> u8
+    ensures { λ r. ⌜ r ≡ raised cap n ⌝ }
 {
-    let stage = client.stage;
-    match stage {
-        1 => {
-            let found = reads::lookup(table_pages, table_frames, n.total, client.page);
-            stages::one(client, found)
-        }
-        2 => {
-            let its_pins = reads::byte_at(pins, n.total, EVICTED, client.found);
-            stages::two(client, its_pins)
-        }
-        3 => {
-            let its_count = reads::byte_at(counts, n.total, 0, client.found);
-            stages::three(client, n.cap, its_count)
-        }
-        4 => stages::four(client, fresh),
-        5 => stages::five(client, n.free),
-        6 => stages::six(client, n.free),
-        7 => stages::seven(client, n.hand, n.size),
-        8 => {
-            let there = reads::slot_at(slots, n.size, client.place);
-            stages::eight(client, there, n.size)
-        }
-        9 => stages::nine(client, n.hand),
-        10 => stages::ten(client, n.hand, n.size),
-        11 => {
-            let there = reads::slot_at(slots, n.size, client.place);
-            stages::eleven(client, there, n.size)
-        }
-        12 => {
-            let its_pins = reads::byte_at(pins, n.total, EVICTED, client.victim);
-            stages::twelve(client, its_pins, n.size)
-        }
-        13 => {
-            let its_count = reads::byte_at(counts, n.total, 0, client.victim);
-            stages::thirteen(client, its_count, n.size)
-        }
-        14 => {
-            let its_pins = reads::byte_at(pins, n.total, EVICTED, client.victim);
-            stages::fourteen(client, its_pins, n.size)
-        }
-        15 => {
-            let there = reads::slot_at(slots, n.size, client.place);
-            stages::fifteen(client, there, n.size)
-        }
-        16 => stages::sixteen(client, n.hand, n.size),
-        17 => {
-            let page = reads::page_at(pages, n.total, client.victim);
-            let i = reads::entry_of(table_pages, table_frames, n.total, page);
-            let mapped = reads::byte_at(table_frames, n.total, NONE, i);
-            stages::seventeen(client, page, i, mapped)
-        }
-        18 => {
-            let found = reads::lookup(table_pages, table_frames, n.total, client.page);
-            let i = reads::unused_entry(table_frames, n.total);
-            stages::eighteen(client, found, i)
-        }
-        19 => {
-            let its_pins = reads::byte_at(pins, n.total, EVICTED, client.found);
-            stages::nineteen(client, its_pins)
-        }
-        20 => {
-            let its_pins = reads::byte_at(pins, n.total, EVICTED, client.own);
-            stages::twenty(client, its_pins)
-        }
-        21 => {
-            let its_count = reads::byte_at(counts, n.total, 0, client.found);
-            stages::twenty_one(client, n.cap, its_count)
-        }
-        22 => {
-            let i = reads::entry_of(table_pages, table_frames, n.total, client.page);
-            let mapped = reads::byte_at(table_frames, n.total, NONE, i);
-            stages::twenty_two(client, i, mapped)
-        }
-        23 => {
-            let its_pins = reads::byte_at(pins, n.total, EVICTED, client.own);
-            stages::twenty_three(client, its_pins)
-        }
-        _ => endings::stuck(client),
+    if n < cap { n + 1 } else { n }
+}
+
+// One less, unless 0.
+pub fn lowered(n: u8) -> u8
+    ensures { λ r. ⌜ r ≡ n - 1 ⌝ }
+{
+    if n == 0 { 0 } else { n - 1 }
+}
+
+// ---- what several stages share
+
+// A client at rest: it names no frame but its grants', and its other numbers are 0.
+pub fn resting(held: u8) -> Client
+    ensures { λ r. ⌜ r ≡ resting held ⌝ }
+{
+    Client {
+        stage: 0,
+        page: 0,
+        own: NONE,
+        found: NONE,
+        victim: NONE,
+        seen: 0,
+        place: 0,
+        start: 0,
+        busy: 0,
+        held,
     }
 }
 
-// The move of a call on a pool that does not turn it down.
-pub fn call_move<'a>(
-    call: Call,
-    client: Client,
-    n: Numbers,
-    fresh: u8,
-    slots: &'a [u8; 64],
-    pages: &'a [u32; 96],
-    pins: &'a [u8; 96],
-    counts: &'a [u8; 96],
-    table_pages: &'a [u32; 96],
-    table_frames: &'a [u8; 96],
-    grant_pages: &'a [u32; 128],
-    grant_frames: &'a [u8; 128],
-) -> Move
-    requires { ⌜ Ready client n (now pins) ⌝ }
-    requires { ⌜ (caller call < 16) × (client .held ≤ 8) ⌝ }
-    ensures { λ r. ⌜ ((p : Pool) →
-        Lends p n (now (slots .entry)) (now (pages .entry)) (now (pins .entry)) (now (counts .entry))
-        (now («table_pages» .entry)) (now («table_frames» .entry)) →
-        Asks p call client fresh (now («grant_pages» .entry)) (now («grant_frames» .entry)) → r ≡ moveOf p call) ⌝ }
+// The client goes on to another stage.
+pub fn works_as(client: Client, counted: Counted, stage: u8, write: Write) -> Move
+    ensures { λ r. ⌜ r ≡ worksAs client counted stage write ⌝ }
 {
-    match call {
-        Call::Begin(c, page) => endings::begin_move(client, page),
-        Call::Step(c) => stage_move(
-            client,
-            n,
-            fresh,
-            slots,
-            pages,
-            pins,
-            counts,
-            table_pages,
-            table_frames,
-        ),
-        Call::Release(c, page) => {
-            let at = c as usize;
-            let i = reads::grant_of(grant_pages, at, client.held, page);
-            let f = reads::grant_frame_at(grant_frames, at, client.held, i);
-            let its_pins = reads::byte_at(pins, n.total, EVICTED, f);
-            endings::release_move(client, page, i, f, its_pins)
-        }
+    let mut next = client;
+    next.stage = stage;
+    Move {
+        next,
+        grants: GrantChange::Same,
+        write,
+        answer: Answer::Working(stage),
+        counted,
     }
 }
 
-// The pool after a move of client c.
-pub fn apply(pool: Pool, c: usize, m: Move) -> Pool
-    requires { ⌜ (c < 16) × (pool .size ≤ 64) × (pool .«client_count» ≤ 16) ⌝ }
-    ensures { λ r. ⌜ r ≡ apply pool c m ⌝ }
+pub fn works(client: Client, stage: u8, write: Write) -> Move
+    ensures { λ r. ⌜ r ≡ works client stage write ⌝ }
 {
-    let mut next = pool;
-    let size = next.size;
-    let count = next.client_count;
-    let total = reads::total(size, count);
-    let client = m.next;
-    let w = m.write;
-    let change = m.grants;
-    next.clients[c] = client;
-    writes::put_slots(&mut next.slots, size, w);
-    writes::put_pages(&mut next.pages, total, w);
-    writes::put_pins(&mut next.pins, total, w);
-    writes::put_counts(&mut next.counts, total, w);
-    writes::put_table_pages(&mut next.table_pages, total, w);
-    writes::put_table_frames(&mut next.table_frames, total, w);
-    writes::put_grant_pages(&mut next.grant_pages, count, c, change);
-    writes::put_grant_frames(&mut next.grant_frames, count, c, change);
-    let hand = writes::hand_after(next.hand, w);
-    next.hand = hand;
-    let free = writes::free_after(next.free, w);
-    next.free = free;
-    let last = writes::last_after(next.last, w);
-    next.last = last;
-    next
+    works_as(client, Counted::Nothing, stage, write)
+}
+
+// What no pool of this form can hold: nothing changes.
+pub fn stuck(client: Client) -> Move
+    ensures { λ r. ⌜ r ≡ stuck client ⌝ }
+{
+    Move {
+        next: client,
+        grants: GrantChange::Same,
+        write: Write::Keep,
+        answer: Answer::Refused(8),
+        counted: Counted::Nothing,
+    }
+}
+
+// The request is granted a frame: the client rests, with one grant more.
+pub fn granted(client: Client, f: u8, write: Write, counted: Counted) -> Move
+    ensures { λ r. ⌜ r ≡ granted client f write counted ⌝ }
+{
+    if client.held < 8 {
+        return Move {
+            next: resting(client.held + 1),
+            grants: GrantChange::Open(client.held, client.page, f),
+            write,
+            answer: Answer::Granted(f),
+            counted,
+        };
+    }
+    stuck(client)
+}
+
+// The found frame is granted, and its count raised.
+pub fn granted_found(client: Client, cap: u8, count: u8, counted: Counted) -> Move
+    ensures { λ r. ⌜ r ≡ grantedFound client cap count counted ⌝ }
+{
+    let more = raised(cap, count);
+    granted(
+        client,
+        client.found,
+        Write::PutCount(client.found, more),
+        counted,
+    )
+}
+
+// "'Next slot' sets the busy run to 0, moves i on one round the end, and goes to 11."
+pub fn next_slot(client: Client, size: u8, write: Write) -> Move
+    requires { ⌜ client .place < size ⌝ }
+    ensures { λ r. ⌜ r ≡ nextSlot client size write ⌝ }
+{
+    let place = around(size, client.place);
+    let mut next = client;
+    next.victim = NONE;
+    next.place = place;
+    next.busy = 0;
+    works(next, 11, write)
+}
+
+// "A busy visit adds one to the busy run; at S it is refusal 15, else i moves on and 11."
+pub fn busy_visit(client: Client, size: u8) -> Move
+    requires { ⌜ (client .place < size) × (client .busy < size) ⌝ }
+    ensures { λ r. ⌜ r ≡ busyVisit client size ⌝ }
+{
+    let busy = client.busy + 1;
+    if busy == size {
+        return Move {
+            next: resting(client.held),
+            grants: GrantChange::Same,
+            write: Write::Keep,
+            answer: Answer::Refused(15),
+            counted: Counted::Refusal,
+        };
+    }
+    let place = around(size, client.place);
+    let mut next = client;
+    next.victim = NONE;
+    next.place = place;
+    next.busy = busy;
+    works(next, 11, Write::Keep)
+}
+
+// "Own frame's pins 1 become -1"; the client forgets the frame.
+pub fn evict_own(client: Client, pins: u8, stage: u8) -> Move
+    ensures { λ r. ⌜ r ≡ evictOwn client pins stage ⌝ }
+{
+    let mut next = client;
+    next.own = NONE;
+    if pins == ONE_PIN {
+        return works(next, stage, Write::PutPins(client.own, EVICTED));
+    }
+    works(next, stage, Write::Keep)
+}
+
+// ---- begin and release
+
+// A begin or a release is done.
+fn completes(page: u32, next: Client, grants: GrantChange, write: Write) -> Move
+    ensures { λ r. ⌜ r ≡ Rattle.pool.specs.Moves.completes page next grants write ⌝ }
+{
+    Move {
+        next,
+        grants,
+        write,
+        answer: Answer::Done(page),
+        counted: Counted::Nothing,
+    }
+}
+
+// Begin puts a resting client at stage 1.
+pub fn begin_move(client: Client, page: u32) -> Move
+    ensures { λ r. ⌜ r ≡ beginMove client page ⌝ }
+{
+    let mut next = client;
+    next.stage = 1;
+    next.page = page;
+    completes(page, next, GrantChange::Same, Write::Keep)
+}
+
+// Release ends one grant and lowers that frame's pins by one. Read: the grant's place, its frame, and the frame's pins.
+pub fn release_move(client: Client, page: u32, i: u8, f: u8, pins: u8) -> Move
+    ensures { λ r. ⌜ r ≡ releaseMove client page i f pins ⌝ }
+{
+    if pins == EVICTED {
+        return stuck(client);
+    }
+    let held = lowered(client.held);
+    let mut next = client;
+    next.held = held;
+    completes(
+        page,
+        next,
+        GrantChange::End(i, held),
+        Write::PutPins(f, pins - 1),
+    )
 }

@@ -7,7 +7,7 @@ ghost use Prim.Native.Nat.{_+_, _-_, _≤_};
 ghost use lib.ListN.{length};
 ghost use Rattle.pool.specs.Schedule.{endOf, reportOf};
 ghost use Rattle.schedule.specs.Rest.{SetUp, endAfter, reportAfter, stopped, rest};
-use moves::Numbers;
+use dispatch::Numbers;
 use pool::Ended;
 use pool::NONE;
 use pool::Pool;

@@ -39,109 +39,109 @@ fn growth(size: u32, i: u32, s: u32) -> u32
 // ---- the stages
 
 // 1. "Look up the page: frame found, 2; none, 4."
-pub fn one(client: Client, found: u8) -> Move
+pub fn stage1(client: Client, found: u8) -> Move
     ensures { λ r. ⌜ r ≡ stage1 client found ⌝ }
 {
     if found == NONE {
-        return endings::works(client, 4, Write::Keep);
+        return moves::works(client, 4, Write::Keep);
     }
     let mut next = client;
     next.found = found;
-    endings::works(next, 2, Write::Keep)
+    moves::works(next, 2, Write::Keep)
 }
 
 // 2. "If its pins are 0 or more, add one, 3; else 4."
-pub fn two(client: Client, pins: u8) -> Move
+pub fn stage2(client: Client, pins: u8) -> Move
     requires { ⌜ pins ≤ 129 ⌝ }
     ensures { λ r. ⌜ r ≡ stage2 client pins ⌝ }
 {
     if pins == EVICTED {
         let mut next = client;
         next.found = NONE;
-        return endings::works(next, 4, Write::Keep);
+        return moves::works(next, 4, Write::Keep);
     }
-    endings::works(client, 3, Write::PutPins(client.found, pins + 1))
+    moves::works(client, 3, Write::PutPins(client.found, pins + 1))
 }
 
 // 3. "Raise its count by one unless at C; granted."
-pub fn three(client: Client, cap: u8, count: u8) -> Move
+pub fn stage3(client: Client, cap: u8, count: u8) -> Move
     ensures { λ r. ⌜ r ≡ stage3 client cap count ⌝ }
 {
-    endings::granted_found(client, cap, count, Counted::Hit)
+    moves::granted_found(client, cap, count, Counted::Hit)
 }
 
 // 4. "Take a frame: this page, pins 1, count 1; go to 5."
-pub fn four(client: Client, fresh: u8) -> Move
+pub fn stage4(client: Client, fresh: u8) -> Move
     ensures { λ r. ⌜ r ≡ stage4 client fresh ⌝ }
 {
     if fresh == NONE {
-        return endings::stuck(client);
+        return moves::stuck(client);
     }
     let mut next = client;
     next.own = fresh;
-    endings::works(next, 5, Write::TakeFrame(fresh, client.page, ONE_PIN, 1))
+    moves::works(next, 5, Write::TakeFrame(fresh, client.page, ONE_PIN, 1))
 }
 
 // 5. "Read free: 0, 10; else 6."
-pub fn five(client: Client, free: u8) -> Move
+pub fn stage5(client: Client, free: u8) -> Move
     ensures { λ r. ⌜ r ≡ stage5 client free ⌝ }
 {
     if free == 0 {
-        return endings::works(client, 10, Write::Keep);
+        return moves::works(client, 10, Write::Keep);
     }
     let mut next = client;
     next.seen = free;
-    endings::works(next, 6, Write::Keep)
+    moves::works(next, 6, Write::Keep)
 }
 
 // 6. "If free is still the value read, lower it by one, 7; else 5."
-pub fn six(client: Client, free: u8) -> Move
+pub fn stage6(client: Client, free: u8) -> Move
     ensures { λ r. ⌜ r ≡ stage6 client free ⌝ }
 {
     if free == client.seen {
         if free == 0 {
-            return endings::stuck(client);
+            return moves::stuck(client);
         }
-        return endings::works(client, 7, Write::PutFree(free - 1));
+        return moves::works(client, 7, Write::PutFree(free - 1));
     }
-    endings::works(client, 5, Write::Keep)
+    moves::works(client, 5, Write::Keep)
 }
 
 // 7. "Read the hand; the place is its slot; 8."
-pub fn seven(client: Client, hand: u32, size: u8) -> Move
+pub fn stage7(client: Client, hand: u32, size: u8) -> Move
     requires { ⌜ 0 < size ⌝ }
     ensures { λ r. ⌜ r ≡ stage7 client hand size ⌝ }
 {
     let place = slot_of(hand, size);
     let mut next = client;
     next.place = place;
-    endings::works(next, 8, Write::Keep)
+    moves::works(next, 8, Write::Keep)
 }
 
 // 8. "If the slot at the place is empty, put the own frame there, 9; else the place moves on one, round the end, still 8."
-pub fn eight(client: Client, there: u8, size: u8) -> Move
+pub fn stage8(client: Client, there: u8, size: u8) -> Move
     requires { ⌜ client .place < size ⌝ }
     ensures { λ r. ⌜ r ≡ stage8 client there size ⌝ }
 {
     if there == NONE {
-        return endings::works(client, 9, Write::PutSlot(client.place, client.own));
+        return moves::works(client, 9, Write::PutSlot(client.place, client.own));
     }
-    let place = endings::around(size, client.place);
+    let place = moves::around(size, client.place);
     let mut next = client;
     next.place = place;
-    endings::works(next, 8, Write::Keep)
+    moves::works(next, 8, Write::Keep)
 }
 
 // 9. "Hand plus one; 18."
-pub fn nine(client: Client, hand: u32) -> Move
+pub fn stage9(client: Client, hand: u32) -> Move
     ensures { λ r. ⌜ r ≡ stage9 client hand ⌝ }
 {
     let moved = std::num::wrapping_add_u32(hand, 1);
-    endings::works(client, 18, Write::PutHand(moved))
+    moves::works(client, 18, Write::PutHand(moved))
 }
 
 // 10. "Start := hand; i := start modulo S; busy run := 0; 11."
-pub fn ten(client: Client, hand: u32, size: u8) -> Move
+pub fn stage10(client: Client, hand: u32, size: u8) -> Move
     requires { ⌜ 0 < size ⌝ }
     ensures { λ r. ⌜ r ≡ stage10 client hand size ⌝ }
 {
@@ -151,77 +151,77 @@ pub fn ten(client: Client, hand: u32, size: u8) -> Move
     next.place = place;
     next.start = hand;
     next.busy = 0;
-    endings::works(next, 11, Write::Keep)
+    moves::works(next, 11, Write::Keep)
 }
 
 // 11. "Look at slot i: empty is a busy visit; else remember its frame e, 12."
-pub fn eleven(client: Client, there: u8, size: u8) -> Move
+pub fn stage11(client: Client, there: u8, size: u8) -> Move
     requires { ⌜ (client .place < size) × (client .busy < size) ⌝ }
     ensures { λ r. ⌜ r ≡ stage11 client there size ⌝ }
 {
     if there == NONE {
-        return endings::busy_visit(client, size);
+        return moves::busy_visit(client, size);
     }
     let mut next = client;
     next.victim = there;
-    endings::works(next, 12, Write::Keep)
+    moves::works(next, 12, Write::Keep)
 }
 
 // 12. "Read e's pins: -1, 15; above 0, busy visit; 0, 13."
-pub fn twelve(client: Client, pins: u8, size: u8) -> Move
+pub fn stage12(client: Client, pins: u8, size: u8) -> Move
     requires { ⌜ (client .place < size) × (client .busy < size) ⌝ }
     ensures { λ r. ⌜ r ≡ stage12 client pins size ⌝ }
 {
     if pins == EVICTED {
-        return endings::works(client, 15, Write::Keep);
+        return moves::works(client, 15, Write::Keep);
     }
     if pins > NO_PIN {
-        return endings::busy_visit(client, size);
+        return moves::busy_visit(client, size);
     }
-    endings::works(client, 13, Write::Keep)
+    moves::works(client, 13, Write::Keep)
 }
 
 // 13. "Lower e's count by one unless 0. Now 0, 14; else next slot."
-pub fn thirteen(client: Client, count: u8, size: u8) -> Move
+pub fn stage13(client: Client, count: u8, size: u8) -> Move
     requires { ⌜ client .place < size ⌝ }
     ensures { λ r. ⌜ r ≡ stage13 client count size ⌝ }
 {
-    let left = endings::lowered(count);
+    let left = moves::lowered(count);
     if left == 0 {
-        return endings::works(client, 14, Write::PutCount(client.victim, left));
+        return moves::works(client, 14, Write::PutCount(client.victim, left));
     }
-    endings::next_slot(client, size, Write::PutCount(client.victim, left))
+    moves::next_slot(client, size, Write::PutCount(client.victim, left))
 }
 
 // 14. "If e's pins are 0, set them to -1, 15; else next slot."
-pub fn fourteen(client: Client, pins: u8, size: u8) -> Move
+pub fn stage14(client: Client, pins: u8, size: u8) -> Move
     requires { ⌜ client .place < size ⌝ }
     ensures { λ r. ⌜ r ≡ stage14 client pins size ⌝ }
 {
     if pins == NO_PIN {
-        return endings::works_as(
+        return moves::works_as(
             client,
             Counted::Drop,
             15,
             Write::PutPins(client.victim, EVICTED),
         );
     }
-    endings::next_slot(client, size, Write::Keep)
+    moves::next_slot(client, size, Write::Keep)
 }
 
 // 15. "If slot i still names e, put the own frame there, 16; else next slot."
-pub fn fifteen(client: Client, there: u8, size: u8) -> Move
+pub fn stage15(client: Client, there: u8, size: u8) -> Move
     requires { ⌜ client .place < size ⌝ }
     ensures { λ r. ⌜ r ≡ stage15 client there size ⌝ }
 {
     if there == client.victim {
-        return endings::works(client, 16, Write::PutSlot(client.place, client.own));
+        return moves::works(client, 16, Write::PutSlot(client.place, client.own));
     }
-    endings::next_slot(client, size, Write::Keep)
+    moves::next_slot(client, size, Write::Keep)
 }
 
 // 16. "With s = start modulo S, the hand grows by i - s + 1, plus S when i is below s; 17."
-pub fn sixteen(client: Client, hand: u32, size: u8) -> Move
+pub fn stage16(client: Client, hand: u32, size: u8) -> Move
     requires { ⌜ (client .place < size) × (size ≤ 64) ⌝ }
     ensures { λ r. ⌜ r ≡ stage16 client hand size ⌝ }
 {
@@ -229,31 +229,31 @@ pub fn sixteen(client: Client, hand: u32, size: u8) -> Move
     let i = client.place as u32;
     let by = growth(n, i, client.start % n);
     let moved = std::num::wrapping_add_u32(hand, by);
-    endings::works(client, 17, Write::PutHand(moved))
+    moves::works(client, 17, Write::PutHand(moved))
 }
 
 // 17. "If the table maps e's page to e, remove the entry; 18." Read: e's page, the place of its entry, and the frame there.
-pub fn seventeen(client: Client, page: u32, i: u8, mapped: u8) -> Move
+pub fn stage17(client: Client, page: u32, i: u8, mapped: u8) -> Move
     ensures { λ r. ⌜ r ≡ stage17 client page i mapped ⌝ }
 {
     let mut next = client;
     next.victim = NONE;
     if mapped == client.victim {
-        return endings::works(next, 18, Write::PutEntry(i, page, NONE));
+        return moves::works(next, 18, Write::PutEntry(i, page, NONE));
     }
-    endings::works(next, 18, Write::Keep)
+    moves::works(next, 18, Write::Keep)
 }
 
 // 18. "If the table lacks the page, map it to the own frame, granted; else remember the frame found, 19." Read: the frame found, and the
 // first unused place.
-pub fn eighteen(client: Client, found: u8, i: u8) -> Move
+pub fn stage18(client: Client, found: u8, i: u8) -> Move
     ensures { λ r. ⌜ r ≡ stage18 client found i ⌝ }
 {
     if found == NONE {
         if i == NONE {
-            return endings::stuck(client);
+            return moves::stuck(client);
         }
-        return endings::granted(
+        return moves::granted(
             client,
             client.own,
             Write::PutEntry(i, client.page, client.own),
@@ -262,41 +262,41 @@ pub fn eighteen(client: Client, found: u8, i: u8) -> Move
     }
     let mut next = client;
     next.found = found;
-    endings::works(next, 19, Write::Keep)
+    moves::works(next, 19, Write::Keep)
 }
 
 // 19. "If its pins are 0 or more, add one, 20; else 22."
-pub fn nineteen(client: Client, pins: u8) -> Move
+pub fn stage19(client: Client, pins: u8) -> Move
     requires { ⌜ pins ≤ 129 ⌝ }
     ensures { λ r. ⌜ r ≡ stage19 client pins ⌝ }
 {
     if pins == EVICTED {
-        return endings::works(client, 22, Write::Keep);
+        return moves::works(client, 22, Write::Keep);
     }
-    endings::works(client, 20, Write::PutPins(client.found, pins + 1))
+    moves::works(client, 20, Write::PutPins(client.found, pins + 1))
 }
 
 // 20. "Own frame's pins 1 become -1; 21."
-pub fn twenty(client: Client, pins: u8) -> Move
+pub fn stage20(client: Client, pins: u8) -> Move
     ensures { λ r. ⌜ r ≡ stage20 client pins ⌝ }
 {
-    endings::evict_own(client, pins, 21)
+    moves::evict_own(client, pins, 21)
 }
 
 // 21. "Raise the found frame's count as in 3; granted the found frame."
-pub fn twenty_one(client: Client, cap: u8, count: u8) -> Move
+pub fn stage21(client: Client, cap: u8, count: u8) -> Move
     ensures { λ r. ⌜ r ≡ stage21 client cap count ⌝ }
 {
-    endings::granted_found(client, cap, count, Counted::Join)
+    moves::granted_found(client, cap, count, Counted::Join)
 }
 
 // 22. "If the table still maps the page to the found frame, map it to the own frame, granted; else 23." Read: the place of the page's entry,
 // and the frame there.
-pub fn twenty_two(client: Client, i: u8, mapped: u8) -> Move
+pub fn stage22(client: Client, i: u8, mapped: u8) -> Move
     ensures { λ r. ⌜ r ≡ stage22 client i mapped ⌝ }
 {
     if mapped == client.found {
-        return endings::granted(
+        return moves::granted(
             client,
             client.own,
             Write::PutEntry(i, client.page, client.own),
@@ -305,12 +305,12 @@ pub fn twenty_two(client: Client, i: u8, mapped: u8) -> Move
     }
     let mut next = client;
     next.found = NONE;
-    endings::works(next, 23, Write::Keep)
+    moves::works(next, 23, Write::Keep)
 }
 
 // 23. "Own frame's pins 1 become -1; 4."
-pub fn twenty_three(client: Client, pins: u8) -> Move
+pub fn stage23(client: Client, pins: u8) -> Move
     ensures { λ r. ⌜ r ≡ stage23 client pins ⌝ }
 {
-    endings::evict_own(client, pins, 4)
+    moves::evict_own(client, pins, 4)
 }

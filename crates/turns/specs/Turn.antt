@@ -18,7 +18,7 @@ use Rattle.pool.specs.declared.Move.{Move}
 use Rattle.pool.specs.declared.Pool.{Pool}
 use Rattle.pool.specs.declared.Write.the-variants.{Keep}
 use Rattle.laws.specs.Choices.{chosen}
-use Rattle.moves.specs.Lends.{Asks}
+use Rattle.dispatch.specs.Lends.{Asks}
 
 -- the client whose record is put back: of n clients the one with number c, the first where there is none
 unfoldable pub clientOrFirst : ℕ → ℕ → ℕ

@@ -5,9 +5,9 @@ ghost use Prim.Native.Nat.{_<_, _≤_};
 ghost use Rattle.pool.specs.State.{client};
 ghost use Rattle.pool.specs.Calls.{caller, refusalAt};
 ghost use Rattle.pool.specs.declared.Pool.{Pool};
-ghost use Rattle.moves.specs.Lends.{Lends, Ready};
+ghost use Rattle.dispatch.specs.Lends.{Lends, Ready};
 ghost use Rattle.turns.specs.Turn.{clientOrFirst, still, turn, Turns};
-use moves::Numbers;
+use dispatch::Numbers;
 use pool::Answer;
 use pool::Call;
 use pool::Client;
@@ -93,7 +93,7 @@ pub fn decide<'a>(
     if refused != 0 {
         return still(client, refused);
     }
-    moves::call_move(
+    dispatch::call_move(
         call,
         client,
         n,

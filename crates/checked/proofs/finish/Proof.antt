@@ -7,7 +7,7 @@ use native.Mathlib.Omega.{arith}
 use Rattle.pool.specs.Answers.{refusalOf}
 use Rattle.pool.specs.Valid.{valid}
 use Rattle.pool.specs.declared.Pool.{Pool}
-use Rattle.moves.specs.Ready.{slots-fit, clients-fit}
+use Rattle.dispatch.specs.Ready.{slots-fit, clients-fit}
 use Rattle.checked.specs.Ways.{stays, breaks, keeps}
 use Rattle.checked.proofs.finish.Statement.{statement}
 use Rattle.checked.proofs.finish.Tie as tie

@@ -8,7 +8,7 @@ use lib.ListN.{getD}
 use Rattle.pool.specs.State.{client, no-client}
 use Rattle.pool.specs.Frames.{freeFrame}
 use Rattle.pool.specs.Calls.{caller}
-use Rattle.moves.specs.Ready.{slots-fit, clients-fit, grants-fit, searchable, ready}
+use Rattle.dispatch.specs.Ready.{slots-fit, clients-fit, grants-fit, searchable, ready}
 use Rattle.checked.specs.Ways.{read-client}
 use Rattle.checked.proofs.move_of.Statement.{statement}
 use Rattle.checked.proofs.move_of.Tie as tie

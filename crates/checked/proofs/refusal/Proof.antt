@@ -11,7 +11,7 @@ use Rattle.pool.specs.State.{clientCount, client, no-client}
 use Rattle.pool.specs.Valid.{valid}
 use Rattle.pool.specs.Calls.{caller, refusalAt}
 use Rattle.pool.specs.declared.Client.{Client}
-use Rattle.moves.specs.Ready.{clients-fit, grants-fit}
+use Rattle.dispatch.specs.Ready.{clients-fit, grants-fit}
 use Rattle.checked.specs.Ways.{unsound, outside, inside, read-client}
 use Rattle.checked.proofs.refusal.Statement.{statement}
 use Rattle.checked.proofs.refusal.Tie as tie

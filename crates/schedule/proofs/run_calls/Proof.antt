@@ -21,8 +21,8 @@ use Rattle.pool.specs.declared.Move.{Move}
 use Rattle.pool.specs.declared.Pool.{Pool}
 use Rattle.pool.specs.declared.Reading.the-variants.{Asked}
 use Rattle.laws.specs.Elements.{client-of-pool}
-use Rattle.moves.specs.Applied.{applied}
-use Rattle.moves.specs.Ready.{searchable, ready, grants-fit}
+use Rattle.dispatch.specs.Applied.{applied}
+use Rattle.dispatch.specs.Ready.{searchable, ready, grants-fit}
 use Rattle.report.specs.Lines.{written, line-fits}
 use Rattle.turns.specs.Turn.{clientOrFirst, turn}
 use Rattle.invariant.proofs.Valid.{valid-reached}

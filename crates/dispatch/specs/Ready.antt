@@ -1,0 +1,52 @@
+-- A valid pool has what the frame search and the moves ask of it. Assumes nothing.
+use mathlib.Core.Path.{_≡_}
+use mathlib.Core.Bool.{true}
+use Prim.Native.Nat.{ℕ, _<_, _≤_}
+use native.Mathlib.Omega.{arith}
+use Rattle.pool.specs.State.{pinned, clientCount, total, pins, client}
+use Rattle.pool.specs.Valid.{valid}
+use Rattle.pool.specs.declared.Pool.{Pool}
+use Rattle.ranges.specs.Ranges.{Ranged, ranged, pins-low}
+use Rattle.reads.specs.Lists.{Searchable}
+use Rattle.dispatch.specs.Lends.{numbersOf, Ready}
+
+module _ (p : Pool) (v : valid p ≡ true) where
+  in-range : Ranged p
+  in-range = ranged p v
+
+  pub some-slot : 0 < p .size
+  some-slot = in-range .numbers .some-slot
+
+  pub slots-fit : p .size ≤ 64
+  slots-fit = in-range .numbers .slots
+
+  pub clients-fit : clientCount p ≤ 16
+  clients-fit = in-range .numbers .clients
+
+  pub pins-fit : (f : ℕ) → pins p f ≤ pinned 128
+  pins-fit = pins-low p in-range
+
+  module _ (c : ℕ) (h : c < clientCount p) where
+    pub grants-fit : client p c .held ≤ 8
+    grants-fit = in-range .client c h .counts .held
+
+    pub place-in : client p c .place < p .size
+    place-in = in-range .client c h .counts .place
+
+    pub busy-in : client p c .busy < p .size
+    busy-in = in-range .client c h .counts .busy
+
+  pub searchable : Searchable p
+  searchable = record { some-slot = some-slot; slots = slots-fit; clients = clients-fit; grants = grants-fit }
+
+  pub ready : (c : ℕ) → c < clientCount p → {t : ℕ} → t ≡ total p → Ready (client p c) (numbersOf p t) (p .pins)
+  unfolding pins
+  ready c h e =
+      record {
+        some-slot = some-slot;
+        slots = slots-fit;
+        frames = omega (arith, slots-fit, clients-fit);
+        place = place-in c h;
+        busy = busy-in c h;
+        pins = λ f. rw e (pins-fit f);
+      }
