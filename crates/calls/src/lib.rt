@@ -8,12 +8,16 @@ ghost use Rattle.pool.specs.declared.Call.the-variants.{Begin, Release};
 ghost use Rattle.answers.specs.Among.{Among};
 ghost use Rattle.calls.specs.Tallied.{steppedOf};
 use pool::Answer;
+use pool::CLIENTS;
 use pool::Call;
 use pool::Counted;
 use pool::EVICTED;
+use pool::FRAMES;
+use pool::GRANTS;
 use pool::NONE;
 use pool::Outcome;
 use pool::Pool;
+use pool::SLOTS;
 use pool::Tally;
 
 // ---- setup
@@ -30,15 +34,15 @@ fn fresh(size: u8, client_count: u8, cap: u8, hand: u32) -> Pool
         hand,
         free: size,
         last: NONE,
-        slots: [NONE; 64],
-        pages: [0; 96],
-        pins: [EVICTED; 96],
-        counts: [0; 96],
-        table_pages: [0; 96],
-        table_frames: [NONE; 96],
-        clients: [resting; 16],
-        grant_pages: [0; 128],
-        grant_frames: [0; 128],
+        slots: [NONE; SLOTS],
+        pages: [0; FRAMES],
+        pins: [EVICTED; FRAMES],
+        counts: [0; FRAMES],
+        table_pages: [0; FRAMES],
+        table_frames: [NONE; FRAMES],
+        clients: [resting; CLIENTS],
+        grant_pages: [0; GRANTS],
+        grant_frames: [0; GRANTS],
     }
 }
 

@@ -3,6 +3,7 @@ use mathlib.Core.Path.{_≡_}
 use mathlib.Core.List.{List}
 use Prim.Native.Nat.{ℕ, _*_}
 use lib.ListN.{set}
+use Rattle.pool.specs.Limits.{maxHeld}
 use Rattle.pool.specs.State.{total}
 use Rattle.pool.specs.Apply.{slotsAfter, pagesAfter, pinsAfter, countsAfter, entryPagesAfter, entryFramesAfter, handAfter, freeAfter, lastAfter}
 use Rattle.pool.specs.Apply.{grantPagesAfter, grantFramesAfter, apply}
@@ -22,8 +23,8 @@ pub applied : (p : Pool) (c n : ℕ) (m : Move) →
     counts ≡ countsAfter n (p .counts) (m .write) →
     tablePages ≡ entryPagesAfter n (p .«table_pages») (m .write) →
     tableFrames ≡ entryFramesAfter n (p .«table_frames») (m .write) →
-    grantPages ≡ grantPagesAfter (8 * p .«client_count») c (p .«grant_pages») (m .grants) →
-    grantFrames ≡ grantFramesAfter (8 * p .«client_count») c (p .«grant_frames») (m .grants) →
+    grantPages ≡ grantPagesAfter (maxHeld * p .«client_count») c (p .«grant_pages») (m .grants) →
+    grantFrames ≡ grantFramesAfter (maxHeld * p .«client_count») c (p .«grant_frames») (m .grants) →
     record {
       size = p .size;
       «client_count» = p .«client_count»;

@@ -2,6 +2,7 @@
 use mathlib.Core.Path.{_≡_}
 use mathlib.Core.List.{List}
 use Prim.Native.Nat.{ℕ, _<_, _≤_}
+use Rattle.pool.specs.Limits.{maxSize, maxPins, maxFrames}
 use Rattle.pool.specs.State.{evicted, pinned, total, within, client}
 use Rattle.pool.specs.Frames.{freeFrame}
 use Rattle.pool.specs.Calls.{caller}
@@ -38,8 +39,8 @@ pub record Asks (p : Pool) (call : Call) (k : Client) (taken : ℕ) (grantPages 
 -- what a valid pool gives: its arrays have what its numbers say, a client's numbers are in range, and a pin more fits
 pub record Ready (k : Client) (n : Numbers) (pins′ : List ℕ) : Type 0 where
   pub some-slot : 0 < n .size
-  pub slots : n .size ≤ 64
-  pub frames : n .total ≤ 96
+  pub slots : n .size ≤ maxSize
+  pub frames : n .total ≤ maxFrames
   pub place : k .place < n .size
   pub busy : k .busy < n .size
-  pub pins : (f : ℕ) → within pins′ (n .total) evicted f ≤ pinned 128
+  pub pins : (f : ℕ) → within pins′ (n .total) evicted f ≤ pinned maxPins

@@ -3,6 +3,7 @@ use mathlib.Core.Path.{_≡_}
 use mathlib.Core.Bool.{true}
 use Prim.Native.Nat.{ℕ, _<_, _≤_}
 use native.Mathlib.Omega.{arith}
+use Rattle.pool.specs.Limits.{maxSize, maxClients, maxHeld, maxPins}
 use Rattle.pool.specs.State.{pinned, clientCount, total, pins, client}
 use Rattle.pool.specs.Valid.{valid}
 use Rattle.pool.specs.declared.Pool.{Pool}
@@ -17,17 +18,17 @@ module _ (p : Pool) (v : valid p ≡ true) where
   pub some-slot : 0 < p .size
   some-slot = in-range .numbers .some-slot
 
-  pub slots-fit : p .size ≤ 64
+  pub slots-fit : p .size ≤ maxSize
   slots-fit = in-range .numbers .slots
 
-  pub clients-fit : clientCount p ≤ 16
+  pub clients-fit : clientCount p ≤ maxClients
   clients-fit = in-range .numbers .clients
 
-  pub pins-fit : (f : ℕ) → pins p f ≤ pinned 128
+  pub pins-fit : (f : ℕ) → pins p f ≤ pinned maxPins
   pins-fit = pins-low p in-range
 
   module _ (c : ℕ) (h : c < clientCount p) where
-    pub grants-fit : client p c .held ≤ 8
+    pub grants-fit : client p c .held ≤ maxHeld
     grants-fit = in-range .client c h .counts .held
 
     pub place-in : client p c .place < p .size

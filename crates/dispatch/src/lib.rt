@@ -1,6 +1,7 @@
 // The move of a call, decided over the pool's arrays where they lie, and a move applied to a pool by value.
 ghost use mathlib.Core.Path.{_≡_};
 ghost use Prim.Native.Nat.{_<_, _≤_};
+ghost use Rattle.pool.specs.Limits.{maxSize, maxClients, maxHeld};
 ghost use Rattle.pool.specs.Frames.{freeFrame};
 ghost use Rattle.pool.specs.Stages.{stageMove};
 ghost use Rattle.pool.specs.Calls.{caller, moveOf};
@@ -10,9 +11,12 @@ ghost use Rattle.dispatch.specs.Lends.{Lends, Asks, Ready};
 use pool::Call;
 use pool::Client;
 use pool::EVICTED;
+use pool::FRAMES;
+use pool::GRANTS;
 use pool::Move;
 use pool::NONE;
 use pool::Pool;
+use pool::SLOTS;
 
 // The numbers of a pool that a move reads.
 pub struct Numbers {
@@ -29,12 +33,12 @@ pub fn stage_move<'a>(
     client: Client,
     n: Numbers,
     fresh: u8,
-    slots: &'a [u8; 64],
-    pages: &'a [u32; 96],
-    pins: &'a [u8; 96],
-    counts: &'a [u8; 96],
-    table_pages: &'a [u32; 96],
-    table_frames: &'a [u8; 96],
+    slots: &'a [u8; SLOTS],
+    pages: &'a [u32; FRAMES],
+    pins: &'a [u8; FRAMES],
+    counts: &'a [u8; FRAMES],
+    table_pages: &'a [u32; FRAMES],
+    table_frames: &'a [u8; FRAMES],
 ) -> Move
     requires { ⌜ Ready client n (now pins) ⌝ }
     ensures { λ r. ⌜ ((p : Pool) →
@@ -129,17 +133,17 @@ pub fn call_move<'a>(
     client: Client,
     n: Numbers,
     fresh: u8,
-    slots: &'a [u8; 64],
-    pages: &'a [u32; 96],
-    pins: &'a [u8; 96],
-    counts: &'a [u8; 96],
-    table_pages: &'a [u32; 96],
-    table_frames: &'a [u8; 96],
-    grant_pages: &'a [u32; 128],
-    grant_frames: &'a [u8; 128],
+    slots: &'a [u8; SLOTS],
+    pages: &'a [u32; FRAMES],
+    pins: &'a [u8; FRAMES],
+    counts: &'a [u8; FRAMES],
+    table_pages: &'a [u32; FRAMES],
+    table_frames: &'a [u8; FRAMES],
+    grant_pages: &'a [u32; GRANTS],
+    grant_frames: &'a [u8; GRANTS],
 ) -> Move
     requires { ⌜ Ready client n (now pins) ⌝ }
-    requires { ⌜ (caller call < 16) × (client .held ≤ 8) ⌝ }
+    requires { ⌜ (caller call < maxClients) × (client .held ≤ maxHeld) ⌝ }
     ensures { λ r. ⌜ ((p : Pool) →
         Lends p n (now (slots .entry)) (now (pages .entry)) (now (pins .entry)) (now (counts .entry))
         (now («table_pages» .entry)) (now («table_frames» .entry)) →
@@ -170,7 +174,7 @@ pub fn call_move<'a>(
 
 // The pool after a move of client c.
 pub fn apply(pool: Pool, c: usize, m: Move) -> Pool
-    requires { ⌜ (c < 16) × (pool .size ≤ 64) × (pool .«client_count» ≤ 16) ⌝ }
+    requires { ⌜ (c < maxClients) × (pool .size ≤ maxSize) × (pool .«client_count» ≤ maxClients) ⌝ }
     ensures { λ r. ⌜ r ≡ apply pool c m ⌝ }
 {
     let mut next = pool;

@@ -7,6 +7,7 @@ use native.Mathlib.Omega.{arith}
 use lib.Dec.{eqb}
 use lib.ListN.{getD}
 use borrow.Author.Tests.{ne-eqb, eq-eqb, lt-ltb}
+use Rattle.pool.specs.Limits.{maxHeld}
 use Rattle.pool.specs.Choose.{choose}
 use Rattle.pool.specs.Answers.{refusalOf}
 use Rattle.pool.specs.State.{none, evicted, pinned, clientCount, slot, page, pins, count, client}
@@ -146,7 +147,7 @@ granted-is : {p : Pool} {b g i : ℕ} → AloneAt p b g (suc i) → (f : ℕ) (w
 unfolding granted
 granted-is {p} {b} {g} {i} on f w u =
     let few = on .reached .ranges .working-held b (λ z. let q : suc i ≡ 0 = sym (on .stage) ∙ z in omega arith) in
-    chosen _ _ _ (lt-ltb (client p b .held) 8 (omega arith))
+    chosen _ _ _ (lt-ltb (client p b .held) maxHeld (omega arith))
 
 module _ (p : Pool) (b g : ℕ) where
   abbrev k : Client

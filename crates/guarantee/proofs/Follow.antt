@@ -9,6 +9,7 @@ use native.Mathlib.Omega.{arith}
 use lib.Dec.{eqb, ltb}
 use lib.ListN.{length}
 use borrow.Author.Tests.{eqb-true, eq-eqb, ne-eqb}
+use Rattle.pool.specs.Limits.{maxHeld}
 use Rattle.pool.specs.Choose.{choose}
 use Rattle.pool.specs.State.{none, evicted, pinned, clientCount, pins, client, grantPage, grantFrame}
 use Rattle.pool.specs.Grants.{grantOf}
@@ -82,7 +83,7 @@ module _ {p : Pool} {q : Sequential} (r : Reached p) (related : SimulationRelati
       (choose-alike (ltb c (clientCount p))
       (λ _. choose-alike (eqb (client p c .stage) 0) (λ s. full (eqb-true _ _ s)) (λ _. refl)) (λ _. refl))
     where
-      full : client p c .stage ≡ 0 → _≡_ {A = ℕ} (choose (ltb (client p c .held) 8) 0 12) (choose (ltb (length (seqClient q c .grants)) 8) 0 12)
+      full : client p c .stage ≡ 0 → _≡_ {A = ℕ} (choose (ltb (client p c .held) maxHeld) 0 12) (choose (ltb (length (seqClient q c .grants)) maxHeld) 0 12)
       full s = rw (open-many (related .clients c) (rw s refl)) refl
   refusal-alike (Step c) = chosen _ _ _ (valid-reached p r) ∙ rw (related .count, related .clients c .stage) refl
   refusal-alike (Release c g) =
@@ -113,7 +114,7 @@ module _ {p : Pool} {q : Sequential} (r : Reached p) (related : SimulationRelati
     abbrev t : SeqClient
     t = seqClient q c
 
-    abbrev few : (d : ℕ) → client p d .held ≤ 8
+    abbrev few : (d : ℕ) → client p d .held ≤ maxHeld
     few = r .ranges .held-ok
 
     begun : (g : ℕ) → seqRefusal q (Begin c g) ≡ 0 → k .stage ≡ 0 → Followed q (Begin c g) (moved p (Begin c g))

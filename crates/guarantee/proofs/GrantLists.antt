@@ -6,6 +6,7 @@ use Prim.Native.Nat.{ℕ, _+_, _-_, _≤_, _<_}
 use native.Mathlib.Omega.{arith}
 use native.Mathlib.Decide.{ℕ-discrete}
 use borrow.Author.Tests.{eqb-true}
+use Rattle.pool.specs.Limits.{maxHeld}
 use Rattle.pool.specs.State.{none, evicted, pinned, clientCount, resting, pins, client, grantPage, grantFrame}
 use Rattle.pool.specs.Answers.{valueOf}
 use Rattle.pool.specs.Grants.{grantOf}
@@ -91,7 +92,7 @@ module _ (p : Pool) (r : Reached p) (c : ℕ) (here : c < clientCount p) (m : Mo
   abbrev me : Client
   me = client p c
 
-  abbrev few : (d : ℕ) → client p d .held ≤ 8
+  abbrev few : (d : ℕ) → client p d .held ≤ maxHeld
   few = r .ranges .held-ok
 
   abbrev made : Event
@@ -103,7 +104,7 @@ module _ (p : Pool) (r : Reached p) (c : ℕ) (here : c < clientCount p) (m : Mo
   held-now : client (apply p c m) c .held ≡ m .next .held
   held-now = held-next p c m (r .shape) here few
 
-  opened : (f : ℕ) → m .grants ≡ Open (me .held) (me .page) f → m .next .held ≡ me .held + 1 → me .held < 8 → GrantOpens c made f
+  opened : (f : ℕ) → m .grants ≡ Open (me .held) (me .page) f → m .next .held ≡ me .held + 1 → me .held < maxHeld → GrantOpens c made f
   opened f g h room =
       record {
         one-more = held-now ∙ h;

@@ -13,6 +13,7 @@ use lib.Dec.{T, eqb}
 use lib.ListN.{length, getD, set, length-set}
 use lib.Seq.{getD-set-same, getD-set-other}
 use borrow.Author.Tests.{ne-eqb}
+use Rattle.pool.specs.Limits.{maxHeld}
 use Rattle.pool.specs.State.{none, evicted, pinned, clientCount, total, slot, pins, entryFrame, client, grantPage, grantFrame}
 use Rattle.pool.specs.Apply.{apply}
 use Rattle.pool.specs.declared.Pool.{Pool}
@@ -108,7 +109,7 @@ module _ {p : Pool} {c : ℕ} {q : Sequential} (acting : Acting p c q) where
 
   -- ---- the acting client after a move
 
-  few : (d : ℕ) → client p d .held ≤ 8
+  few : (d : ℕ) → client p d .held ≤ maxHeld
   few = r .ranges .held-ok
 
   module _ (m : Move) (j : ℕ) (u : Counted) (o : observable m ≡ workingMove k j u) where
@@ -128,7 +129,7 @@ module _ {p : Pool} {c : ℕ} {q : Sequential} (acting : Acting p c q) where
           same-grants = grantsOf-keeps p c m (r .shape) here few (ap (λ (x : Observable). x .grants) o) same-held;
         }
 
-  module _ (m : Move) (f : ℕ) (u : Counted) (o : observable m ≡ grantedMove k f u) (room : k .held < 8) where
+  module _ (m : Move) (f : ℕ) (u : Counted) (o : observable m ≡ grantedMove k f u) (room : k .held < maxHeld) where
     more-held : m .next .held ≡ k .held + 1
     more-held = ap (λ (x : Observable). x .held) o
 
@@ -173,7 +174,7 @@ module _ {p : Pool} {c : ℕ} {q : Sequential} (acting : Acting p c q) where
               (pins-view p c m r (k .found) (n + 1) w (pins-in p (k .found) live) (inl (ne-eqb (n + 1) 0 (λ z. omega arith) ∙ sym (ne-eqb n 0 live))));
         }
 
-    pub answers-one : (i : ℕ) (u : Counted) → k .stage ≡ i → T (answering i) → pinsFound i ≡ true → gained u ≡ 0 → lost u ≡ 0 → FoundMapped p k → k .held < 8
+    pub answers-one : (i : ℕ) (u : Counted) → k .stage ≡ i → T (answering i) → pinsFound i ≡ true → gained u ≡ 0 → lost u ≡ 0 → FoundMapped p k → k .held < maxHeld
         → {m : Move} → observable m ≡ grantedMove k (k .found) u → T (countersOnly (m .write)) → Simulates p c q m
     answers-one i u e h pi no-gain no-loss know room {m} o s =
         let live : pins p (k .found) ≢ evicted = λ z. omega (arith, found-has-pin p r c (rw e pi)) in
@@ -191,7 +192,7 @@ module _ {p : Pool} {c : ℕ} {q : Sequential} (acting : Acting p c q) where
         }
 
     -- the wanted page's frames are evicted, and so is the frame of the entry that the own frame gets
-    pub admits-one : (i : ℕ) (u : Counted) → k .stage ≡ i → T (admitting i) → pinsFound i ≡ false → gained u ≡ 1 → lost u ≡ 0 → Placed p k → k .held < 8
+    pub admits-one : (i : ℕ) (u : Counted) → k .stage ≡ i → T (admitting i) → pinsFound i ≡ false → gained u ≡ 1 → lost u ≡ 0 → Placed p k → k .held < maxHeld
         → ((f : ℕ) → f ≢ none → mapped p f ≡ suc (k .page) → pins p f ≡ evicted) → (j : ℕ) → j < total p → pins p (entryFrame p j) ≡ evicted
         → {m : Move} → observable m ≡ grantedMove k (k .own) u → m .write ≡ PutEntry j (k .page) (k .own) → Simulates p c q m
     admits-one i u e h pi gain no-loss own room gone j low out {m} o w =

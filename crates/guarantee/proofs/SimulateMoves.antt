@@ -6,6 +6,7 @@ use mathlib.Core.Logic.{_≢_, inr}
 use Prim.Native.Nat.{ℕ, _<_}
 use native.Mathlib.Omega.{arith}
 use lib.Dec.{T}
+use Rattle.pool.specs.Limits.{maxHeld}
 use Rattle.pool.specs.State.{none, evicted, pinned, page, pins, client}
 use Rattle.pool.specs.Table.{entryOf, unusedEntry}
 use Rattle.pool.specs.Frames.{freeFrame}
@@ -39,7 +40,7 @@ module _ {p : Pool} {c : ℕ} {q : Sequential} (acting : Acting p c q) (busy : c
   known : (i : ℕ) → k .stage ≡ i → Knows i p k
   known = know p r c
 
-  room : k .held < 8
+  room : k .held < maxHeld
   room = omega (arith, r .ranges .working-held c busy)
 
   continues-at : (i j : ℕ) → k .stage ≡ i → {m : Move} → observable m ≡ workingMove k j Nothing → T (continuing i j) → SameView p c m → Simulates p c q m

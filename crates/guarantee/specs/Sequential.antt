@@ -7,6 +7,7 @@ use mathlib.Core.List.{List, [], _∷_}
 use Prim.Native.Nat.{ℕ, _≤_, _<_}
 use lib.Dec.{T, eqb, ltb}
 use lib.ListN.{length, getD, set, replicate}
+use Rattle.pool.specs.Limits.{maxHeld}
 use Rattle.pool.specs.Choose.{choose}
 use Rattle.pool.specs.declared.Call.{Call}
 use Rattle.pool.specs.declared.Call.the-variants.{Begin, Step, Release}
@@ -70,7 +71,7 @@ without g (x ∷ xs) = choose (eqb x g) xs (x ∷ without g xs)
 -- the number by which a call is turned down, 0 where it is not
 unfoldable pub seqRefusal : Sequential → Call → ℕ
 seqRefusal q (Begin c g) =
-    choose (ltb c (length (q .clients))) (choose (eqb (seqClient q c .stage) 0) (choose (ltb (length (seqClient q c .grants)) 8) 0 12) 10) 9
+    choose (ltb c (length (q .clients))) (choose (eqb (seqClient q c .stage) 0) (choose (ltb (length (seqClient q c .grants)) maxHeld) 0 12) 10) 9
 seqRefusal q (Step c) = choose (ltb c (length (q .clients))) (choose (eqb (seqClient q c .stage) 0) 11 0) 9
 seqRefusal q (Release c g) =
     choose (ltb c (length (q .clients))) (choose (eqb (seqClient q c .stage) 0) (choose (member g (seqClient q c .grants)) 0 13) 10) 9

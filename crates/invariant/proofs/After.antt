@@ -11,6 +11,7 @@ use lib.Dec.{ltb}
 use lib.ListN.{length, getD, length-set}
 use lib.Seq.{getD-set-same, getD-set-other}
 use borrow.Author.Tests.{lt-ltb, le-ltb}
+use Rattle.pool.specs.Limits.{maxFrames}
 use Rattle.pool.specs.Choose.{choose}
 use Rattle.pool.specs.State.{none, evicted, clientCount, total, within, resting, no-client, slot, page, pins, count, entryPage, entryFrame, client, grantPlace}
 use Rattle.pool.specs.Apply.{stored, slotsAfter, pagesAfter, pinsAfter, countsAfter, entryPagesAfter, entryFramesAfter, grantPagesAfter, grantFramesAfter}
@@ -232,7 +233,7 @@ module _ (p : Pool) (c : ℕ) (m : Move) where
     entryFrame-else e i = within-else (p .«table_frames») _ (total p) j v e none i
 
 -- and what it writes, as the lists are long enough
-pub few-frames : (p : Pool) → Shape p → total p ≤ 96
+pub few-frames : (p : Pool) → Shape p → total p ≤ maxFrames
 few-frames p shape = omega (arith, shape .size-high, shape .clients-high)
 
 module _ (p : Pool) (c : ℕ) (m : Move) (shape : Shape p) where

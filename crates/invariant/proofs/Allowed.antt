@@ -7,6 +7,7 @@ use mathlib.Core.Bool.{true}
 use Prim.Native.Nat.{ℕ, _<_}
 use native.Mathlib.Omega.{arith}
 use borrow.Author.Tests.{eqb-true, eqb-false, ltb-true}
+use Rattle.pool.specs.Limits.{maxHeld}
 use Rattle.pool.specs.State.{none, clientCount, client}
 use Rattle.pool.specs.Grants.{grantOf}
 use Rattle.pool.specs.Valid.{valid}
@@ -48,11 +49,11 @@ allowed p x =
     (λ _ e. absurd (omega arith))
 
 module _ (p : Pool) (k : Client) (c : ℕ) where
-  pub may-begin : (g : ℕ) → refusalAt p k (Begin c g) ≡ 0 → (k .stage ≡ 0) × (k .held < 8)
+  pub may-begin : (g : ℕ) → refusalAt p k (Begin c g) ≡ 0 → (k .stage ≡ 0) × (k .held < maxHeld)
   unfolding refusalAt
   may-begin g =
-      by-test (λ n. n ≡ 0 → (k .stage ≡ 0) × (k .held < 8))
-      (λ t. by-test (λ n. n ≡ 0 → (k .stage ≡ 0) × (k .held < 8)) (λ h _. (eqb-true _ _ t, ltb-true _ _ h)) (λ _ e. absurd (omega arith)))
+      by-test (λ n. n ≡ 0 → (k .stage ≡ 0) × (k .held < maxHeld))
+      (λ t. by-test (λ n. n ≡ 0 → (k .stage ≡ 0) × (k .held < maxHeld)) (λ h _. (eqb-true _ _ t, ltb-true _ _ h)) (λ _ e. absurd (omega arith)))
       (λ _ e. absurd (omega arith))
 
   pub may-step : refusalAt p k (Step c) ≡ 0 → k .stage ≢ 0

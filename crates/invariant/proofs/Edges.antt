@@ -5,6 +5,7 @@ use mathlib.Core.Path.{_≡_}
 use mathlib.Core.Logic.{_≢_, _⊎_}
 use Prim.Native.Nat.{ℕ, _+_, _-_, _≤_, _<_}
 use lib.Dec.{T}
+use Rattle.pool.specs.Limits.{maxHeld}
 use Rattle.pool.specs.State.{none, evicted, pinned, total, resting, slot, page, pins, count, client, grantFrame}
 use Rattle.pool.specs.Table.{entryOf, lookup, unusedEntry}
 use Rattle.pool.specs.Frames.{freeFrame}
@@ -102,5 +103,5 @@ module _ (p : Pool) (c : ℕ) where
     -- 20, 23: the own frame is evicted
     evicts20 : k .stage ≡ 20 → Edge (works (withOwn k none) 21 (PutPins (k .own) evicted))
     evicts23 : k .stage ≡ 23 → Edge (works (withOwn k none) 4 (PutPins (k .own) evicted))
-    begins : (g : ℕ) → k .stage ≡ 0 → k .held < 8 → Edge (beginMove k g)
+    begins : (g : ℕ) → k .stage ≡ 0 → k .held < maxHeld → Edge (beginMove k g)
     releases : (g : ℕ) → k .stage ≡ 0 → grantOf p c g ≢ none → Edge (released g)

@@ -7,6 +7,7 @@ use mathlib.Core.List.{List}
 use Prim.Native.Nat.{ℕ, suc, _+_, _-_, _≤_, _<_}
 use native.Mathlib.Omega.{arith}
 use lib.Dec.{T, eqb, ltb, leb}
+use Rattle.pool.specs.Limits.{maxHeld, maxPins}
 use Rattle.pool.specs.Answers.{refusalOf}
 use Rattle.pool.specs.State.{none, evicted, pinned, clientCount, total, slot, page, pins, count, entryPage, entryFrame, client}
 use Rattle.pool.specs.Table.{entryOf, lookup}
@@ -75,7 +76,7 @@ module _ (p : Pool) (c : ℕ) (m : Move) where
 
   -- frame f gets pins x
   pub data PinChange (f x : ℕ) : Type 0 where
-    adds : pins p f ≢ evicted → x ≡ pins p f + 1 → x ≤ pinned 128 → PinChange f x
+    adds : pins p f ≢ evicted → x ≡ pins p f + 1 → x ≤ pinned maxPins → PinChange f x
     lowers : pinned 1 ≤ pins p f → x ≡ pins p f - 1 → PinChange f x
     drops-victim : f ≡ k .victim → pins p f ≡ pinned 0 → x ≡ evicted → k .stage ≡ 14 → m .next .stage ≡ 15 → m .next .victim ≡ k .victim
         → m .next .place ≡ k .place → PinChange f x
@@ -250,12 +251,12 @@ module _ (p : Pool) (c : ℕ) (here : c < clientCount p) (r : Reached p) where
       → me .found ≢ none → pins p (me .found) ≢ evicted → Effect p c (works me j (PutPins (me .found) (pins p (me .found) + 1)))
   unfolding refusalOf
   pins-found i j e w t u z l =
-      let few : pins p (me .found) < pinned 128 = one-more-pin p r c here (λ s. differ i 0 w (sym e ∙ s)) (rw e t) z l in
+      let few : pins p (me .found) < pinned maxPins = one-more-pin p r c here (λ s. differ i 0 w (sym e ∙ s)) (rw e t) z l in
       pinning tt (me .found) _ refl (r .ranges .found-ok c z) (adds l refl (omega arith)) (own-stays refl (rw e u)) refl (grants-stay refl refl)
       (λ _ _ x. no-open x)
 
   -- a working client holds fewer than 8
-  few : (i : ℕ) → client p c .stage ≡ i → T (not (eqb i 0)) → me .held < 8
+  few : (i : ℕ) → client p c .stage ≡ i → T (not (eqb i 0)) → me .held < maxHeld
   few i e z = omega (arith, r .ranges .working-held c (λ w. differ i 0 z (sym e ∙ w)))
 
   gets-found : (i : ℕ) (u : Counted) → client p c .stage ≡ i → T (not (eqb i 0)) → T (pinsFound i) → me .found ≢ none

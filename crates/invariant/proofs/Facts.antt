@@ -8,6 +8,7 @@ use native.Mathlib.Omega.{arith}
 use native.Mathlib.Decide.{ℕ-discrete}
 use lib.Dec.{T, eqb}
 use borrow.Author.Tests.{ne-eqb, ltb-true}
+use Rattle.pool.specs.Limits.{maxHeld, maxPins}
 use Rattle.pool.specs.State.{none, evicted, pinned, clientCount, resting, page, pins, client, grantFrame}
 use Rattle.pool.specs.Table.{lookup}
 use Rattle.pool.specs.Stages.{raised}
@@ -118,13 +119,13 @@ module _ (p : Pool) (r : Reached p) where
   grants-at-most c f = omega (arith, sum-at-most (λ i. one (eqb (grantFrame p c i) f)) (client p c .held) 1 (λ i _. one-at-most (eqb (grantFrame p c i) f)))
 
   -- a client with an own frame claims no other way
-  claims-at-most : (c f : ℕ) → f ≢ none → claims p c f ≤ 8
+  claims-at-most : (c f : ℕ) → f ≢ none → claims p c f ≤ maxHeld
   claims-at-most c f z = go (ℕ-discrete (client p c .own) f) (ℕ-discrete (client p c .stage) 0)
     where
       k : Client
       k = client p c
 
-      go : Dec (k .own ≡ f) → Dec (k .stage ≡ 0) → claims p c f ≤ 8
+      go : Dec (k .own ≡ f) → Dec (k .stage ≡ 0) → claims p c f ≤ maxHeld
       go (yes e) _ =
           let o : k .own ≢ none = λ w. z (sym e ∙ w) in
           let only = foreign-claims p c f (λ w. r .private .own-unfound c c o (w ∙ sym e)) (λ i w. r .private .own-ungranted c c i o (w ∙ sym e)) in
@@ -136,7 +137,7 @@ module _ (p : Pool) (r : Reached p) where
 
   -- one more pin on the found frame is within the range
   pub one-more-pin : (c : ℕ) → c < clientCount p → client p c .stage ≢ 0 → T (not (pinsFound (client p c .stage))) → client p c .found ≢ none
-      → pins p (client p c .found) ≢ evicted → pins p (client p c .found) < pinned 128
+      → pins p (client p c .found) ≢ evicted → pins p (client p c .found) < pinned maxPins
   unfolding claimed
   one-more-pin c h s t z live = go (r .pin-counts .balance f z)
     where
@@ -152,10 +153,10 @@ module _ (p : Pool) (r : Reached p) where
       mine : claims p c f ≤ 7
       mine = rw (T-false (pinsFound (k .stage)) t) (omega (arith, one-not _ _ other, grants-at-most c f, r .ranges .working-held c s))
 
-      all : claimed p f + 1 ≤ 8 * clientCount p
+      all : claimed p f + 1 ≤ maxHeld * clientCount p
       all = sum-gap (λ d. claims p d f) (clientCount p) 8 c 1 h (λ d _. claims-at-most d f z) (omega (arith, mine))
 
-      go : Balance p f (pins p f) (claimed p f) → pins p f < pinned 128
+      go : Balance p f (pins p f) (claimed p f) → pins p f < pinned maxPins
       go (unclaimed x y) = absurd (live x)
       go (counted x) = omega (arith, all, r .shape .clients-high)
       go (orphan o) = absurd (o .unfound c refl)

@@ -11,6 +11,7 @@ use native.Mathlib.Decide.{ℕ-discrete, decLt}
 use lib.Dec.{eqb, ltb}
 use lib.ListN.{length, getD}
 use borrow.Author.Tests.{lt-ltb, le-ltb, ne-eqb}
+use Rattle.pool.specs.Limits.{maxHeld}
 use Rattle.pool.specs.Choose.{choose}
 use Rattle.pool.specs.State.{none, clientCount, within, client, grantPlace, ofClient, grantPage, grantFrame}
 use Rattle.pool.specs.Apply.{stored, grantPagesAfter, grantFramesAfter, apply}
@@ -30,7 +31,7 @@ grantsOf p c g = sumTo (λ i. one (eqb (grantPage p c i) g)) (client p c .held)
 -- what a move does to the acting client's grants
 pub data GrantsOk (p : Pool) (c : ℕ) (m : Move) : Type 0 where
   grants-stay : m .grants ≡ Same → m .next .held ≡ client p c .held → GrantsOk p c m
-  grant-opens : (g f : ℕ) → m .grants ≡ Open (client p c .held) g f → m .next .held ≡ client p c .held + 1 → client p c .held < 8 → GrantsOk p c m
+  grant-opens : (g f : ℕ) → m .grants ≡ Open (client p c .held) g f → m .next .held ≡ client p c .held + 1 → client p c .held < maxHeld → GrantsOk p c m
   grant-ends : (i : ℕ) → m .grants ≡ End i (client p c .held - 1) → m .next .held ≡ client p c .held - 1 → i < client p c .held → GrantsOk p c m
 
 -- ---- one list, l before a move and m after it: N places in all, client c's first n of them hold its grants' numbers, and d stands past them
@@ -55,20 +56,20 @@ module _ (N c : ℕ) (l m : List ℕ) where
   -- at most one place is written, and it is one of client c's
   data Put : Type 0 where
     unput : m ≡ l → Put
-    put : (a v : ℕ) → a < 8 → m ≡ stored l N (grantPlace c a) v → Put
+    put : (a v : ℕ) → a < maxHeld → m ≡ stored l N (grantPlace c a) v → Put
 
   -- so another place, of client c or another, reads as it did
-  elsewhere : (a v : ℕ) → a < 8 → m ≡ stored l N (grantPlace c a) v → (d i : ℕ) → i < 8 → (d ≡ c → i ≢ a)
+  elsewhere : (a v : ℕ) → a < maxHeld → m ≡ stored l N (grantPlace c a) v → (d i : ℕ) → i < maxHeld → (d ≡ c → i ≢ a)
       → getD m (grantPlace d i) 0 ≡ getD l (grantPlace d i) 0
   elsewhere a v few e d i h q = raw-else l m N (grantPlace c a) v e (grantPlace d i) (λ w. let s : d ≡ c = omega arith in q s (omega arith))
 
-  others : Put → (d : ℕ) → d ≢ c → (n z i : ℕ) → n ≤ 8 → ofClient m d n z i ≡ ofClient l d n z i
+  others : Put → (d : ℕ) → d ≢ c → (n z i : ℕ) → n ≤ maxHeld → ofClient m d n z i ≡ ofClient l d n z i
   others (unput e) d o n z i r = rw e refl
   others (put a v few e) d o n z i r = of-else l m d n z i (λ h. elsewhere a v few e d i (omega arith) (λ w. absurd (o w)))
 
   module _ (d n : ℕ) (mine : c * 8 + 8 ≤ N) (long : N ≤ length l) where
     -- one more: v
-    module _ (v : ℕ) (e : m ≡ stored l N (grantPlace c n) v) (room : n < 8) where
+    module _ (v : ℕ) (e : m ≡ stored l N (grantPlace c n) v) (room : n < maxHeld) where
       open-old : (j : ℕ) → j < n → ofClient m c (n + 1) d j ≡ ofClient l c n d j
       open-old j h =
           of-in m c (n + 1) d j (omega arith) ∙ elsewhere n v room e c j (omega arith) (λ _ w. let z : ⊥ = omega arith in z) ∙ sym (of-in l c n d j h)
@@ -84,7 +85,7 @@ module _ (N c : ℕ) (l m : List ℕ) where
           ap (sumTo g) (add-one n) ∙ omega (arith, old, ap (λ (y : ℕ). one (eqb y x)) open-new)
 
     -- the one at a ends, and the last one moves there
-    module _ (a : ℕ) (e : m ≡ stored l N (grantPlace c a) (within l N 0 (grantPlace c (n - 1)))) (low : a < n) (few : n ≤ 8) where
+    module _ (a : ℕ) (e : m ≡ stored l N (grantPlace c a) (within l N 0 (grantPlace c (n - 1)))) (low : a < n) (few : n ≤ maxHeld) where
       end-old : (j : ℕ) → j < n - 1 → j ≢ a → ofClient m c (n - 1) d j ≡ ofClient l c n d j
       end-old j h o = of-in m c (n - 1) d j h ∙ elsewhere a _ (omega arith) e c j (omega arith) (λ _. o) ∙ sym (of-in l c n d j (omega arith))
 
@@ -117,7 +118,7 @@ module _ (N c : ℕ) (l m : List ℕ) where
 
 -- ---- the two lists of a pool
 
-module _ (p : Pool) (c : ℕ) (m : Move) (shape : Shape p) (here : c < clientCount p) (few : (d : ℕ) → client p d .held ≤ 8) where
+module _ (p : Pool) (c : ℕ) (m : Move) (shape : Shape p) (here : c < clientCount p) (few : (d : ℕ) → client p d .held ≤ maxHeld) where
   abbrev q : Pool
   q = apply p c m
 
@@ -126,7 +127,7 @@ module _ (p : Pool) (c : ℕ) (m : Move) (shape : Shape p) (here : c < clientCou
   n = client p c .held
 
   abbrev N : ℕ
-  N = 8 * clientCount p
+  N = maxHeld * clientCount p
 
   mine : c * 8 + 8 ≤ N
   mine = omega arith
@@ -161,7 +162,7 @@ module _ (p : Pool) (c : ℕ) (m : Move) (shape : Shape p) (here : c < clientCou
 
   -- ---- one is opened
 
-  module _ (g f : ℕ) (e : m .grants ≡ Open n g f) (s : m .next .held ≡ n + 1) (room : n < 8) where
+  module _ (g f : ℕ) (e : m .grants ≡ Open n g f) (s : m .next .held ≡ n + 1) (room : n < maxHeld) where
     page-opened : q .«grant_pages» ≡ stored (p .«grant_pages») N (grantPlace c n) g
     unfolding apply grantPagesAfter
     page-opened = rw e refl
@@ -273,7 +274,7 @@ module _ (p : Pool) (c : ℕ) (m : Move) (shape : Shape p) (here : c < clientCou
   pub grant-from : GrantsOk p c m → (j : ℕ) → GrantFrom j
   grant-from how j = by (decLt j (m .next .held))
     where
-      opened : (g f : ℕ) (e : m .grants ≡ Open n g f) (s : m .next .held ≡ n + 1) (r : n < 8) → j < m .next .held → Dec (j ≡ n) → GrantFrom j
+      opened : (g f : ℕ) (e : m .grants ≡ Open n g f) (s : m .next .held ≡ n + 1) (r : n < maxHeld) → j < m .next .held → Dec (j ≡ n) → GrantFrom j
       opened g f e s r h (yes w) = rw w (new g f e (page-open-new g f e s r) (frame-open-new g f e s r))
       opened g f e s r h (no w) = let l : j < n = omega arith in old j l (page-open-old g f e s r j l) (frame-open-old g f e s r j l)
 

@@ -10,6 +10,7 @@ use native.Mathlib.Omega.{arith}
 use native.Mathlib.Decide.{ℕ-discrete}
 use lib.Dec.{eqb, leb}
 use borrow.Author.Tests.{eqb-true, eq-eqb, ne-eqb, leb-true, lt-leb}
+use Rattle.pool.specs.Limits.{maxFrames}
 use Rattle.pool.specs.Choose.{choose, either, some}
 use Rattle.pool.specs.State.{none, evicted, clientCount, total, resting, slot, pins, entryFrame, client, grantFrame}
 use Rattle.pool.specs.Table.{unusedEntry}
@@ -144,7 +145,7 @@ module _ (p : Pool) (r : Reached p) where
       n : ℕ
       n = total p
 
-      few : n ≤ 96
+      few : n ≤ maxFrames
       few = few-frames p (r .shape)
 
       own-none : client p c .own ≡ none

@@ -7,6 +7,7 @@ use Prim.Native.Nat.{ℕ, suc, _≤_, _<_}
 use native.Mathlib.Omega.{arith}
 use native.Mathlib.Decide.{ℕ-discrete}
 use lib.Dec.{T}
+use Rattle.pool.specs.Limits.{maxHeld}
 use Rattle.pool.specs.State.{none, evicted, clientCount, slot, page, pins, entryFrame, client, grantPage, grantFrame}
 use Rattle.pool.specs.Frames.{referenced}
 use Rattle.pool.specs.Apply.{slotsAfter, apply}
@@ -154,7 +155,7 @@ module _ {p : Pool} {c : ℕ} {m : Move} (x : Effect p c m) where
       → ((g f : ℕ) → m .grants ≡ Open (k .held) g f → P g f) → (d i : ℕ) → i < client q d .held → P (grantPage q d i) (grantFrame q d i)
   all-grants P olds opened d i h = go (ℕ-discrete d c)
     where
-      few : (d : ℕ) → client p d .held ≤ 8
+      few : (d : ℕ) → client p d .held ≤ maxHeld
       few = r .ranges .held-ok
 
       mine : GrantFrom p c m (r .shape) here few i → i < m .next .held → P (grantPage q c i) (grantFrame q c i)

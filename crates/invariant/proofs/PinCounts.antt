@@ -8,6 +8,7 @@ use native.Mathlib.Omega.{arith}
 use native.Mathlib.Decide.{ℕ-discrete}
 use lib.Dec.{T, eqb}
 use borrow.Author.Tests.{eq-eqb}
+use Rattle.pool.specs.Limits.{maxHeld}
 use Rattle.pool.specs.State.{none, evicted, pinned, clientCount, total, pins, client, grantFrame}
 use Rattle.pool.specs.Frames.{referenced, freeFrame}
 use Rattle.pool.specs.Grants.{grantOf}
@@ -72,7 +73,7 @@ module _ {p : Pool} {c : ℕ} {m : Move} (x : Effect p c m) where
   abbrev q : Pool
   q = apply p c m
 
-  few : (d : ℕ) → client p d .held ≤ 8
+  few : (d : ℕ) → client p d .held ≤ maxHeld
   few = r .ranges .held-ok
 
   -- ---- the claims after a move
@@ -102,7 +103,7 @@ module _ {p : Pool} {c : ℕ} {m : Move} (x : Effect p c m) where
   claims-kept g h f = omega (arith, claims-next f, grantsOn-keeps p c m (r .shape) here few g h f)
 
   -- one more grant, and nothing else is claimed
-  claims-open : (g y : ℕ) → m .grants ≡ Open (k .held) g y → m .next .held ≡ k .held + 1 → k .held < 8 → m .next .stage ≡ 0 → m .next .own ≡ none
+  claims-open : (g y : ℕ) → m .grants ≡ Open (k .held) g y → m .next .held ≡ k .held + 1 → k .held < maxHeld → m .next .stage ≡ 0 → m .next .own ≡ none
       → (f : ℕ) → f ≢ none → claims q c f ≡ grantsOn p c f + one (eqb y f)
   claims-open g y e h l s o f z =
       omega (
@@ -215,7 +216,7 @@ module _ (p : Pool) (c : ℕ) (r : Reached p) where
         → m .next .held ≡ me .held + 1 → m .next .stage ≡ 0 → m .next .own ≡ none
         → ((f : ℕ) → f ≢ none → one (pinsFound (me .stage) && eqb (me .found) f) + one (eqb (me .own) f) ≡ one (eqb y f)) → Condition
     claim-to-grant i y st n w g h s o e =
-        let few : me .held < 8 = omega (arith, r .ranges .working-held c (λ z. differ i 0 n (sym st ∙ z))) in
+        let few : me .held < maxHeld = omega (arith, r .ranges .working-held c (λ z. differ i 0 n (sym st ∙ z))) in
         no-change x (λ _. o) w (λ f z. omega (arith, claims-open x (me .page) y g h few s o f z, e f z))
 
     -- the own frame is evicted and forgotten

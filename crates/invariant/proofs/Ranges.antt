@@ -7,6 +7,7 @@ use native.Mathlib.Omega.{arith}
 use native.Mathlib.Decide.{ℕ-discrete, decLt}
 use lib.Dec.{T, eqb, leb}
 use mathlib.Core.Bool.{not}
+use Rattle.pool.specs.Limits.{maxHeld, maxPins}
 use Rattle.pool.specs.State.{none, pinned, clientCount, total, slot, pins, count, entryFrame, client, grantFrame}
 use Rattle.pool.specs.Apply.{apply}
 use Rattle.pool.specs.declared.Pool.{Pool}
@@ -32,8 +33,8 @@ record Numbers (p : Pool) (n : Client) : Type 0 where
   place-ok : n .place < p .size
   busy-ok : n .busy < p .size
   seen-ok : n .seen ≤ p .size
-  held-ok : n .held ≤ 8
-  working-held : n .stage ≢ 0 → n .held ≤ 7
+  held-ok : n .held ≤ maxHeld
+  working-held : n .stage ≢ 0 → n .held < maxHeld
   victim-ok : n .victim ≢ none → n .victim < total p
 
 -- ---- each kind of move shows it
@@ -57,7 +58,7 @@ module _ (p : Pool) (c : ℕ) (r : Reached p) where
       }
 
   -- it rests
-  at-rest : (n : Client) → n .stage ≡ 0 → n .place ≡ 0 → n .busy ≡ 0 → n .seen ≡ 0 → n .held ≤ 8 → n .victim ≡ none → Numbers p n
+  at-rest : (n : Client) → n .stage ≡ 0 → n .place ≡ 0 → n .busy ≡ 0 → n .seen ≡ 0 → n .held ≤ maxHeld → n .victim ≡ none → Numbers p n
   at-rest n s a b d h v =
       let l = r .shape .size-low in
       record {
@@ -71,7 +72,7 @@ module _ (p : Pool) (c : ℕ) (r : Reached p) where
       }
 
   -- a working client is granted a frame
-  more : (i : ℕ) → k .stage ≡ i → T (not (eqb i 0)) → k .held + 1 ≤ 8
+  more : (i : ℕ) → k .stage ≡ i → T (not (eqb i 0)) → k .held + 1 ≤ maxHeld
   more i e t = omega (arith, r .ranges .working-held c (λ w. differ i 0 t (sym e ∙ w)))
 
   numbers : {m : Move} → Edge p c m → Numbers p (m .next)
@@ -139,21 +140,21 @@ module _ {p : Pool} {c : ℕ} {m : Move} (e : Edge p c m) (x : Effect p c m) whe
   all : (P : Client → Type 0) → ((d : ℕ) → P (client p d)) → P (m .next) → (d : ℕ) → P (client q d)
   all P old new = all-clients p c m (r .shape) (λ _ n. P n) here (λ d _. old d) new
 
-  pins-range : (f : ℕ) → pins q f ≤ pinned 128
+  pins-range : (f : ℕ) → pins q f ≤ pinned maxPins
   pins-range f = go (x .pins)
     where
-      go : PinsOk p c m → pins q f ≤ pinned 128
+      go : PinsOk p c m → pins q f ≤ pinned maxPins
       go (pins-stay w) = rw (pins-kept p c m w f) (r .ranges .pins-ok f)
       go (pins-put g y w h ch) = by (ℕ-discrete f g)
         where
-          least : PinChange p c m g y → y ≤ pinned 128
+          least : PinChange p c m g y → y ≤ pinned maxPins
           least (adds _ _ l) = l
           least (lowers _ v) = omega (arith, r .ranges .pins-ok g)
           least (drops-victim _ _ v _ _ _ _) = omega arith
           least (own-evicted _ v) = omega arith
           least (takes-one _ v) = omega arith
 
-          by : Dec (f ≡ g) → pins q f ≤ pinned 128
+          by : Dec (f ≡ g) → pins q f ≤ pinned maxPins
           by (yes v) = rw (ap (pins q) v ∙ pins-here p c m (r .shape) g y w h) (least ch)
           by (no v) = rw (pins-else p c m g y w f v) (r .ranges .pins-ok f)
 
@@ -223,8 +224,8 @@ module _ {p : Pool} {c : ℕ} {m : Move} (e : Edge p c m) (x : Effect p c m) whe
         place-ok = all (λ k. k .place < p .size) (r .ranges .place-ok) (n .place-ok);
         busy-ok = all (λ k. k .busy < p .size) (r .ranges .busy-ok) (n .busy-ok);
         seen-ok = all (λ k. k .seen ≤ p .size) (r .ranges .seen-ok) (n .seen-ok);
-        held-ok = all (λ k. k .held ≤ 8) (r .ranges .held-ok) (n .held-ok);
-        working-held = all (λ k. k .stage ≢ 0 → k .held ≤ 7) (r .ranges .working-held) (n .working-held);
+        held-ok = all (λ k. k .held ≤ maxHeld) (r .ranges .held-ok) (n .held-ok);
+        working-held = all (λ k. k .stage ≢ 0 → k .held < maxHeld) (r .ranges .working-held) (n .working-held);
         pins-ok = pins-range;
         count-ok = count-range;
         slot-ok = slot-range;

@@ -7,6 +7,7 @@ use mathlib.Core.List.{List, [], _∷_}
 use Prim.Native.Nat.{ℕ, zero, suc, _+_, _≤_, _<_}
 use lib.Dec.{T, eqb, leb}
 use lib.ListN.{length, getD}
+use Rattle.pool.specs.Limits.{maxSize, maxClients, maxCap, maxHeld, maxPins, maxFrames, maxGrants}
 use Rattle.pool.specs.Choose.{scan}
 use Rattle.pool.specs.State.{none, evicted, pinned, clientCount, total, slot, page, pins, count, entryPage, entryFrame, client, grantPage, grantFrame}
 use Rattle.pool.specs.declared.Pool.{Pool}
@@ -139,20 +140,20 @@ Knows s = getD knows s Nothing
 -- the arrays are as long as the largest pool needs, and the numbers of the setup are in range
 pub record Shape (p : Pool) : Type 0 where
   pub size-low : 1 ≤ p .size
-  pub size-high : p .size ≤ 64
+  pub size-high : p .size ≤ maxSize
   pub clients-low : 1 ≤ clientCount p
-  pub clients-high : clientCount p ≤ 16
+  pub clients-high : clientCount p ≤ maxClients
   pub cap-low : 1 ≤ p .cap
-  pub cap-high : p .cap ≤ 100
-  pub slots : length (p .slots) ≡ 64
-  pub pages : length (p .pages) ≡ 96
-  pub pins : length (p .pins) ≡ 96
-  pub counts : length (p .counts) ≡ 96
-  pub entry-pages : length (p .«table_pages») ≡ 96
-  pub entry-frames : length (p .«table_frames») ≡ 96
-  pub clients : length (p .clients) ≡ 16
-  pub grant-pages : length (p .«grant_pages») ≡ 128
-  pub grant-frames : length (p .«grant_frames») ≡ 128
+  pub cap-high : p .cap ≤ maxCap
+  pub slots : length (p .slots) ≡ maxSize
+  pub pages : length (p .pages) ≡ maxFrames
+  pub pins : length (p .pins) ≡ maxFrames
+  pub counts : length (p .counts) ≡ maxFrames
+  pub entry-pages : length (p .«table_pages») ≡ maxFrames
+  pub entry-frames : length (p .«table_frames») ≡ maxFrames
+  pub clients : length (p .clients) ≡ maxClients
+  pub grant-pages : length (p .«grant_pages») ≡ maxGrants
+  pub grant-frames : length (p .«grant_frames») ≡ maxGrants
 
 -- ranges, for every client of the pool
 pub record Ranges (p : Pool) : Type 0 where
@@ -162,9 +163,9 @@ pub record Ranges (p : Pool) : Type 0 where
   pub place-ok : (c : ℕ) → client p c .place < p .size
   pub busy-ok : (c : ℕ) → client p c .busy < p .size
   pub seen-ok : (c : ℕ) → client p c .seen ≤ p .size
-  pub held-ok : (c : ℕ) → client p c .held ≤ 8
-  pub working-held : (c : ℕ) → client p c .stage ≢ 0 → client p c .held ≤ 7
-  pub pins-ok : (f : ℕ) → pins p f ≤ pinned 128
+  pub held-ok : (c : ℕ) → client p c .held ≤ maxHeld
+  pub working-held : (c : ℕ) → client p c .stage ≢ 0 → client p c .held < maxHeld
+  pub pins-ok : (f : ℕ) → pins p f ≤ pinned maxPins
   pub count-ok : (f : ℕ) → count p f ≤ p .cap
   pub slot-ok : (i : ℕ) → slot p i ≢ none → slot p i < total p
   pub entry-ok : (i : ℕ) → entryFrame p i ≢ none → entryFrame p i < total p

@@ -9,6 +9,7 @@ use native.Mathlib.Decide.{decLt}
 use lib.Dec.{eqb}
 use lib.ListN.{replicate, getD-replicate}
 use borrow.Author.Tests.{ltb-true, leb-true}
+use Rattle.pool.specs.Limits.{maxSize, maxClients, maxFrames}
 use Rattle.pool.specs.State.{none, evicted, total, within, resting, no-client, slot, pins, count, entryFrame, client, grantFrame}
 use Rattle.pool.specs.Valid.{numbersOk}
 use Rattle.pool.specs.Calls.{fresh}
@@ -63,25 +64,25 @@ module _ (s t c h : ℕ) (ok : numbersOk s t c ≡ true) where
 
   slot-none : (i : ℕ) → slot p i ≡ none
   unfolding slot
-  slot-none i = within-same 64 s none i (shape .size-high)
+  slot-none i = within-same maxSize s none i (shape .size-high)
 
   pub setup-evicted : (f : ℕ) → pins p f ≡ evicted
   unfolding pins
-  setup-evicted f = let n = few-frames p shape in within-same 96 (total p) evicted f (omega arith)
+  setup-evicted f = let n = few-frames p shape in within-same maxFrames (total p) evicted f (omega arith)
 
   count-none : (f : ℕ) → count p f ≡ 0
   unfolding count
-  count-none f = let n = few-frames p shape in within-same 96 (total p) 0 f (omega arith)
+  count-none f = let n = few-frames p shape in within-same maxFrames (total p) 0 f (omega arith)
 
   entry-none : (i : ℕ) → entryFrame p i ≡ none
   unfolding entryFrame
-  entry-none i = let n = few-frames p shape in within-same 96 (total p) none i (omega arith)
+  entry-none i = let n = few-frames p shape in within-same maxFrames (total p) none i (omega arith)
 
   pub setup-rests : (d : ℕ) → client p d ≡ resting 0
   unfolding client
   setup-rests d =
       let n = shape in
-      by-test (λ (k : Client). k ≡ resting 0) (λ w. getD-replicate 16 d (resting 0) no-client (omega (arith, ltb-true d t w))) (λ _. refl)
+      by-test (λ (k : Client). k ≡ resting 0) (λ w. getD-replicate maxClients d (resting 0) no-client (omega (arith, ltb-true d t w))) (λ _. refl)
 
   grant-none : (d i : ℕ) → grantFrame p d i ≡ none
   grant-none d i = grantFrame-past p d i (omega (arith, ap (λ (k : Client). k .held) (setup-rests d)))

@@ -9,6 +9,7 @@ use native.Mathlib.Nat.{mod-lt}
 use native.Mathlib.Omega.{arith}
 use lib.Dec.{T, eqb}
 use borrow.Author.Tests.{eqb-true, eqb-false, lt-ltb, ltb-true}
+use Rattle.pool.specs.Limits.{maxHeld}
 use Rattle.pool.specs.State.{none, evicted, clientCount, slot, page, pins, count, client, grantFrame}
 use Rattle.pool.specs.Table.{entryOf, lookup, unusedEntry}
 use Rattle.pool.specs.Frames.{freeFrame}
@@ -127,7 +128,7 @@ module _ (p : Pool) (c : ℕ) (here : c < clientCount p) (r : Reached p) where
   -- a working client has room for a grant
   gets : (i f : ℕ) (w : Write) (u : Counted) → client p c .stage ≡ i → T (not (eqb i 0)) → IsEdge (grants k f w u) → IsEdge (granted k f w u)
   unfolding granted
-  gets i f w u e t h = rw (chosen _ _ _ (lt-ltb (k .held) 8 (omega (arith, r .ranges .working-held c (λ z. differ i 0 t (sym e ∙ z)))))) h
+  gets i f w u e t h = rw (chosen _ _ _ (lt-ltb (k .held) maxHeld (omega (arith, r .ranges .working-held c (λ z. differ i 0 t (sym e ∙ z)))))) h
 
   step3 : EdgeAt 3 (λ p k. stage3 k (p .cap) (count p (k .found)))
   unfolding stage3

@@ -11,6 +11,7 @@ use pool::Client;
 use pool::Counted;
 use pool::EVICTED;
 use pool::GrantChange;
+use pool::MAX_HELD;
 use pool::Move;
 use pool::NONE;
 use pool::ONE_PIN;
@@ -98,7 +99,7 @@ pub fn stuck(client: Client) -> Move
 pub fn granted(client: Client, f: u8, write: Write, counted: Counted) -> Move
     ensures { λ r. ⌜ r ≡ granted client f write counted ⌝ }
 {
-    if client.held < 8 {
+    if client.held < MAX_HELD {
         return Move {
             next: resting(client.held + 1),
             grants: GrantChange::Open(client.held, client.page, f),

@@ -4,6 +4,7 @@ use mathlib.Core.List.{List}
 use Prim.Native.Nat.{ℕ, _*_}
 use lib.Dec.{ltb}
 use lib.ListN.{set}
+use Rattle.pool.specs.Limits.{maxHeld}
 use Rattle.pool.specs.Choose.{choose}
 use Rattle.pool.specs.State.{clientCount, total, within, grantPlace}
 use Rattle.pool.specs.declared.Pool.{Pool}
@@ -138,6 +139,6 @@ apply p c m =
       «table_pages» = entryPagesAfter (total p) (p .«table_pages») (m .write);
       «table_frames» = entryFramesAfter (total p) (p .«table_frames») (m .write);
       clients = set (p .clients) c (m .next);
-      «grant_pages» = grantPagesAfter (8 * clientCount p) c (p .«grant_pages») (m .grants);
-      «grant_frames» = grantFramesAfter (8 * clientCount p) c (p .«grant_frames») (m .grants);
+      «grant_pages» = grantPagesAfter (maxHeld * clientCount p) c (p .«grant_pages») (m .grants);
+      «grant_frames» = grantFramesAfter (maxHeld * clientCount p) c (p .«grant_frames») (m .grants);
     }

@@ -4,6 +4,7 @@ use mathlib.Core.List.{List, [], _∷_}
 use Prim.Native.Nat.{ℕ, _-_}
 use lib.Dec.{eqb, ltb}
 use lib.ListN.{replicate}
+use Rattle.pool.specs.Limits.{maxSize, maxClients, maxHeld, maxFrames, maxGrants}
 use Rattle.pool.specs.Choose.{choose, both}
 use Rattle.pool.specs.Answers.{refusalOf}
 use Rattle.pool.specs.State.{none, evicted, clientCount, resting, pins, client, grantFrame}
@@ -39,15 +40,15 @@ fresh s t c h =
       hand = h;
       free = s;
       last = none;
-      slots = replicate 64 none;
-      pages = replicate 96 0;
-      pins = replicate 96 evicted;
-      counts = replicate 96 0;
-      «table_pages» = replicate 96 0;
-      «table_frames» = replicate 96 none;
-      clients = replicate 16 (resting 0);
-      «grant_pages» = replicate 128 0;
-      «grant_frames» = replicate 128 0;
+      slots = replicate maxSize none;
+      pages = replicate maxFrames 0;
+      pins = replicate maxFrames evicted;
+      counts = replicate maxFrames 0;
+      «table_pages» = replicate maxFrames 0;
+      «table_frames» = replicate maxFrames none;
+      clients = replicate maxClients (resting 0);
+      «grant_pages» = replicate maxGrants 0;
+      «grant_frames» = replicate maxGrants 0;
     }
 
 -- what a refused setup leaves: a pool without slots, which every call refuses as 8
@@ -69,7 +70,7 @@ caller (Release c g) = c
 -- 10. "Begin or release at a working bench." 11. "Step at a resting bench." 12. "Begin at a bench with 8 grants."
 -- 13. "Release of a page the bench does not hold." 0: none of them.
 unfoldable pub refusalAt : Pool → Client → Call → ℕ
-refusalAt p k (Begin c g) = choose (eqb (k .stage) 0) (choose (ltb (k .held) 8) 0 12) 10
+refusalAt p k (Begin c g) = choose (eqb (k .stage) 0) (choose (ltb (k .held) maxHeld) 0 12) 10
 refusalAt p k (Step c) = choose (eqb (k .stage) 0) 11 0
 refusalAt p k (Release c g) = choose (eqb (k .stage) 0) (choose (eqb (grantOf p c g) none) 13 0) 10
 

@@ -1,4 +1,5 @@
 pub mod Choose
+pub mod Limits
 pub mod Answers
 pub mod State
 pub mod Table

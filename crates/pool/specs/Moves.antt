@@ -2,6 +2,7 @@
 -- the answer, and what the tally counts. Assumes nothing.
 use Prim.Native.Nat.{ℕ, _+_}
 use lib.Dec.{ltb}
+use Rattle.pool.specs.Limits.{maxHeld}
 use Rattle.pool.specs.Choose.{choose}
 use Rattle.pool.specs.State.{none, resting}
 use Rattle.pool.specs.declared.Client.{Client}
@@ -63,7 +64,7 @@ module _ (k : Client) where
   -- the request is granted a frame: the client rests, with one grant more
   unfoldable pub granted : ℕ → Write → Counted → Move
   granted f write counted =
-      choose (ltb (k .held) 8)
+      choose (ltb (k .held) maxHeld)
       (record { next = resting (k .held + 1); grants = Open (k .held) (k .page) f; write = write; answer = Granted f; counted = counted })
       stuck
 

@@ -4,6 +4,7 @@ use mathlib.Core.List.{List}
 use Prim.Native.Nat.{ℕ, _+_, _*_}
 use lib.Dec.{ltb}
 use lib.ListN.{getD}
+use Rattle.pool.specs.Limits.{maxHeld}
 use Rattle.pool.specs.Choose.{choose}
 use Rattle.pool.specs.declared.Pool.{Pool}
 use Rattle.pool.specs.declared.Client.{Client}
@@ -65,7 +66,7 @@ client p c = choose (ltb c (clientCount p)) (getD (p .clients) c no-client) (res
 
 -- "A bench rests or works, and holds 0 to 8 grants.": where client c's grant i stands
 abbrev pub grantPlace : ℕ → ℕ → ℕ
-grantPlace c i = 8 * c + i
+grantPlace c i = maxHeld * c + i
 
 -- of client c's places in a list, the i-th of the first n, d past them
 unfoldable pub ofClient : List ℕ → ℕ → ℕ → ℕ → ℕ → ℕ

@@ -3,6 +3,7 @@
 use mathlib.Core.Bool.{Bool, not, _&&_, _||_}
 use Prim.Native.Nat.{ℕ}
 use lib.Dec.{eqb, ltb, leb}
+use Rattle.pool.specs.Limits.{maxSize, maxClients, maxCap, maxHeld, maxPins}
 use Rattle.pool.specs.Choose.{choose, both, either, every}
 use Rattle.pool.specs.State.{none, pinned, clientCount, total, slot, pins, count, entryPage, entryFrame, client, grantPage, grantFrame}
 use Rattle.pool.specs.Table.{entryOf}
@@ -12,7 +13,7 @@ use Rattle.pool.specs.declared.Client.{Client}
 
 -- "Setup takes S slots (1 to 64), T benches (1 to 16), count cap C (1 to 100)"
 unfoldable pub numbersOk : ℕ → ℕ → ℕ → Bool
-numbersOk s t c = both (ltb 0 s) (both (leb s 64) (both (ltb 0 t) (both (leb t 16) (both (ltb 0 c) (leb c 100)))))
+numbersOk s t c = both (ltb 0 s) (both (leb s maxSize) (both (ltb 0 t) (both (leb t maxClients) (both (ltb 0 c) (leb c maxCap)))))
 
 -- no frame, or one of the pool's n
 unfoldable pub frameOk : ℕ → ℕ → Bool
@@ -38,7 +39,7 @@ slotOk p i = frameOk (total p) (slot p i)
 
 -- "pins (-1, evicted, to 128) and a reference count (0 to C)"
 unfoldable pub stateOk : Pool → ℕ → Bool
-stateOk p f = both (leb (pins p f) (pinned 128)) (leb (count p f) (p .cap))
+stateOk p f = both (leb (pins p f) (pinned maxPins)) (leb (count p f) (p .cap))
 
 -- "The table maps a page to at most one frame.": an entry is the one that its page is found at
 unfoldable pub entryOk : Pool → ℕ → Bool
@@ -50,7 +51,7 @@ grantOk p c i = both (ltb (grantFrame p c i) (total p)) (eqb (grantFrame p c (gr
 
 -- "A slot number that a bench remembers is 0 to S - 1, and so is a busy run."; a bench "holds 0 to 8 grants"
 unfoldable pub countsOk : Client → ℕ → Bool
-countsOk k size = both (leb (k .stage) 23) (both (leb (k .held) 8) (both (ltb (k .place) size) (both (ltb (k .busy) size) (leb (k .seen) size))))
+countsOk k size = both (leb (k .stage) 23) (both (leb (k .held) maxHeld) (both (ltb (k .place) size) (both (ltb (k .busy) size) (leb (k .seen) size))))
 
 -- the frames that a client remembers, of n
 unfoldable pub namesOk : Client → ℕ → Bool

@@ -14,6 +14,28 @@ pub const NO_PIN: u8 = 1;
 
 pub const ONE_PIN: u8 = 2;
 
+// The largest pool: its slots, its clients, the count cap; the grants that one client can hold; a frame's pins, as they are stored.
+pub const MAX_SIZE: u8 = 64;
+
+pub const MAX_CLIENTS: u8 = 16;
+
+pub const MAX_CAP: u8 = 100;
+
+pub const MAX_HELD: u8 = 8;
+
+pub const MAX_PINS: u8 = NO_PIN + MAX_CLIENTS * MAX_HELD;
+
+// How long the arrays are, by what they are over. HELD is one client's part of the grants.
+pub const SLOTS: usize = MAX_SIZE as usize;
+
+pub const CLIENTS: usize = MAX_CLIENTS as usize;
+
+pub const FRAMES: usize = SLOTS + 2 * CLIENTS;
+
+pub const HELD: usize = MAX_HELD as usize;
+
+pub const GRANTS: usize = CLIENTS * HELD;
+
 // One client (document 01: bench; the source paper's thread), without its grants, which stand in the pool's `grant_pages` and `grant_frames`.
 pub struct Client {
     // The stage it stands at, 1 to 23; 0 where it rests.
@@ -50,20 +72,20 @@ pub struct Pool {
     // The frame that was last taken, by whichever client, or NONE.
     pub last: u8,
     // The frame that each slot names, or NONE: the first S.
-    pub slots: [u8; 64],
+    pub slots: [u8; SLOTS],
     // Each frame's page; its pins, one more than document 01's, so that 0 is evicted (1 is no pin, 129 is 128 pins); its reference count,
     // 0 to C: the first S + 2T of each.
-    pub pages: [u32; 96],
-    pub pins: [u8; 96],
-    pub counts: [u8; 96],
+    pub pages: [u32; FRAMES],
+    pub pins: [u8; FRAMES],
+    pub counts: [u8; FRAMES],
     // The table: at each of its first S + 2T places a page and the frame that the page is mapped to. A place whose frame is NONE is unused.
-    pub table_pages: [u32; 96],
-    pub table_frames: [u8; 96],
+    pub table_pages: [u32; FRAMES],
+    pub table_frames: [u8; FRAMES],
     // The clients: the first T.
-    pub clients: [Client; 16],
+    pub clients: [Client; CLIENTS],
     // Client c's grants, a page and a frame each, at 8c, 8c + 1 and on: as many as it holds.
-    pub grant_pages: [u32; 128],
-    pub grant_frames: [u8; 128],
+    pub grant_pages: [u32; GRANTS],
+    pub grant_frames: [u8; GRANTS],
 }
 
 // What is asked of a pool that is set up.

@@ -9,6 +9,7 @@ use Prim.Native.Nat.{ℕ, _<_, _≤_}
 use lib.Dec.{eqb, ltb}
 use lib.ListN.{getD}
 use borrow.Author.Tests.{ltb-true, leb-true, eqb-true, eqb-false, lt-ltb, le-leb, eq-eqb, ne-eqb, not-true}
+use Rattle.pool.specs.Limits.{maxSize, maxClients, maxCap, maxHeld, maxPins, maxFrames}
 use Rattle.pool.specs.Choose.{choose, both, either}
 use Rattle.pool.specs.State.{none, pinned, total, clientCount, within, slot, pins, count, entryPage, entryFrame, client, grantPage, grantFrame}
 use Rattle.pool.specs.Table.{maps, entryOf}
@@ -25,16 +26,16 @@ use Rattle.laws.specs.Scans.{First, first, every-at, every-yes, both-first, bot
 -- "Setup takes S slots (1 to 64), T benches (1 to 16), count cap C (1 to 100)"
 pub record Numbers (s t c : ℕ) : Type 0 where
   pub some-slot : 0 < s
-  pub slots : s ≤ 64
+  pub slots : s ≤ maxSize
   pub some-client : 0 < t
-  pub clients : t ≤ 16
+  pub clients : t ≤ maxClients
   pub some-count : 0 < c
-  pub cap : c ≤ 100
+  pub cap : c ≤ maxCap
 
 -- "A slot number that a bench remembers is 0 to S - 1, and so is a busy run."; a bench "holds 0 to 8 grants"
 pub record Counts (k : Client) (size : ℕ) : Type 0 where
   pub stage : k .stage ≤ 23
-  pub held : k .held ≤ 8
+  pub held : k .held ≤ maxHeld
   pub place : k .place < size
   pub busy : k .busy < size
   pub seen : k .seen ≤ size
@@ -62,7 +63,7 @@ pub record Ranged (p : Pool) : Type 0 where
   pub free : p .free ≤ p .size
   pub last : Named (p .last) → p .last < total p
   pub slot : (i : ℕ) → i < p .size → Named (slot p i) → slot p i < total p
-  pub pins : (f : ℕ) → f < total p → pins p f ≤ pinned 128
+  pub pins : (f : ℕ) → f < total p → pins p f ≤ pinned maxPins
   pub count : (f : ℕ) → f < total p → count p f ≤ p .cap
   pub entry : (i : ℕ) → i < total p → Named (entryFrame p i) → entryFrame p i < total p
   -- "The table maps a page to at most one frame."
@@ -70,7 +71,7 @@ pub record Ranged (p : Pool) : Type 0 where
   pub client : (c : ℕ) → c < clientCount p → ClientRanged p c
 
 -- the frames, and the places of the table, are at most 96
-pub total-in : (p : Pool) → Numbers (p .size) (clientCount p) (p .cap) → total p ≤ 96
+pub total-in : (p : Pool) → Numbers (p .size) (clientCount p) (p .cap) → total p ≤ maxFrames
 total-in p n = omega arith
 
 -- Past the pool's frames the pins and the count are 0, so that no caller need show that a frame is one of them.
@@ -78,9 +79,9 @@ low : (l : List ℕ) (n most i : ℕ) → (i < n → within l n 0 i ≤ most) �
 unfolding within
 low l n most i h = by-test (λ x. x ≤ most) (λ e. rw (chosen _ (getD l i 0) 0 e) at (h (ltb-true _ _ e))) (λ _. omega arith)
 
-pub pins-low : (p : Pool) → Ranged p → (f : ℕ) → pins p f ≤ pinned 128
+pub pins-low : (p : Pool) → Ranged p → (f : ℕ) → pins p f ≤ pinned maxPins
 unfolding pins
-pins-low p r f = low (p .pins) (total p) (pinned 128) f (r .pins f)
+pins-low p r f = low (p .pins) (total p) (pinned maxPins) f (r .pins f)
 
 -- ---- tests that hold, taken apart and put together
 

@@ -6,6 +6,7 @@ use Prim.Native.Nat.{ℕ, _+_, _%_, _<_, _≤_}
 use native.Mathlib.Nat.{mod-lt}
 use lib.Dec.{eqb}
 use borrow.Author.Tests.{eq-eqb, ne-eqb}
+use Rattle.pool.specs.Limits.{maxSize, maxClients, maxHeld}
 use Rattle.pool.specs.Choose.{choose, both, either, scan, some}
 use Rattle.pool.specs.State.{none, clientCount, total, within, client, entryPage, entryFrame, ofClient, grantPage, grantFrame}
 use Rattle.pool.specs.Table.{maps, entryOf, unusedEntry}
@@ -73,9 +74,9 @@ names-in p f c = refl
 -- what a search for a free frame asks of a pool: its arrays have what its numbers say
 pub record Searchable (p : Pool) : Type 0 where
   pub some-slot : 0 < p .size
-  pub slots : p .size ≤ 64
-  pub clients : clientCount p ≤ 16
-  pub grants : (c : ℕ) → c < clientCount p → client p c .held ≤ 8
+  pub slots : p .size ≤ maxSize
+  pub clients : clientCount p ≤ maxClients
+  pub grants : (c : ℕ) → c < clientCount p → client p c .held ≤ maxHeld
 
 -- ---- what is read, x, compared with a number v, and the definition's y compared with it
 

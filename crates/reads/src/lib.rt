@@ -1,26 +1,31 @@
 // What an action reads of the pool, where it lies: elements of its arrays by index, within the part that the pool has, and searches over them.
 ghost use mathlib.Core.Path.{_≡_};
 ghost use Prim.Native.Nat.{_+_, _*_, _<_, _≤_};
+ghost use Rattle.pool.specs.Limits.{maxSize, maxClients, maxHeld, maxFrames};
 ghost use Rattle.pool.specs.State.{none, within, ofClient};
 ghost use Rattle.pool.specs.Frames.{freeFrame};
 ghost use Rattle.reads.specs.Lists.{Searchable, entryIn, lookupIn, unusedIn, grantIn, firstOf, namesIn};
 use pool::Client;
+use pool::FRAMES;
+use pool::GRANTS;
+use pool::HELD;
 use pool::NONE;
 use pool::Pool;
+use pool::SLOTS;
 
 // ---- reads
 
 // "There are S + 2T frames"; the table has as many places.
 pub fn total(size: u8, client_count: u8) -> u8
-    requires { ⌜ (size ≤ 64) × («client_count» ≤ 16) ⌝ }
+    requires { ⌜ (size ≤ maxSize) × («client_count» ≤ maxClients) ⌝ }
     ensures { λ r. ⌜ r ≡ size + 2 * «client_count» ⌝ }
 {
     size + 2 * client_count
 }
 
 // The frame that slot i names, of the first `size` slots.
-pub fn slot_at(slots: &[u8; 64], size: u8, i: u8) -> u8
-    requires { ⌜ size ≤ 64 ⌝ }
+pub fn slot_at(slots: &[u8; SLOTS], size: u8, i: u8) -> u8
+    requires { ⌜ size ≤ maxSize ⌝ }
     ensures { λ r. ⌜ r ≡ within (now (slots .entry)) size none i ⌝ }
 {
     let at = i as usize;
@@ -28,8 +33,8 @@ pub fn slot_at(slots: &[u8; 64], size: u8, i: u8) -> u8
 }
 
 // Element i of the first n, of a frame's pins or counts or of the table's frames; d past them.
-pub fn byte_at(xs: &[u8; 96], n: u8, d: u8, i: u8) -> u8
-    requires { ⌜ n ≤ 96 ⌝ }
+pub fn byte_at(xs: &[u8; FRAMES], n: u8, d: u8, i: u8) -> u8
+    requires { ⌜ n ≤ maxFrames ⌝ }
     ensures { λ r. ⌜ r ≡ within (now (xs .entry)) n d i ⌝ }
 {
     let at = i as usize;
@@ -37,8 +42,8 @@ pub fn byte_at(xs: &[u8; 96], n: u8, d: u8, i: u8) -> u8
 }
 
 // Page i of the first n, of the frames or of the table; 0 past them.
-pub fn page_at(pages: &[u32; 96], n: u8, i: u8) -> u32
-    requires { ⌜ n ≤ 96 ⌝ }
+pub fn page_at(pages: &[u32; FRAMES], n: u8, i: u8) -> u32
+    requires { ⌜ n ≤ maxFrames ⌝ }
     ensures { λ r. ⌜ r ≡ within (now (pages .entry)) n 0 i ⌝ }
 {
     let at = i as usize;
@@ -46,19 +51,19 @@ pub fn page_at(pages: &[u32; 96], n: u8, i: u8) -> u32
 }
 
 // The frame of client c's grant i, of the first `held`.
-pub fn grant_frame_at(frames: &[u8; 128], c: usize, held: u8, i: u8) -> u8
-    requires { ⌜ (c < 16) × (held ≤ 8) ⌝ }
+pub fn grant_frame_at(frames: &[u8; GRANTS], c: usize, held: u8, i: u8) -> u8
+    requires { ⌜ (c < maxClients) × (held ≤ maxHeld) ⌝ }
     ensures { λ r. ⌜ r ≡ ofClient (now (frames .entry)) c held none i ⌝ }
 {
-    let at = 8 * c + i as usize;
+    let at = HELD * c + i as usize;
     if i < held { frames[at] } else { NONE }
 }
 
 // ---- searches
 
 // The place of the entry that maps a page, or NONE.
-pub fn entry_of<'a>(pages: &'a [u32; 96], frames: &'a [u8; 96], total: u8, page: u32) -> u8
-    requires { ⌜ total ≤ 96 ⌝ }
+pub fn entry_of<'a>(pages: &'a [u32; FRAMES], frames: &'a [u8; FRAMES], total: u8, page: u32) -> u8
+    requires { ⌜ total ≤ maxFrames ⌝ }
     ensures { λ r. ⌜ r ≡ entryIn (now (pages .entry)) (now (frames .entry)) total page ⌝ }
 {
     let n = total as usize;
@@ -71,8 +76,8 @@ pub fn entry_of<'a>(pages: &'a [u32; 96], frames: &'a [u8; 96], total: u8, page:
 }
 
 // The frame that a page is mapped to, or NONE.
-pub fn lookup<'a>(pages: &'a [u32; 96], frames: &'a [u8; 96], total: u8, page: u32) -> u8
-    requires { ⌜ total ≤ 96 ⌝ }
+pub fn lookup<'a>(pages: &'a [u32; FRAMES], frames: &'a [u8; FRAMES], total: u8, page: u32) -> u8
+    requires { ⌜ total ≤ maxFrames ⌝ }
     ensures { λ r. ⌜ r ≡ lookupIn (now (pages .entry)) (now (frames .entry)) total page ⌝ }
 {
     let i = entry_of(pages, frames, total, page);
@@ -80,8 +85,8 @@ pub fn lookup<'a>(pages: &'a [u32; 96], frames: &'a [u8; 96], total: u8, page: u
 }
 
 // The first place of the table that is unused, or NONE.
-pub fn unused_entry(frames: &[u8; 96], total: u8) -> u8
-    requires { ⌜ total ≤ 96 ⌝ }
+pub fn unused_entry(frames: &[u8; FRAMES], total: u8) -> u8
+    requires { ⌜ total ≤ maxFrames ⌝ }
     ensures { λ r. ⌜ r ≡ unusedIn (now (frames .entry)) total ⌝ }
 {
     let n = total as usize;
@@ -94,13 +99,13 @@ pub fn unused_entry(frames: &[u8; 96], total: u8) -> u8
 }
 
 // The place among client c's grants of its first on a page, or NONE.
-pub fn grant_of(pages: &[u32; 128], c: usize, held: u8, page: u32) -> u8
-    requires { ⌜ (c < 16) × (held ≤ 8) ⌝ }
+pub fn grant_of(pages: &[u32; GRANTS], c: usize, held: u8, page: u32) -> u8
+    requires { ⌜ (c < maxClients) × (held ≤ maxHeld) ⌝ }
     ensures { λ r. ⌜ r ≡ grantIn (now (pages .entry)) c held page ⌝ }
 {
     let n = held as usize;
     for i in 0..n {
-        if pages[8 * c + i] == page {
+        if pages[HELD * c + i] == page {
             return i as u8;
         }
     }
@@ -119,8 +124,8 @@ fn first_tried(last: u8, total: usize) -> usize
 }
 
 // Whether client c names a frame: its own, its found one, its victim, or one of its grants.
-fn names(client: Client, grant_frames: &[u8; 128], c: usize, f: u8) -> bool
-    requires { ⌜ (c < 16) × (client .held ≤ 8) ⌝ }
+fn names(client: Client, grant_frames: &[u8; GRANTS], c: usize, f: u8) -> bool
+    requires { ⌜ (c < maxClients) × (client .held ≤ maxHeld) ⌝ }
     ensures { λ r. ⌜ r ≡ namesIn client (now («grant_frames» .entry)) c f ⌝ }
 {
     if client.own == f {
@@ -134,7 +139,7 @@ fn names(client: Client, grant_frames: &[u8; 128], c: usize, f: u8) -> bool
     }
     let held = client.held as usize;
     for i in 0..held {
-        if grant_frames[8 * c + i] == f {
+        if grant_frames[HELD * c + i] == f {
             return true;
         }
     }

@@ -6,11 +6,21 @@ ghost use Prim.Native.Nat.{_<_, _≤_};
 ghost use Rattle.repeats.specs.Marks.{New};
 ghost use Rattle.laws.specs.Elements.{pageOf};
 ghost use Rattle.repeats.specs.Places.{pageAt, entryOkIn, entriesOkIn, grantOkIn, grantsOkIn};
+ghost use Rattle.pool.specs.Limits.{maxClients, maxHeld, maxFrames};
+use pool::FRAMES;
+use pool::GRANTS;
+use pool::HELD;
 
 // "The table maps a page to at most one frame.": place i is unused, or names one of the pool's n frames and is the first that maps its page.
 // A mark of 0 says that the page stands at no earlier place, so that no search is needed.
-fn entry_ok<'a>(pages: &'a [u32; 96], frames: &'a [u8; 96], n: u8, i: usize, mark: u8) -> bool
-    requires { ⌜ (n ≤ 96) × (i < n) × (mark ≡ 0 → New (pageAt (now pages)) i) ⌝ }
+fn entry_ok<'a>(
+    pages: &'a [u32; FRAMES],
+    frames: &'a [u8; FRAMES],
+    n: u8,
+    i: usize,
+    mark: u8,
+) -> bool
+    requires { ⌜ (n ≤ maxFrames) × (i < n) × (mark ≡ 0 → New (pageAt (now pages)) i) ⌝ }
     ensures { λ r. ⌜ r ≡ entryOkIn (now (pages .entry)) (now (frames .entry)) n i ⌝ }
 {
     let f = frames[i];
@@ -28,8 +38,8 @@ fn entry_ok<'a>(pages: &'a [u32; 96], frames: &'a [u8; 96], n: u8, i: usize, mar
 }
 
 // The remainder is by a prime, which spreads regular page numbers too.
-pub fn entries_ok<'a>(pages: &'a [u32; 96], frames: &'a [u8; 96], n: u8) -> bool
-    requires { ⌜ n ≤ 96 ⌝ }
+pub fn entries_ok<'a>(pages: &'a [u32; FRAMES], frames: &'a [u8; FRAMES], n: u8) -> bool
+    requires { ⌜ n ≤ maxFrames ⌝ }
     ensures { λ r. ⌜ r ≡ entriesOkIn (now (pages .entry)) (now (frames .entry)) n ⌝ }
 {
     let mut marks = [0u8; 1021];
@@ -48,44 +58,44 @@ pub fn entries_ok<'a>(pages: &'a [u32; 96], frames: &'a [u8; 96], n: u8) -> bool
 // A grant names one of the pool's n frames, and the one that the client's first grant of its page names. A mark of 0 says that no earlier
 // grant is of the page, so that it is the first itself.
 fn grant_ok<'a>(
-    pages: &'a [u32; 128],
-    frames: &'a [u8; 128],
+    pages: &'a [u32; GRANTS],
+    frames: &'a [u8; GRANTS],
     c: usize,
     held: u8,
     n: u8,
     i: usize,
     mark: u8,
 ) -> bool
-    requires { ⌜ (c < 16) × (held ≤ 8) × (i < held) × (mark ≡ 0 → New (pageOf (now pages) c) i) ⌝ }
+    requires { ⌜ (c < maxClients) × (held ≤ maxHeld) × (i < held) × (mark ≡ 0 → New (pageOf (now pages) c) i) ⌝ }
     ensures { λ r. ⌜ r ≡ grantOkIn (now (pages .entry)) (now (frames .entry)) c held n i ⌝ }
 {
-    let frame = frames[8 * c + i];
+    let frame = frames[HELD * c + i];
     if n <= frame {
         return false;
     }
     if mark == 0 {
         return true;
     }
-    let first = reads::grant_of(pages, c, held, pages[8 * c + i]) as usize;
-    frames[8 * c + first] == frame
+    let first = reads::grant_of(pages, c, held, pages[HELD * c + i]) as usize;
+    frames[HELD * c + first] == frame
 }
 
 // "one bench's grants of one page name different frames": false. Marks as for the table; a power of two serves, for a search among 8 grants
 // is short.
 pub fn grants_ok<'a>(
-    pages: &'a [u32; 128],
-    frames: &'a [u8; 128],
+    pages: &'a [u32; GRANTS],
+    frames: &'a [u8; GRANTS],
     c: usize,
     held: u8,
     n: u8,
 ) -> bool
-    requires { ⌜ (c < 16) × (held ≤ 8) ⌝ }
+    requires { ⌜ (c < maxClients) × (held ≤ maxHeld) ⌝ }
     ensures { λ r. ⌜ r ≡ grantsOkIn (now (pages .entry)) (now (frames .entry)) c held n ⌝ }
 {
     let mut marks = [0u8; 64];
     let count = held as usize;
     for i in 0..count {
-        let key = (pages[8 * c + i] % 64) as usize;
+        let key = (pages[HELD * c + i] % 64) as usize;
         let ok = grant_ok(pages, frames, c, held, n, i, marks[key]);
         if !ok {
             return false;

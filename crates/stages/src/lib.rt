@@ -2,6 +2,8 @@
 // does; it changes nothing by itself.
 ghost use mathlib.Core.Path.{_≡_};
 ghost use Prim.Native.Nat.{_%_, _<_, _≤_};
+ghost use Rattle.pool.specs.Limits.{maxSize, maxPins};
+ghost use Rattle.pool.specs.State.{pinned};
 ghost use Rattle.pool.specs.Stages.{growth};
 ghost use Rattle.pool.specs.Stages.{stage1, stage2, stage3, stage4, stage5, stage6, stage7, stage8, stage9, stage10, stage11, stage12};
 ghost use Rattle.pool.specs.Stages.{stage13, stage14, stage15, stage16, stage17, stage18, stage19, stage20, stage21, stage22, stage23};
@@ -27,7 +29,7 @@ fn slot_of(hand: u32, size: u8) -> u8
 
 // "the hand grows by i - s + 1, plus S when i is below s"
 fn growth(size: u32, i: u32, s: u32) -> u32
-    requires { ⌜ (size ≤ 64) × (i < size) × (s < size) ⌝ }
+    requires { ⌜ (size ≤ maxSize) × (i < size) × (s < size) ⌝ }
     ensures { λ r. ⌜ r ≡ growth size i s ⌝ }
 {
     if i < s {
@@ -52,7 +54,7 @@ pub fn stage1(client: Client, found: u8) -> Move
 
 // 2. "If its pins are 0 or more, add one, 3; else 4."
 pub fn stage2(client: Client, pins: u8) -> Move
-    requires { ⌜ pins ≤ 129 ⌝ }
+    requires { ⌜ pins ≤ pinned maxPins ⌝ }
     ensures { λ r. ⌜ r ≡ stage2 client pins ⌝ }
 {
     if pins == EVICTED {
@@ -222,7 +224,7 @@ pub fn stage15(client: Client, there: u8, size: u8) -> Move
 
 // 16. "With s = start modulo S, the hand grows by i - s + 1, plus S when i is below s; 17."
 pub fn stage16(client: Client, hand: u32, size: u8) -> Move
-    requires { ⌜ (client .place < size) × (size ≤ 64) ⌝ }
+    requires { ⌜ (client .place < size) × (size ≤ maxSize) ⌝ }
     ensures { λ r. ⌜ r ≡ stage16 client hand size ⌝ }
 {
     let n = size as u32;
@@ -267,7 +269,7 @@ pub fn stage18(client: Client, found: u8, i: u8) -> Move
 
 // 19. "If its pins are 0 or more, add one, 20; else 22."
 pub fn stage19(client: Client, pins: u8) -> Move
-    requires { ⌜ pins ≤ 129 ⌝ }
+    requires { ⌜ pins ≤ pinned maxPins ⌝ }
     ensures { λ r. ⌜ r ≡ stage19 client pins ⌝ }
 {
     if pins == EVICTED {

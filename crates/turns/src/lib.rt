@@ -2,6 +2,7 @@
 // turned down by 9 to 13 one that changes nothing.
 ghost use mathlib.Core.Path.{_≡_};
 ghost use Prim.Native.Nat.{_<_, _≤_};
+ghost use Rattle.pool.specs.Limits.{maxClients, maxHeld};
 ghost use Rattle.pool.specs.State.{client};
 ghost use Rattle.pool.specs.Calls.{caller, refusalAt};
 ghost use Rattle.pool.specs.declared.Pool.{Pool};
@@ -12,9 +13,13 @@ use pool::Answer;
 use pool::Call;
 use pool::Client;
 use pool::Counted;
+use pool::FRAMES;
+use pool::GRANTS;
 use pool::GrantChange;
+use pool::MAX_HELD;
 use pool::Move;
 use pool::NONE;
+use pool::SLOTS;
 use pool::Write;
 
 // The client whose record is put back: the one with number c, the first where the pool has none such.
@@ -38,8 +43,8 @@ fn still(client: Client, n: u8) -> Move
 }
 
 // By which of 10 to 13 a call of a client is turned down; 0: by none.
-pub fn refusal_at(call: Call, who: Client, grant_pages: &[u32; 128]) -> u8
-    requires { ⌜ (caller call < 16) × (who .held ≤ 8) ⌝ }
+pub fn refusal_at(call: Call, who: Client, grant_pages: &[u32; GRANTS]) -> u8
+    requires { ⌜ (caller call < maxClients) × (who .held ≤ maxHeld) ⌝ }
     ensures { λ r. ⌜ ((p : Pool) → client p (caller call) ≡ who → p .«grant_pages» ≡ now («grant_pages» .entry) →
         r ≡ refusalAt p who call) ⌝ }
 {
@@ -50,7 +55,7 @@ pub fn refusal_at(call: Call, who: Client, grant_pages: &[u32; 128]) -> u8
             if stage != 0 {
                 return 10;
             }
-            if who.held < 8 { 0 } else { 12 }
+            if who.held < MAX_HELD { 0 } else { 12 }
         }
         Call::Release(c, page) => {
             if stage != 0 {
@@ -69,17 +74,17 @@ pub fn decide<'a>(
     client: Client,
     n: Numbers,
     fresh: u8,
-    slots: &'a [u8; 64],
-    pages: &'a [u32; 96],
-    pins: &'a [u8; 96],
-    counts: &'a [u8; 96],
-    table_pages: &'a [u32; 96],
-    table_frames: &'a [u8; 96],
-    grant_pages: &'a [u32; 128],
-    grant_frames: &'a [u8; 128],
+    slots: &'a [u8; SLOTS],
+    pages: &'a [u32; FRAMES],
+    pins: &'a [u8; FRAMES],
+    counts: &'a [u8; FRAMES],
+    table_pages: &'a [u32; FRAMES],
+    table_frames: &'a [u8; FRAMES],
+    grant_pages: &'a [u32; GRANTS],
+    grant_frames: &'a [u8; GRANTS],
 ) -> Move
     requires { ⌜ Ready client n (now pins) ⌝ }
-    requires { ⌜ («client_count» ≤ 16) × (client .held ≤ 8) ⌝ }
+    requires { ⌜ («client_count» ≤ maxClients) × (client .held ≤ maxHeld) ⌝ }
     ensures { λ r. ⌜ ((p : Pool) →
         Lends p n (now (slots .entry)) (now (pages .entry)) (now (pins .entry)) (now (counts .entry))
         (now («table_pages» .entry)) (now («table_frames» .entry)) →

@@ -5,6 +5,7 @@ use mathlib.Core.Bool.{Bool}
 use mathlib.Core.List.{List}
 use Prim.Native.Nat.{ℕ}
 use lib.Dec.{leb}
+use Rattle.pool.specs.Limits.{maxPins}
 use Rattle.pool.specs.Choose.{both, every}
 use Rattle.pool.specs.State.{none, evicted, pinned, total, clientCount, within}
 use Rattle.pool.specs.State.{slot, pins, count, entryPage, entryFrame, client, grantPage, grantFrame}
@@ -26,7 +27,7 @@ slotsOkIn l size n = every (slotOkIn l size n) size
 
 -- the frames' pins and counts
 abbrev pub stateOkIn : List ℕ → List ℕ → ℕ → ℕ → ℕ → Bool
-stateOkIn pins counts n cap f = both (leb (within pins n evicted f) (pinned 128)) (leb (within counts n 0 f) cap)
+stateOkIn pins counts n cap f = both (leb (within pins n evicted f) (pinned maxPins)) (leb (within counts n 0 f) cap)
 
 unfoldable pub statesOkIn : List ℕ → List ℕ → ℕ → ℕ → Bool
 statesOkIn pins counts n cap = every (stateOkIn pins counts n cap) n

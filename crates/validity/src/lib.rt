@@ -4,11 +4,21 @@
 // are lent, each test over the ones that it looks at, so that the pool itself is never copied in a loop.
 ghost use mathlib.Core.Path.{_≡_};
 ghost use Prim.Native.Nat.{_+_, _*_, _<_, _≤_};
+ghost use Rattle.pool.specs.Limits.{maxSize, maxClients, maxFrames};
 ghost use Rattle.pool.specs.Choose.{both};
 ghost use Rattle.pool.specs.Valid.{numbersOk, frameOk, usedOk, usesOwn, usesFound, usesVictim, countsOk, namesOk, valid};
 ghost use Rattle.validity.specs.Parts.{slotsOkIn, statesOkIn, clientOkIn, clientsOkIn};
+use pool::CLIENTS;
 use pool::Client;
+use pool::FRAMES;
+use pool::GRANTS;
+use pool::MAX_CAP;
+use pool::MAX_CLIENTS;
+use pool::MAX_HELD;
+use pool::MAX_PINS;
+use pool::MAX_SIZE;
 use pool::Pool;
+use pool::SLOTS;
 
 fn both(a: bool, b: bool) -> bool
     ensures { λ r. ⌜ r ≡ both a b ⌝ }
@@ -26,10 +36,10 @@ pub fn numbers_ok(size: u8, client_count: u8, cap: u8) -> bool
     both(
         0 < size,
         both(
-            size <= 64,
+            size <= MAX_SIZE,
             both(
                 0 < client_count,
-                both(client_count <= 16, both(0 < cap, cap <= 100)),
+                both(client_count <= MAX_CLIENTS, both(0 < cap, cap <= MAX_CAP)),
             ),
         ),
     )
@@ -90,8 +100,8 @@ fn uses_victim(stage: u8) -> bool
 }
 
 // "A slot is empty or names one frame."
-fn slots_ok(slots: &[u8; 64], size: usize, n: u8) -> bool
-    requires { ⌜ size ≤ 64 ⌝ }
+fn slots_ok(slots: &[u8; SLOTS], size: usize, n: u8) -> bool
+    requires { ⌜ size ≤ maxSize ⌝ }
     ensures { λ r. ⌜ r ≡ slotsOkIn (now (slots .entry)) size n ⌝ }
 {
     for i in 0..size {
@@ -104,12 +114,12 @@ fn slots_ok(slots: &[u8; 64], size: usize, n: u8) -> bool
 }
 
 // "pins (-1, evicted, to 128) and a reference count (0 to C)"; the pins are stored one more.
-fn states_ok<'a>(pins: &'a [u8; 96], counts: &'a [u8; 96], n: usize, cap: u8) -> bool
-    requires { ⌜ n ≤ 96 ⌝ }
+fn states_ok<'a>(pins: &'a [u8; FRAMES], counts: &'a [u8; FRAMES], n: usize, cap: u8) -> bool
+    requires { ⌜ n ≤ maxFrames ⌝ }
     ensures { λ r. ⌜ r ≡ statesOkIn (now (pins .entry)) (now (counts .entry)) n cap ⌝ }
 {
     for i in 0..n {
-        let ok = both(pins[i] <= 129, counts[i] <= cap);
+        let ok = both(pins[i] <= MAX_PINS, counts[i] <= cap);
         if !ok {
             return false;
         }
@@ -125,7 +135,7 @@ fn counts_ok(client: Client, size: u8) -> bool
     both(
         client.stage <= 23,
         both(
-            client.held <= 8,
+            client.held <= MAX_HELD,
             both(
                 client.place < size,
                 both(client.busy < size, client.seen <= size),
@@ -150,10 +160,10 @@ fn client_ok<'a>(
     c: usize,
     size: u8,
     n: u8,
-    pages: &'a [u32; 128],
-    frames: &'a [u8; 128],
+    pages: &'a [u32; GRANTS],
+    frames: &'a [u8; GRANTS],
 ) -> bool
-    requires { ⌜ c < 16 ⌝ }
+    requires { ⌜ c < maxClients ⌝ }
     ensures { λ r. ⌜ r ≡ clientOkIn client c size n (now (pages .entry)) (now (frames .entry)) ⌝ }
 {
     let counts = counts_ok(client, size);
@@ -169,14 +179,14 @@ fn client_ok<'a>(
 
 // The first `count` clients, T of the pool's.
 fn clients_ok<'a>(
-    clients: [Client; 16],
+    clients: [Client; CLIENTS],
     count: usize,
     size: u8,
     n: u8,
-    pages: &'a [u32; 128],
-    frames: &'a [u8; 128],
+    pages: &'a [u32; GRANTS],
+    frames: &'a [u8; GRANTS],
 ) -> bool
-    requires { ⌜ count ≤ 16 ⌝ }
+    requires { ⌜ count ≤ maxClients ⌝ }
     ensures { λ r. ⌜ r ≡ clientsOkIn clients count size n (now (pages .entry)) (now (frames .entry)) ⌝ }
 {
     for c in 0..count {

@@ -1,16 +1,21 @@
 // What an action writes to the pool, put into its arrays where they lie, each element by index and within the part that the pool has.
 ghost use mathlib.Core.Path.{_≡_};
 ghost use Prim.Native.Nat.{_*_, _<_, _≤_};
+ghost use Rattle.pool.specs.Limits.{maxSize, maxClients, maxHeld, maxFrames, maxGrants};
 ghost use Rattle.pool.specs.State.{within};
 ghost use Rattle.pool.specs.Apply.{stored, slotsAfter, pagesAfter, pinsAfter, countsAfter, entryPagesAfter, entryFramesAfter};
 ghost use Rattle.pool.specs.Apply.{handAfter, freeAfter, lastAfter, grantPagesAfter, grantFramesAfter};
+use pool::FRAMES;
+use pool::GRANTS;
 use pool::GrantChange;
+use pool::HELD;
+use pool::SLOTS;
 use pool::Write;
 
 // ---- stores: one element replaced, where it is in the part that the pool has
 
-fn store_slot(slots: &mut [u8; 64], size: u8, i: u8, f: u8)
-    requires { ⌜ size ≤ 64 ⌝ }
+fn store_slot(slots: &mut [u8; SLOTS], size: u8, i: u8, f: u8)
+    requires { ⌜ size ≤ maxSize ⌝ }
     ensures { λ r. ⌜ now (slots .exit) ≡ stored (now (slots .entry)) size i f ⌝ }
 {
     let at = i as usize;
@@ -19,8 +24,8 @@ fn store_slot(slots: &mut [u8; 64], size: u8, i: u8, f: u8)
     }
 }
 
-fn store_byte(xs: &mut [u8; 96], n: u8, i: u8, v: u8)
-    requires { ⌜ n ≤ 96 ⌝ }
+fn store_byte(xs: &mut [u8; FRAMES], n: u8, i: u8, v: u8)
+    requires { ⌜ n ≤ maxFrames ⌝ }
     ensures { λ r. ⌜ now (xs .exit) ≡ stored (now (xs .entry)) n i v ⌝ }
 {
     let at = i as usize;
@@ -29,8 +34,8 @@ fn store_byte(xs: &mut [u8; 96], n: u8, i: u8, v: u8)
     }
 }
 
-fn store_page(pages: &mut [u32; 96], n: u8, i: u8, page: u32)
-    requires { ⌜ n ≤ 96 ⌝ }
+fn store_page(pages: &mut [u32; FRAMES], n: u8, i: u8, page: u32)
+    requires { ⌜ n ≤ maxFrames ⌝ }
     ensures { λ r. ⌜ now (pages .exit) ≡ stored (now (pages .entry)) n i page ⌝ }
 {
     let at = i as usize;
@@ -41,8 +46,8 @@ fn store_page(pages: &mut [u32; 96], n: u8, i: u8, page: u32)
 
 // ---- what a write leaves of each part of the pool, put there
 
-pub fn put_slots(slots: &mut [u8; 64], size: u8, w: Write)
-    requires { ⌜ size ≤ 64 ⌝ }
+pub fn put_slots(slots: &mut [u8; SLOTS], size: u8, w: Write)
+    requires { ⌜ size ≤ maxSize ⌝ }
     ensures { λ r. ⌜ now (slots .exit) ≡ slotsAfter size (now (slots .entry)) w ⌝ }
 {
     match w {
@@ -53,8 +58,8 @@ pub fn put_slots(slots: &mut [u8; 64], size: u8, w: Write)
     }
 }
 
-pub fn put_pages(pages: &mut [u32; 96], total: u8, w: Write)
-    requires { ⌜ total ≤ 96 ⌝ }
+pub fn put_pages(pages: &mut [u32; FRAMES], total: u8, w: Write)
+    requires { ⌜ total ≤ maxFrames ⌝ }
     ensures { λ r. ⌜ now (pages .exit) ≡ pagesAfter total (now (pages .entry)) w ⌝ }
 {
     match w {
@@ -65,8 +70,8 @@ pub fn put_pages(pages: &mut [u32; 96], total: u8, w: Write)
     }
 }
 
-pub fn put_pins(pins: &mut [u8; 96], total: u8, w: Write)
-    requires { ⌜ total ≤ 96 ⌝ }
+pub fn put_pins(pins: &mut [u8; FRAMES], total: u8, w: Write)
+    requires { ⌜ total ≤ maxFrames ⌝ }
     ensures { λ r. ⌜ now (pins .exit) ≡ pinsAfter total (now (pins .entry)) w ⌝ }
 {
     match w {
@@ -80,8 +85,8 @@ pub fn put_pins(pins: &mut [u8; 96], total: u8, w: Write)
     }
 }
 
-pub fn put_counts(counts: &mut [u8; 96], total: u8, w: Write)
-    requires { ⌜ total ≤ 96 ⌝ }
+pub fn put_counts(counts: &mut [u8; FRAMES], total: u8, w: Write)
+    requires { ⌜ total ≤ maxFrames ⌝ }
     ensures { λ r. ⌜ now (counts .exit) ≡ countsAfter total (now (counts .entry)) w ⌝ }
 {
     match w {
@@ -95,8 +100,8 @@ pub fn put_counts(counts: &mut [u8; 96], total: u8, w: Write)
     }
 }
 
-pub fn put_table_pages(pages: &mut [u32; 96], total: u8, w: Write)
-    requires { ⌜ total ≤ 96 ⌝ }
+pub fn put_table_pages(pages: &mut [u32; FRAMES], total: u8, w: Write)
+    requires { ⌜ total ≤ maxFrames ⌝ }
     ensures { λ r. ⌜ now (pages .exit) ≡ entryPagesAfter total (now (pages .entry)) w ⌝ }
 {
     match w {
@@ -107,8 +112,8 @@ pub fn put_table_pages(pages: &mut [u32; 96], total: u8, w: Write)
     }
 }
 
-pub fn put_table_frames(frames: &mut [u8; 96], total: u8, w: Write)
-    requires { ⌜ total ≤ 96 ⌝ }
+pub fn put_table_frames(frames: &mut [u8; FRAMES], total: u8, w: Write)
+    requires { ⌜ total ≤ maxFrames ⌝ }
     ensures { λ r. ⌜ now (frames .exit) ≡ entryFramesAfter total (now (frames .entry)) w ⌝ }
 {
     match w {
@@ -148,15 +153,15 @@ pub fn last_after(last: u8, w: Write) -> u8
 
 // ---- what becomes of client c's grants, put there: of n places for grants in all
 
-fn grant_page_within(pages: &[u32; 128], n: usize, i: usize) -> u32
-    requires { ⌜ n ≤ 128 ⌝ }
+fn grant_page_within(pages: &[u32; GRANTS], n: usize, i: usize) -> u32
+    requires { ⌜ n ≤ maxGrants ⌝ }
     ensures { λ r. ⌜ r ≡ within (now (pages .entry)) n 0 i ⌝ }
 {
     if i < n { pages[i] } else { 0 }
 }
 
-fn store_grant_page(pages: &mut [u32; 128], n: usize, i: usize, page: u32)
-    requires { ⌜ n ≤ 128 ⌝ }
+fn store_grant_page(pages: &mut [u32; GRANTS], n: usize, i: usize, page: u32)
+    requires { ⌜ n ≤ maxGrants ⌝ }
     ensures { λ r. ⌜ now (pages .exit) ≡ stored (now (pages .entry)) n i page ⌝ }
 {
     if i < n {
@@ -164,32 +169,32 @@ fn store_grant_page(pages: &mut [u32; 128], n: usize, i: usize, page: u32)
     }
 }
 
-pub fn put_grant_pages(pages: &mut [u32; 128], client_count: u8, c: usize, change: GrantChange)
-    requires { ⌜ («client_count» ≤ 16) × (c < 16) ⌝ }
-    ensures { λ r. ⌜ now (pages .exit) ≡ grantPagesAfter (8 * «client_count») c (now (pages .entry)) change ⌝ }
+pub fn put_grant_pages(pages: &mut [u32; GRANTS], client_count: u8, c: usize, change: GrantChange)
+    requires { ⌜ («client_count» ≤ maxClients) × (c < maxClients) ⌝ }
+    ensures { λ r. ⌜ now (pages .exit) ≡ grantPagesAfter (maxHeld * «client_count») c (now (pages .entry)) change ⌝ }
 {
-    let n = 8 * client_count as usize;
+    let n = HELD * client_count as usize;
     match change {
         GrantChange::Same => {}
         GrantChange::Open(i, page, frame) => {
-            store_grant_page(pages, n, 8 * c + i as usize, page);
+            store_grant_page(pages, n, HELD * c + i as usize, page);
         }
         GrantChange::End(i, last) => {
-            let moved = grant_page_within(pages, n, 8 * c + last as usize);
-            store_grant_page(pages, n, 8 * c + i as usize, moved);
+            let moved = grant_page_within(pages, n, HELD * c + last as usize);
+            store_grant_page(pages, n, HELD * c + i as usize, moved);
         }
     }
 }
 
-fn grant_frame_within(frames: &[u8; 128], n: usize, i: usize) -> u8
-    requires { ⌜ n ≤ 128 ⌝ }
+fn grant_frame_within(frames: &[u8; GRANTS], n: usize, i: usize) -> u8
+    requires { ⌜ n ≤ maxGrants ⌝ }
     ensures { λ r. ⌜ r ≡ within (now (frames .entry)) n 0 i ⌝ }
 {
     if i < n { frames[i] } else { 0 }
 }
 
-fn store_grant_frame(frames: &mut [u8; 128], n: usize, i: usize, frame: u8)
-    requires { ⌜ n ≤ 128 ⌝ }
+fn store_grant_frame(frames: &mut [u8; GRANTS], n: usize, i: usize, frame: u8)
+    requires { ⌜ n ≤ maxGrants ⌝ }
     ensures { λ r. ⌜ now (frames .exit) ≡ stored (now (frames .entry)) n i frame ⌝ }
 {
     if i < n {
@@ -197,19 +202,19 @@ fn store_grant_frame(frames: &mut [u8; 128], n: usize, i: usize, frame: u8)
     }
 }
 
-pub fn put_grant_frames(frames: &mut [u8; 128], client_count: u8, c: usize, change: GrantChange)
-    requires { ⌜ («client_count» ≤ 16) × (c < 16) ⌝ }
-    ensures { λ r. ⌜ now (frames .exit) ≡ grantFramesAfter (8 * «client_count») c (now (frames .entry)) change ⌝ }
+pub fn put_grant_frames(frames: &mut [u8; GRANTS], client_count: u8, c: usize, change: GrantChange)
+    requires { ⌜ («client_count» ≤ maxClients) × (c < maxClients) ⌝ }
+    ensures { λ r. ⌜ now (frames .exit) ≡ grantFramesAfter (maxHeld * «client_count») c (now (frames .entry)) change ⌝ }
 {
-    let n = 8 * client_count as usize;
+    let n = HELD * client_count as usize;
     match change {
         GrantChange::Same => {}
         GrantChange::Open(i, page, frame) => {
-            store_grant_frame(frames, n, 8 * c + i as usize, frame);
+            store_grant_frame(frames, n, HELD * c + i as usize, frame);
         }
         GrantChange::End(i, last) => {
-            let moved = grant_frame_within(frames, n, 8 * c + last as usize);
-            store_grant_frame(frames, n, 8 * c + i as usize, moved);
+            let moved = grant_frame_within(frames, n, HELD * c + last as usize);
+            store_grant_frame(frames, n, HELD * c + i as usize, moved);
         }
     }
 }

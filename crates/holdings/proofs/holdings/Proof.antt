@@ -51,6 +51,7 @@ use denote.Triple.Spec.{Meets, tripleOf}
 use denote.Triple.Table.{entered, cited}
 use denote.Triple.Walked.{says, Stays, stay-slice, stay-none, walkOf, AllGo, goes-none, goes-slice, Walks, ends-at, walked, walk-meets}
 use denote.Exit.{yes}
+use Rattle.pool.specs.Limits.{maxHeld}
 use Rattle.pool.specs.Holdings.{Holdings}
 use Rattle.holdings.specs.Rows.{noRow}
 use Rattle.holdings.specs.Collects.{Collects, fills-list}
@@ -171,7 +172,7 @@ module _ {M : Type 1} (𝓤 : URA M) (H : Heap 𝓤) (A : Atoms 𝓤) (W : Given
     abbrev to-row : ℕ → RowOf 𝓤 H A at-mem run .Ghost
     to-row i = ((tt, tt, tt, (c, (i, tt)), (sv c ∷ [], (vint w64 i ∷ [], tt))), tt)
 
-    goes-row : (i : ℕ) → i < 8 → ent 𝓤 (emp 𝓤) (RowOf 𝓤 H A at-mem run .pre (to-row i))
+    goes-row : (i : ℕ) → i < maxHeld → ent 𝓤 (emp 𝓤) (RowOf 𝓤 H A at-mem run .pre (to-row i))
     goes-row i less =
         qed W [] ∵ says ! less $ nothing ! $ nothing ! $ owned ! usize (Is usize) (uint-makes 𝓤 H A W w64) i _ (refl, omega arith) $ fjoin ! $
         owned ! S.the-row (Is S.the-row) (LL.makes S.the-type S′.the-plain 𝓤 H A) c _ c-is $ fjoin ! $ move ! (1 ∷ 0 ∷ []) $ frame ! $ done !

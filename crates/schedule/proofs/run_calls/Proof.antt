@@ -10,6 +10,7 @@ use mathlib.Core.Logic.{⊎-elim}
 use Prim.Native.Nat.{ℕ, _-_, _≤_, _<_}
 use lib.ListN.{length, getD}
 use denote.Ref.{now}
+use Rattle.pool.specs.Limits.{maxSize, maxClients, maxFrames}
 use Rattle.pool.specs.State.{clientCount, total, client, no-client}
 use Rattle.pool.specs.Valid as Valid
 use Rattle.pool.specs.Frames.{freeFrame}
@@ -116,7 +117,7 @@ client-is c = c .client-or-first .ensures ∙ ap (clientOrFirst (clientCount (po
 client-below : (c : Past-client) → c .client-or-first .result < clientCount (pool-of (told c))
 client-below c = omega (arith, client-is c, client-or-first-in (pool-of (told c)) (call-of (told c)) (loop-of (told c) .loop .inv .reached))
 
-client-small : (c : Past-client) → c .client-or-first .result < 16
+client-small : (c : Past-client) → c .client-or-first .result < maxClients
 client-small c = omega (arith, client-below c, loop-of (told c) .loop .inv .reached .shape .clients-high)
 
 its-client : (c : Past-client) → client (pool-of (told c)) (c .client-or-first .result) ≡ getD (pool-of (told c) .clients) (c .client-or-first .result) no-client
@@ -125,16 +126,16 @@ its-client c = client-of-pool (pool-of (told c)) (c .client-or-first .result) (c
 valid : (c : Told) → Valid.valid (pool-of c) ≡ true
 valid c = valid-reached (pool-of c) (loop-of c .loop .inv .reached)
 
-slots-few : (c : Told) → pool-of c .size ≤ 64
+slots-few : (c : Told) → pool-of c .size ≤ maxSize
 slots-few c = loop-of c .loop .inv .reached .shape .size-high
 
-clients-few : (c : Told) → clientCount (pool-of c) ≤ 16
+clients-few : (c : Told) → clientCount (pool-of c) ≤ maxClients
 clients-few c = loop-of c .loop .inv .reached .shape .clients-high
 
-frames-few : (c : Next) → past-client c .before .before .total .result ≤ 96
+frames-few : (c : Next) → past-client c .before .before .total .result ≤ maxFrames
 frames-few c = let s = past-client c in omega (arith, s .before .before .total .ensures, slots-few (told s), clients-few (told s))
 
-grants-here : (c : Next) → (clientCount (pool-of (told (past-client c))) ≤ 16) × (past-client c .client-or-first .result < 16)
+grants-here : (c : Next) → (clientCount (pool-of (told (past-client c))) ≤ maxClients) × (past-client c .client-or-first .result < maxClients)
 grants-here c = (clients-few (told (past-client c)), client-small (past-client c))
 
 records-few : (c : Told) → loop-of c .loop .n ≤ 9999

@@ -6,6 +6,7 @@ use mathlib.Core.Path.{_≡_, _∙_, sym}
 use native.Mathlib.Omega.{arith}
 use Prim.Native.Nat.{_≤_}
 use lib.Dec.{leb}
+use Rattle.pool.specs.Limits.{maxFrames}
 use Rattle.pool.specs.declared.Pool.{Pool}
 use Rattle.pool.specs.State.{clientCount, total}
 use Rattle.pool.specs.Choose.{both}
@@ -36,7 +37,7 @@ handed c = c .before .before .args .t1
 numbered : (c : tie.Else1) → Numbers (handed c .size) (clientCount (handed c)) (handed c .cap)
 numbered c = numbers-in _ _ _ (sym (c .before .numbers-ok .ensures) ∙ not-false _ (c .if1 .left))
 
-frames-in : (c : tie.Else1) → total (handed c) ≤ 96
+frames-in : (c : tie.Else1) → total (handed c) ≤ maxFrames
 frames-in c = total-in (handed c) (numbered c)
 
 -- what is left of check 8 once the numbers, free and the last frame taken, the slots, the frames, the table have passed
