@@ -1,12 +1,12 @@
-// A caller of both lent forms: one tally is lent to every step, and lists of rows to holdings. It lends through `step::step_of` and
-// `holdings::holdings_on`, which own what they lend, so nothing here is walked by hand.
+// A caller of both lent forms: one tally is lent to every step, and lists of rows to holdings. It lends through `foqheran::step_of` and
+// `foqheran::holdings_on`, which own what they lend, so nothing here is walked by hand.
 //
 // It prints a list as the answer's code and value and then the first three of its rows, a page and its times each; and a tally as its six counts,
 // hits, joins, admitted, revived, drops and refused, a line each. Why `stdout` says what it says is in the comments of `main`.
+use foqheran::Pool;
+use foqheran::Row;
+use foqheran::Tally;
 use libc::STDOUT_FILENO;
-use pool::Pool;
-use pool::Row;
-use pool::Tally;
 
 // The pool, and the tally that is lent throughout, "each time as the last call left it".
 struct State {
@@ -15,7 +15,7 @@ struct State {
 }
 
 fn set_up(size: u8, client_count: u8, cap: u8, hand: u32) -> State {
-    let done = calls::setup(size, client_count, cap, hand);
+    let done = foqheran::setup(size, client_count, cap, hand);
     let pool = done.pool;
     let tally = Tally {
         hits: 0,
@@ -31,7 +31,7 @@ fn set_up(size: u8, client_count: u8, cap: u8, hand: u32) -> State {
 fn begin(state: State, client: u8, page: u32) -> State {
     let pool = state.pool;
     let tally = state.tally;
-    let done = calls::begin(pool, client, page);
+    let done = foqheran::begin(pool, client, page);
     let next = done.pool;
     State { pool: next, tally }
 }
@@ -39,7 +39,7 @@ fn begin(state: State, client: u8, page: u32) -> State {
 fn release(state: State, client: u8, page: u32) -> State {
     let pool = state.pool;
     let tally = state.tally;
-    let done = calls::release(pool, client, page);
+    let done = foqheran::release(pool, client, page);
     let next = done.pool;
     State { pool: next, tally }
 }
@@ -47,7 +47,7 @@ fn release(state: State, client: u8, page: u32) -> State {
 fn step(state: State, client: u8) -> State {
     let pool = state.pool;
     let tally = state.tally;
-    let done = step::step_of(pool, client, tally);
+    let done = foqheran::step_of(pool, client, tally);
     let next = done.pool;
     let counts = done.tally;
     State {
@@ -97,10 +97,10 @@ fn print_row(row: Row) {
 fn print_holdings(state: State, client: u8) {
     let pool = state.pool;
     let filler = Row { page: 77, times: 7 };
-    let listed = holdings::holdings_on(pool, client, [filler; 8]);
+    let listed = foqheran::holdings_on(pool, client, [filler; 8]);
     let answer = listed.answer;
     let rows = listed.rows;
-    print_pair(answers::code_of(answer), answers::value_of(answer));
+    print_pair(foqheran::code_of(answer), foqheran::value_of(answer));
     print_row(rows[0]);
     print_row(rows[1]);
     print_row(rows[2]);

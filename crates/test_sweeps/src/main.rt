@@ -2,10 +2,10 @@
 //
 // Each byte on standard input is one such request: a begin and 132 steps, the last of which is refusal 15. It prints the tally's refusals, so the
 // number of bytes. `bench/run` takes the time of a step from it.
+use foqheran::Pool;
+use foqheran::Tally;
 use libc::STDIN_FILENO;
 use libc::STDOUT_FILENO;
-use pool::Pool;
-use pool::Tally;
 
 // The pool, and the tally that is lent throughout.
 struct State {
@@ -15,7 +15,7 @@ struct State {
 
 // S 64, T 16, C 100.
 fn set_up() -> State {
-    let done = calls::setup(64, 16, 100, 0);
+    let done = foqheran::setup(64, 16, 100, 0);
     let pool = done.pool;
     let tally = Tally {
         hits: 0,
@@ -31,7 +31,7 @@ fn set_up() -> State {
 fn begin(state: State, client: u8, page: u32) -> State {
     let pool = state.pool;
     let tally = state.tally;
-    let done = calls::begin(pool, client, page);
+    let done = foqheran::begin(pool, client, page);
     let next = done.pool;
     State { pool: next, tally }
 }
@@ -39,7 +39,7 @@ fn begin(state: State, client: u8, page: u32) -> State {
 fn step(state: State, client: u8) -> State {
     let pool = state.pool;
     let tally = state.tally;
-    let done = step::step_of(pool, client, tally);
+    let done = foqheran::step_of(pool, client, tally);
     let next = done.pool;
     let counts = done.tally;
     State {

@@ -3,10 +3,9 @@ use Prim.Native.Nat.{_-_, _≤_}
 use borrow.Author.Needs.{needs}
 use Rattle.test_calls.proofs.clients_into.Statement.{statement}
 use Rattle.test_calls.proofs.clients_into.Tie as tie
-use Rattle.pool.specs.Limits.{maxClients}
 
 abbrev Inv-loop : tie.InvT-loop
-Inv-loop sum clients all₀ c₀ all c = c ≤ maxClients
+Inv-loop sum clients all₀ c₀ all c = c ≤ 16
 
 abbrev μ-loop : tie.MeasureT-loop
 μ-loop sum clients all₀ c₀ all c = 16 - c

@@ -3,7 +3,6 @@ use Prim.Native.Nat.{_-_, _≤_}
 use borrow.Author.Needs.{needs}
 use Rattle.test_calls.proofs.mapped_twice.Statement.{statement}
 use Rattle.test_calls.proofs.mapped_twice.Tie as tie
-use Rattle.pool.specs.Limits.{maxFrames}
 
 abbrev Inv-loop2 : tie.InvT-loop2
 Inv-loop2 pool pairs₀ i j₀ pairs j = j ≤ i
@@ -12,7 +11,7 @@ abbrev μ-loop2 : tie.MeasureT-loop2
 μ-loop2 pool pairs₀ i j₀ pairs j = i - j
 
 abbrev Inv-loop : tie.InvT-loop
-Inv-loop pool pairs₀ i₀ pairs i = i ≤ maxFrames
+Inv-loop pool pairs₀ i₀ pairs i = i ≤ 96
 
 abbrev μ-loop : tie.MeasureT-loop
 μ-loop pool pairs₀ i₀ pairs i = 96 - i

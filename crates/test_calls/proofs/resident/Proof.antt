@@ -3,10 +3,9 @@ use Prim.Native.Nat.{_-_, _≤_}
 use borrow.Author.Needs.{needs}
 use Rattle.test_calls.proofs.resident.Statement.{statement}
 use Rattle.test_calls.proofs.resident.Tie as tie
-use Rattle.pool.specs.Limits.{maxFrames}
 
 abbrev Inv-loop : tie.InvT-loop
-Inv-loop pool pages₀ i₀ pages i = i ≤ maxFrames
+Inv-loop pool pages₀ i₀ pages i = i ≤ 96
 
 abbrev μ-loop : tie.MeasureT-loop
 μ-loop pool pages₀ i₀ pages i = 96 - i

@@ -3,10 +3,9 @@ use Prim.Native.Nat.{_≤_, _-_}
 use borrow.Author.Needs.{needs}
 use Rattle.test_sweeps.proofs.fill.Statement.{statement}
 use Rattle.test_sweeps.proofs.fill.Tie as tie
-use Rattle.pool.specs.Limits.{maxSize}
 
 abbrev Inv-loop : tie.InvT-loop
-Inv-loop at₀ page₀ at page = page ≤ maxSize
+Inv-loop at₀ page₀ at page = page ≤ 64
 
 abbrev μ-loop : tie.MeasureT-loop
 μ-loop at₀ page₀ at page = 64 - page
