@@ -8,7 +8,7 @@ fn main() {
     let read = io::read_full(STDIN_FILENO, &mut schedule);
     // 2,048 lines of at most 24 bytes, so that the report space never ends a run.
     let mut report = [0u8; 49152];
-    let ended = foqheran::run(&schedule[..read], &mut report);
+    let ended = schedule::run(&schedule[..read], &mut report);
     let bytes = ended.bytes;
     io::write_all(STDOUT_FILENO, &report[..bytes]);
 }
