@@ -1,7 +1,7 @@
 -- By which of document 01's numbers each call can be refused. Assumes nothing.
 use mathlib.Core.Path.{refl}
 use mathlib.Core.Bool.{Bool}
-use mathlib.Core.List.{List, [], _∷_}
+use mathlib.Core.List.{List}
 use Prim.Native.Nat.{ℕ}
 use Rattle.pool.specs.Choose.{choose}
 use Rattle.pool.specs.Answers.{refusalOf}
@@ -10,6 +10,7 @@ use Rattle.pool.specs.Calls.{setupOf, refusalAt, refusal, releaseMove, moveOf, 
 use Rattle.laws.specs.Choices.{by-test}
 use Rattle.laws.specs.StageAnswers.{StageAnswer, goes, grants, refuses, sticks, stage-answer}
 use Rattle.answers.specs.Among.{Among}
+use Rattle.answers.specs.Refusals.{bySetup, byBegin, byStep, byRelease}
 use Rattle.pool.specs.declared.Pool.{Pool}
 use Rattle.pool.specs.declared.Client.{Client}
 use Rattle.pool.specs.declared.Call.{Call}
@@ -27,9 +28,9 @@ pick P t a b = by-test P (λ _. a) (λ _. b)
 
 -- ---- setup
 
-pub setup-refusals : (s t c h : ℕ) → Among (0 ∷ 8 ∷ []) (refusalOf (setupOf s t c h .answer))
+pub setup-refusals : (s t c h : ℕ) → Among bySetup (refusalOf (setupOf s t c h .answer))
 unfolding setupOf refusalOf
-setup-refusals s t c h = pick (Answers (0 ∷ 8 ∷ [])) _ refl refl
+setup-refusals s t c h = pick (Answers bySetup) _ refl refl
 
 -- ---- a call: 8, 9, what its kind is refused by, and what its move is
 
@@ -38,15 +39,6 @@ module _ (ns : List ℕ) (p : Pool) (call : Call) (eight : Among ns 8) (nine : A
   unfolding callOf refusal finished refusalOf
   call-refusals before after =
       pick (Answers ns) _ (pick (Answers ns) _ after eight) (pick (Among ns) _ (pick (Among ns) _ (before _) nine) eight)
-
-abbrev byBegin : List ℕ
-byBegin = 0 ∷ 8 ∷ 9 ∷ 10 ∷ 12 ∷ []
-
-abbrev byRelease : List ℕ
-byRelease = 0 ∷ 8 ∷ 9 ∷ 10 ∷ 13 ∷ []
-
-abbrev byStep : List ℕ
-byStep = 0 ∷ 8 ∷ 9 ∷ 11 ∷ 15 ∷ []
 
 module _ (p : Pool) (c g : ℕ) where
   pub begin-refusals : Among byBegin (refusalOf (callOf p (Begin c g) .answer))

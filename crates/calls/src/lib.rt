@@ -1,11 +1,11 @@
 // The calls: setup, begin, step, release. Each takes any pool and any numbers, and its promise says what it answers and what it leaves, whole.
 // The second clause of a promise lists by which of document 01's numbers the call can be refused; 0 is no refusal.
 ghost use mathlib.Core.Path.{_≡_};
-ghost use mathlib.Core.List.{[], _∷_};
 ghost use Rattle.pool.specs.Answers.{refusalOf};
 ghost use Rattle.pool.specs.Calls.{fresh, setupOf, callOf};
 ghost use Rattle.pool.specs.declared.Call.the-variants.{Begin, Release};
 ghost use Rattle.answers.specs.Among.{Among};
+ghost use Rattle.answers.specs.Refusals.{bySetup, byBegin, byStep, byRelease};
 ghost use Rattle.calls.specs.Tallied.{steppedOf};
 use pool::Answer;
 use pool::CLIENTS;
@@ -49,7 +49,7 @@ fn fresh(size: u8, client_count: u8, cap: u8, hand: u32) -> Pool
 // A new pool; 8 where "S, T or C is outside its range".
 pub fn setup(size: u8, client_count: u8, cap: u8, hand: u32) -> Outcome
     ensures { λ r. ⌜ r ≡ setupOf size «client_count» cap hand ⌝ }
-    ensures { λ r. ⌜ Among (0 ∷ 8 ∷ []) (refusalOf (r .answer)) ⌝ }
+    ensures { λ r. ⌜ Among bySetup (refusalOf (r .answer)) ⌝ }
 {
     let ok = validity::numbers_ok(size, client_count, cap);
     if ok {
@@ -67,7 +67,7 @@ pub fn setup(size: u8, client_count: u8, cap: u8, hand: u32) -> Outcome
 // "Begin (bench, page) puts a resting bench at stage 1."
 pub fn begin(pool: Pool, client: u8, page: u32) -> Outcome
     ensures { λ r. ⌜ r ≡ callOf pool (Begin client page) ⌝ }
-    ensures { λ r. ⌜ Among (0 ∷ 8 ∷ 9 ∷ 10 ∷ 12 ∷ []) (refusalOf (r .answer)) ⌝ }
+    ensures { λ r. ⌜ Among byBegin (refusalOf (r .answer)) ⌝ }
 {
     checked::call_of(pool, Call::Begin(client, page))
 }
@@ -75,7 +75,7 @@ pub fn begin(pool: Pool, client: u8, page: u32) -> Outcome
 // "Release (bench, page) ends one grant and lowers that frame's pins by one."
 pub fn release(pool: Pool, client: u8, page: u32) -> Outcome
     ensures { λ r. ⌜ r ≡ callOf pool (Release client page) ⌝ }
-    ensures { λ r. ⌜ Among (0 ∷ 8 ∷ 9 ∷ 10 ∷ 13 ∷ []) (refusalOf (r .answer)) ⌝ }
+    ensures { λ r. ⌜ Among byRelease (refusalOf (r .answer)) ⌝ }
 {
     checked::call_of(pool, Call::Release(client, page))
 }
@@ -92,7 +92,7 @@ pub struct Stepped {
 // "Step (bench) does one stage."
 pub fn step_tallied(pool: Pool, client: u8, tally: Tally) -> Stepped
     ensures { λ r. ⌜ r ≡ steppedOf pool client tally ⌝ }
-    ensures { λ r. ⌜ Among (0 ∷ 8 ∷ 9 ∷ 11 ∷ 15 ∷ []) (refusalOf (r .answer)) ⌝ }
+    ensures { λ r. ⌜ Among byStep (refusalOf (r .answer)) ⌝ }
 {
     let done = checked::call_of(pool, Call::Step(client));
     let answer = done.answer;

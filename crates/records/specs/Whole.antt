@@ -1,7 +1,7 @@
 -- What a record that is read has: the bytes that its kind needs, and where it cannot be read, a refusal that ends the run. Assumes nothing.
 use mathlib.Core.Path.{_≡_, refl, sym, _∙_}
 use mathlib.Core.Bool.{Bool, true, false, true≢false}
-use mathlib.Core.List.{List, [], _∷_}
+use mathlib.Core.List.{List}
 use Prim.Native.Nat.{ℕ, _≤_}
 use native.Mathlib.Omega.{arith}
 use native.Mathlib.Decide.{ℕ-discrete}
@@ -16,6 +16,7 @@ use Rattle.pool.specs.declared.Reading.{Reading}
 use Rattle.pool.specs.declared.Reading.the-variants.{Setup, Asked, Unreadable}
 use Rattle.laws.specs.Choices.{by-test}
 use Rattle.answers.specs.Among.{Among}
+use Rattle.answers.specs.Refusals.{byRecord}
 
 pub whole : (s : List ℕ) → cut s ≡ false → 8 ≤ length s
 unfolding cut either
@@ -70,21 +71,18 @@ unread-ends first s n =
     (λ m low high e. let same : m ≡ n = cc in refused-ends n (omega arith) (omega arith))
     first
 
--- the numbers of a reading: 0 where it is whole, else the refusal
-abbrev pub numbers : List ℕ
-numbers = 0 ∷ 3 ∷ 4 ∷ 5 ∷ 6 ∷ 7 ∷ []
-
-among : (n : ℕ) → 3 ≤ n → n ≤ 7 → Among numbers n
+-- what a record that cannot be read is refused by is one of the list
+among : (n : ℕ) → 3 ≤ n → n ≤ 7 → Among byRecord n
 among n low high = go n (ℕ-discrete n 3) (ℕ-discrete n 4) (ℕ-discrete n 5) (ℕ-discrete n 6) low high
   where
-    go : (n : ℕ) → Dec (n ≡ 3) → Dec (n ≡ 4) → Dec (n ≡ 5) → Dec (n ≡ 6) → 3 ≤ n → n ≤ 7 → Among numbers n
+    go : (n : ℕ) → Dec (n ≡ 3) → Dec (n ≡ 4) → Dec (n ≡ 5) → Dec (n ≡ 6) → 3 ≤ n → n ≤ 7 → Among byRecord n
     go n (yes e) _ _ _ a b = rw e refl
     go n (no _) (yes e) _ _ a b = rw e refl
     go n (no _) (no _) (yes e) _ a b = rw e refl
     go n (no _) (no _) (no _) (yes e) a b = rw e refl
     go n (no x) (no y) (no z) (no w) a b = let e : n ≡ 7 = omega arith in rw e refl
 
-pub read-refusals : (first : Bool) (s : List ℕ) → Among numbers (unreadOf (read first s))
+pub read-refusals : (first : Bool) (s : List ℕ) → Among byRecord (unreadOf (read first s))
 unfolding unreadOf
 read-refusals first s =
-    read-any (λ (r : Reading). Among numbers (unreadOf r)) s (λ _ a b c h. refl) (λ _ call. refl) (λ n low high. among n low high) first
+    read-any (λ (r : Reading). Among byRecord (unreadOf r)) s (λ _ a b c h. refl) (λ _ call. refl) (λ n low high. among n low high) first

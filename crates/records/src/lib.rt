@@ -3,11 +3,11 @@
 // Every function here equals the definition of its name in crate `pool`, `specs/Schedule.antt`.
 ghost use mathlib.Core.Path.{_≡_};
 ghost use mathlib.Core.Bool.{false};
-ghost use mathlib.Core.List.{[], _∷_};
 ghost use Prim.Native.Nat.{_+_, _*_, _≤_};
 ghost use lib.ListN.{length};
 ghost use Rattle.pool.specs.Answers.{unreadOf};
 ghost use Rattle.answers.specs.Among.{Among};
+ghost use Rattle.answers.specs.Refusals.{byRecord};
 ghost use Rattle.pool.specs.Schedule.{number, cut, marked, content, read};
 use pool::Call;
 use pool::Reading;
@@ -108,7 +108,7 @@ fn reading(rest: &[u8], first: bool) -> Reading
 // The same, with the list of the refusals by which a record cannot be read; 0 is none.
 pub fn read(rest: &[u8], first: bool) -> Reading
     ensures { λ r. ⌜ r ≡ read first (now (rest .entry)) ⌝ }
-    ensures { λ r. ⌜ Among (0 ∷ 3 ∷ 4 ∷ 5 ∷ 6 ∷ 7 ∷ []) (unreadOf r) ⌝ }
+    ensures { λ r. ⌜ Among byRecord (unreadOf r) ⌝ }
 {
     reading(rest, first)
 }

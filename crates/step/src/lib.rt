@@ -3,10 +3,10 @@
 // The stages and all counting are by value, in crate `calls`. `step`, the form that document 01 names ("lent by &mut and changed by one thin
 // function, after the by-value core stands"), only carries the tally there and back.
 ghost use mathlib.Core.Path.{_≡_};
-ghost use mathlib.Core.List.{[], _∷_};
 ghost use Rattle.pool.specs.Answers.{refusalOf};
 ghost use Rattle.pool.specs.Tallies.{tallyAfter};
 ghost use Rattle.answers.specs.Among.{Among};
+ghost use Rattle.answers.specs.Refusals.{byStep};
 ghost use Rattle.calls.specs.Tallied.{steppedOf};
 ghost use Rattle.step.specs.Answers.{answeredOf};
 use calls::Stepped;
@@ -23,7 +23,7 @@ pub struct Answered {
 // "Step (bench) does one stage." Turned down ("All but 15 change no pool, tally or list"), it leaves the tally as it was lent: so says `tallyAfter`.
 pub fn step(pool: Pool, client: u8, tally: &mut Tally) -> Answered
     ensures { λ r. ⌜ (r ≡ answeredOf pool client) × (now (tally .exit) ≡ tallyAfter pool client (now (tally .entry))) ⌝ }
-    ensures { λ r. ⌜ Among (0 ∷ 8 ∷ 9 ∷ 11 ∷ 15 ∷ []) (refusalOf (r .answer)) ⌝ }
+    ensures { λ r. ⌜ Among byStep (refusalOf (r .answer)) ⌝ }
 {
     let stepped = calls::step_tallied(pool, client, *tally);
     *tally = stepped.tally;
@@ -36,7 +36,7 @@ pub fn step(pool: Pool, client: u8, tally: &mut Tally) -> Answered
 // The step on a tally that this function owns, lends to `step` and hands back, so that those who call it lend nothing.
 pub fn step_of(pool: Pool, client: u8, tally: Tally) -> Stepped
     ensures { λ r. ⌜ r ≡ steppedOf pool client tally ⌝ }
-    ensures { λ r. ⌜ Among (0 ∷ 8 ∷ 9 ∷ 11 ∷ 15 ∷ []) (refusalOf (r .answer)) ⌝ }
+    ensures { λ r. ⌜ Among byStep (refusalOf (r .answer)) ⌝ }
 {
     let mut lent = tally;
     let answered = step(pool, client, &mut lent);

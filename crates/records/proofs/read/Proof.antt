@@ -5,14 +5,15 @@ use denote.Ref.{now}
 use Rattle.pool.specs.Answers.{unreadOf}
 use Rattle.pool.specs.declared.Reading.{Reading}
 use Rattle.answers.specs.Among.{listed}
-use Rattle.records.specs.Whole.{numbers, read-refusals}
+use Rattle.answers.specs.Refusals.{byRecord}
+use Rattle.records.specs.Whole.{read-refusals}
 use Rattle.records.proofs.read.Statement.{statement}
 use Rattle.records.proofs.read.Tie as tie
 
 returns : tie.Need-returns
 returns c = (
   c .reading .ensures,
-  ap (λ (r : Reading). listed numbers (unreadOf r)) (c .reading .ensures) ∙ read-refusals (c .before .before .args .first) (now (c .before .before .args .rest)),
+  ap (λ (r : Reading). listed byRecord (unreadOf r)) (c .reading .ensures) ∙ read-refusals (c .before .before .args .first) (now (c .before .before .args .rest)),
 )
 
 pub read-spec : {M : Type 1} → statement M

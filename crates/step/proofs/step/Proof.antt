@@ -45,6 +45,7 @@ use Rattle.pool.specs.Answers.{refusalOf}
 use Rattle.pool.specs.declared.Tally.{Tally}
 use Rattle.pool.specs.declared.Pool.{Pool}
 use Rattle.answers.specs.Among.{Among}
+use Rattle.answers.specs.Refusals.{byStep}
 use Rattle.calls.specs.Tallied.{steppedOf}
 use Rattle.calls.specs.declared.Stepped.{Stepped}
 use Rattle.step.specs.declared.Answered.{Answered}
@@ -73,7 +74,7 @@ stayed = (stay-none (λ _. P.the-row) yes, (stay-none (λ _. u8) yes, (stay-ref 
 
 -- by which numbers a step is refused
 abbrev Few : Stepped → Type 0
-Few r = Among (0 ∷ 8 ∷ 9 ∷ 11 ∷ 15 ∷ []) (refusalOf (r .answer))
+Few r = Among byStep (refusalOf (r .answer))
 
 -- what is passed on of what `step_tallied` returned
 abbrev passed-on : Stepped → Answered

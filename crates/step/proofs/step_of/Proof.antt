@@ -45,6 +45,7 @@ use Rattle.pool.specs.Tallies.{tallyAfter}
 use Rattle.pool.specs.declared.Tally.{Tally}
 use Rattle.pool.specs.declared.Pool.{Pool}
 use Rattle.answers.specs.Among.{Among}
+use Rattle.answers.specs.Refusals.{byStep}
 use Rattle.calls.specs.declared.Stepped.{Stepped}
 use Rattle.step.specs.Answers.{answeredOf}
 use Rattle.step.specs.declared.Answered.{Answered}
@@ -84,7 +85,7 @@ Left p n h r t = (r ≡ answeredOf p n) × (t ≡ tallyAfter p n h)
 
 -- by which numbers a step is refused
 abbrev Few : Answered → Type 0
-Few r = Among (0 ∷ 8 ∷ 9 ∷ 11 ∷ 15 ∷ []) (refusalOf (r .answer))
+Few r = Among byStep (refusalOf (r .answer))
 
 -- the contract that the proof cites
 abbrev Callee : {M : Type 1} (𝓤 : URA M) (H : Heap 𝓤) (A : Atoms 𝓤) (at-mem : Memory → SProp 𝓤) (run : Routine → Fun 𝓤) → Contract 𝓤
