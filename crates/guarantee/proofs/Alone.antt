@@ -21,12 +21,13 @@ use Rattle.pool.specs.declared.Answer.the-variants.{Done, Refused}
 use Rattle.invariant.proofs.Reached.{Reached}
 use Rattle.invariant.proofs.Allowed.{allowed, only-step}
 use Rattle.invariant.proofs.Calls.{reached-call}
-use Rattle.guarantee.specs.Runs.{Event, eventOf, events, At, Begins}
+use Rattle.guarantee.specs.Runs.{Event, eventOf, events, At, along, Begins}
 use Rattle.guarantee.specs.Claims.{AllHeld, AnswersTo, TurnedDown, RefusedAlone}
 use Rattle.guarantee.proofs.TurnedDown.{same-pool, other-answer, other-call, turned-down, turned, one-move, turned-or-move}
 use Rattle.guarantee.proofs.OneClient.{rest-unanswered}
 use Rattle.guarantee.proofs.AloneSteps.{begun-is, begun-rests, begun-alone}
 use Rattle.guarantee.proofs.SinceBegin.{SameAsBegin, same-as-begin-next, counters-pins}
+use Rattle.guarantee.proofs.Along.{at-before}
 use Rattle.guarantee.proofs.RunAlone.{MustRefuse, RunsAlone, at1, StepResult, goes-on, granted, refused, result, Works, working}
 
 step-same : {b c : ℕ} → Step c ≡ Step b → c ≡ b
@@ -124,7 +125,7 @@ module _ (p : Pool) (b g : ℕ) (r : Reached p) (done : callOf p (Begin b g) .an
       m : Move
       m = beginMove (client p b) g
 
-pub refused-alone : (p : Pool) (calls : List Call) → Reached p → RefusedAlone (events p calls)
+pub refused-alone : (p : Pool) (calls : List Call) → Reached p → RefusedAlone (along (events p calls))
 unfolding events At
 refused-alone p [] r q c g k n a = absurd (a .begun)
 refused-alone p (x ∷ calls) r q c g k zero a = absurd (not-suc-le-zero (a .later))
@@ -139,10 +140,15 @@ refused-alone p (x ∷ calls) r q c g (suc k) (suc n) a =
     })
 refused-alone p (x ∷ calls) r q c g zero (suc n) a =
     subst (λ (y : Pool). At (λ e. e .answer ≡ Refused 15) (events (callOf p x .pool) calls) n ↔ ((resident y g ≡ false) × AllHeld y)) (a .begun .0)
-    (refused-iff p c g r rest (events (callOf p x .pool) calls) n
-    (run-alone p c g r rest (callOf p x .pool) calls n first
-    (λ m y. a .same-request (suc m) (omega arith) (omega arith)) (λ m y. a .no-others (suc m) (omega arith) (omega arith)) (a .answered)))
+    (refused-iff p c g r rest later n
+    (run-alone p c g r rest (callOf p x .pool) calls n first (λ m y. a .same-request (suc m) (omega arith) (omega arith)) fair (a .answered)))
   where
+    later : List Event
+    later = events (callOf p x .pool) calls
+
+    fair : (m : ℕ) → m < n → At (λ e. (caller (e .asked) ≡ c) ⊎ TurnedDown e) later m
+    fair m l = a .no-others (suc m) (omega arith) (omega arith) (at-before (AnswersTo c) later m n (omega arith) (a .answered))
+
     done : callOf p (Begin c g) .answer ≡ Done g
     done = subst (λ (y : Call). callOf p y .answer ≡ Done g) (a .begun .1) (a .begun .2)
 

@@ -1,13 +1,14 @@
 -- What holds of every reached pool holds along a run that starts from one: each call hands on a reached pool, so one induction over the calls serves
 -- every claim that speaks of one pool or of one event. Assumes nothing.
 use mathlib.Core.List.{List, [], _∷_}
-use Prim.Native.Nat.{ℕ, zero, suc}
+use Prim.Native.Nat.{ℕ, zero, suc, _≤_}
+use native.Mathlib.Omega.{arith}
 use Rattle.pool.specs.Calls.{callOf}
 use Rattle.pool.specs.declared.Pool.{Pool}
 use Rattle.pool.specs.declared.Call.{Call}
 use Rattle.invariant.proofs.Reached.{Reached}
 use Rattle.invariant.proofs.Calls.{reached-call}
-use Rattle.guarantee.specs.Runs.{Event, eventOf, events, At, Throughout}
+use Rattle.guarantee.specs.Runs.{Event, eventOf, events, At, along, IsCall, Throughout}
 
 -- of every pool of the run
 pub throughout : (P : Pool → Type 0) → ((p : Pool) → Reached p → P p) → (p : Pool) (calls : List Call) → Reached p → Throughout P p calls
@@ -29,3 +30,11 @@ unfolding events At
 at-each P Q h p [] r n a = a
 at-each P Q h p (x ∷ calls) r zero a = h p x r a
 at-each P Q h p (x ∷ calls) r (suc n) a = at-each P Q h (callOf p x .pool) calls (reached-call p x r) n a
+
+-- a list that has event n has the events before it
+pub at-before : (P : Event → Type 0) (es : List Event) (m n : ℕ) → m ≤ n → At P es n → IsCall (along es) m
+unfolding At
+at-before P [] m n h a = absurd a
+at-before P (e ∷ es) zero n h a = tt
+at-before P (e ∷ es) (suc m) zero h a = absurd (let y : ⊥ = omega arith in y)
+at-before P (e ∷ es) (suc m) (suc n) h a = at-before P es m n (omega arith) a

@@ -20,7 +20,7 @@ use Rattle.invariant.proofs.Sums.{one-is, sum-has}
 use Rattle.invariant.proofs.Facts.{grant-pinned}
 use Rattle.invariant.proofs.Grants.{grantsOf}
 use Rattle.invariant.proofs.Calls.{reached-call}
-use Rattle.guarantee.specs.Runs.{eventOf, events, Throughout}
+use Rattle.guarantee.specs.Runs.{eventOf, events, along, Throughout}
 use Rattle.guarantee.specs.Sequential as Plain
 use Rattle.guarantee.specs.Sequential.{SeqSlot, SeqClient, Sequential, seqClient, member, Keeps, StepRule, adds, admits, drops, answers, continues}
 use Rattle.guarantee.specs.Sequential.{refuses, Rule, turns-down, begins, releases, steps}
@@ -100,7 +100,7 @@ not-evicted p x f r h out = v .not-evicted (ap (pins (callOf p x .pool)) (v .fra
     v : ResidentFrame (callOf p x .pool) (slot (callOf p x .pool) (still .0)) g f
     v = page-resident (reached-call p x r) (after .related) still
 
-pub no-held-evicted : (p : Pool) (calls : List Call) → Reached p → NoHeldEvicted (events p calls)
+pub no-held-evicted : (p : Pool) (calls : List Call) → Reached p → NoHeldEvicted (along (events p calls))
 no-held-evicted p calls r f = at-each (BecomesEvicted f) (λ e. held (e .before) f ≡ false) (λ p x r h. go p x r h (held p f) refl) p calls r
   where
     go : (p : Pool) (x : Call) → Reached p → BecomesEvicted f (eventOf p x) → (b : Bool) → held p f ≡ b → b ≡ false

@@ -26,7 +26,7 @@ use Rattle.invariant.proofs.Effects.{OwnOk, own-forgotten, own-stays, own-taken
 use Rattle.invariant.proofs.Next.{slot-now, slot-or-replaced}
 use Rattle.invariant.proofs.Allowed.{allowed, only-step}
 use Rattle.invariant.proofs.Calls.{reached-call}
-use Rattle.guarantee.specs.Runs.{eventOf, events, At}
+use Rattle.guarantee.specs.Runs.{eventOf, events, At, along}
 use Rattle.guarantee.specs.Claims.{Evicts, Replaces, Takes, TakenOutOnce}
 use Rattle.guarantee.proofs.Along.{at-some}
 use Rattle.guarantee.proofs.TurnedDown.{TurnedOrMove, turned, one-move, turned-or-move}
@@ -150,7 +150,7 @@ evicts-frame : (p : Pool) (calls : List Call) (f : ℕ) → Reached p → (k : �
 evicts-frame p calls f =
     at-some (Evicts f) (f ≢ none) (λ p x r e. pins-named p (r .shape) f (e .becomes-evicted .0)) p calls
 
-pub taken-out-once : (p : Pool) (calls : List Call) → Reached p → TakenOutOnce (events p calls)
+pub taken-out-once : (p : Pool) (calls : List Call) → Reached p → TakenOutOnce (along (events p calls))
 taken-out-once p calls r f k m n e a b = go (decLt m n) (decLt n m)
   where
     z : f ≢ none

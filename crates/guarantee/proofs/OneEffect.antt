@@ -23,7 +23,7 @@ use Rattle.laws.specs.Scans.{and-parts}
 use Rattle.invariant.proofs.StageTests.{T-false}
 use Rattle.invariant.proofs.Allowed.{may-begin, may-release}
 use Rattle.invariant.proofs.Calls.{reached-call}
-use Rattle.guarantee.specs.Runs.{Event, eventOf, events, At, Begins, GrantedTo}
+use Rattle.guarantee.specs.Runs.{Event, eventOf, events, At, along, Begins, GrantedTo}
 use Rattle.guarantee.specs.Sequential.{adding, admitting}
 use Rattle.guarantee.specs.Claims.{AnswersTo, TurnedDown, takesEffect, TakesEffect, SameRequest, ExactlyOne, OneEffect}
 use Rattle.guarantee.proofs.Along.{at-each}
@@ -169,7 +169,7 @@ effects-from p (x ∷ calls) r c (suc n) z nb g =
 
 -- the request of a grant at event n is begun at an event before, and takes effect once from there on
 abbrev BegunAndOnce : ℕ → List Event → ℕ → Type 0
-BegunAndOnce c es n = (k : ℕ) × (k < n) × At (Begins c) es k × SameRequest es c k n × ExactlyOne (TakesEffect c) es k n
+BegunAndOnce c es n = (k : ℕ) × (k < n) × At (Begins c) es k × SameRequest (along es) c k n × ExactlyOne (TakesEffect c) (along es) k n
 
 -- one event more in front: the begin is a later one, it is this one, or there is none
 begun-later : (c : ℕ) (e : Event) (es : List Event) (n : ℕ) → BegunAndOnce c es n → BegunAndOnce c (e ∷ es) (suc n)
@@ -233,7 +233,7 @@ begun-or-not p (x ∷ calls) r c (suc n) g =
     here nb (no d) = inr (no-begin c (eventOf p x) (events q calls) n d nb)
 
 -- from a pool whose clients rest: there no client is granted anything before it begins
-pub one-effect : (p : Pool) (calls : List Call) → Reached p → ((c : ℕ) → client p c .stage ≡ 0) → OneEffect (events p calls)
+pub one-effect : (p : Pool) (calls : List Call) → Reached p → ((c : ℕ) → client p c .stage ≡ 0) → OneEffect (along (events p calls))
 one-effect p calls r rests c n g =
     elim (begun-or-not p calls r c n g) [
       | inl h ↦ h

@@ -26,7 +26,7 @@ use Rattle.pool.specs.declared.Pool.{Pool}
 use Rattle.pool.specs.declared.Client.{Client}
 use Rattle.pool.specs.declared.Call.the-variants.{Begin, Step}
 use Rattle.invariant.proofs.After.{client-past}
-use Rattle.guarantee.specs.Runs.{Event, events, At, Begins, GrantedTo, Releases}
+use Rattle.guarantee.specs.Runs.{Event, events, At, along, Begins, GrantedTo, Releases}
 use Rattle.guarantee.specs.Claims.{Evicts, TakenOut, takesEffect, TakesEffect, TurnedDown, Alone}
 use Rattle.guarantee.proofs.TurnedDown.{other-call}
 
@@ -62,7 +62,7 @@ pub eviction : At (Evicts 0) swap-run 18
 unfolding computing
 eviction = record { client-of = 0; stage = 14; step-of = (refl, refl); one-of = tt; becomes-evicted = ((λ z. zero-one (sym z)), refl) }
 
-pub taken-out : TakenOut swap-run 0 18 19
+pub taken-out : TakenOut (along swap-run) 0 18 19
 unfolding computing
 taken-out =
     record {
@@ -101,7 +101,7 @@ module _ (c : ℕ) where
 abbrev ten : ℕ → ℕ
 ten j = suc (suc (suc (suc (suc (suc (suc (suc (suc (suc j)))))))))
 
-pub alone-holds : Alone refused-run (poolAfter (setupOf 1 1 3 0 .pool) (admit 9)) 0 5 9 15
+pub alone-holds : Alone (along refused-run) (poolAfter (setupOf 1 1 3 0 .pool) (admit 9)) 0 5 9 15
 unfolding computing
 alone-holds =
     record {
@@ -110,7 +110,7 @@ alone-holds =
       later = omega arith;
       answered = (refl, inr refl);
       same-request = λ m a b. subst (λ (i : ℕ). At (Begins 0) refused-run i → ⊥) (ten-is m a) (no-begin 0 _ 6 (m - 10));
-      no-others = λ m a b. subst (At (λ e. (caller (e .asked) ≡ 0) ⊎ TurnedDown e) refused-run) (ten-is m a) (own-calls 0 _ 6 (m - 10) (omega arith));
+      no-others = λ m a b _. subst (At (λ e. (caller (e .asked) ≡ 0) ⊎ TurnedDown e) refused-run) (ten-is m a) (own-calls 0 _ 6 (m - 10) (omega arith));
     }
   where
     ten-is : (m : ℕ) → 9 < m → ten (m - 10) ≡ m

@@ -23,7 +23,7 @@ use Rattle.pool.specs.declared.Call.the-variants.{Begin, Step, Release}
 use Rattle.pool.specs.declared.Answer.{Answer}
 use Rattle.pool.specs.declared.Answer.the-variants.{Done, Working, Granted, Refused}
 use Rattle.pool.specs.declared.Counted.the-variants.{Nothing}
-use Rattle.guarantee.specs.Runs.{Event, events, At, Throughout, StepAt, Begins, GrantedTo, Releases}
+use Rattle.guarantee.specs.Runs.{Event, events, At, Run, along, IsCall, Throughout, StepAt, Begins, GrantedTo, Releases}
 use Rattle.guarantee.specs.Sequential.{Sequential, Keeps, seqClient, start, Rule, adding, admitting}
 
 -- ---- a. "any two grants of one page that were ever open together name the same frame"
@@ -38,8 +38,8 @@ OneCopy p =
 abbrev pub BecomesEvicted : ℕ → Event → Type 0
 BecomesEvicted f e = (pins (e .before) f ≢ evicted) × (pins (e .next) f ≡ evicted)
 
-abbrev pub NoHeldEvicted : List Event → Type 0
-NoHeldEvicted es = (f n : ℕ) → At (BecomesEvicted f) es n → At (λ e. held (e .before) f ≡ false) es n
+abbrev pub NoHeldEvicted : Run → Type 0
+NoHeldEvicted run = (f n : ℕ) → run (BecomesEvicted f) n → run (λ e. held (e .before) f ≡ false) n
 
 abbrev pub HeldPinned : Pool → Type 0
 HeldPinned p = (f : ℕ) → held p f ≡ true → pinned 1 ≤ pins p f
@@ -68,13 +68,13 @@ pub record Takes (f : ℕ) (e : Event) : Type 0 where
   pub takes : client (e .next) client-of .own ≡ f
 
 -- the eviction of frame f at event k is taken out of its slot at event n
-pub record TakenOut (es : List Event) (f k n : ℕ) : Type 0 where
+pub record TakenOut (run : Run) (f k n : ℕ) : Type 0 where
   pub later : k < n
-  pub replaces : At (Replaces f) es n
-  pub not-anew : (m : ℕ) → k < m → m < n → At (Takes f) es m → ⊥
+  pub replaces : run (Replaces f) n
+  pub not-anew : (m : ℕ) → k < m → m < n → run (Takes f) m → ⊥
 
-abbrev pub TakenOutOnce : List Event → Type 0
-TakenOutOnce es = (f k m n : ℕ) → At (Evicts f) es k → TakenOut es f k m → TakenOut es f k n → m ≡ n
+abbrev pub TakenOutOnce : Run → Type 0
+TakenOutOnce run = (f k m n : ℕ) → run (Evicts f) k → TakenOut run f k m → TakenOut run f k n → m ≡ n
 
 -- ---- d. "The plain pool's choices can be made so that all these rules are kept, every answer equals the real pool's .., and after every call the
 -- plain pool's pages with their frames are exactly the resident ones with theirs."
@@ -104,19 +104,19 @@ abbrev pub TakesEffect : ℕ → Event → Type 0
 TakesEffect c e = (e .asked ≡ Step c) × T (takesEffect (client (e .before) c .stage) (e .answer))
 
 -- Client c's request that is begun at event k is open up to event n: no later begin of the client is done before n.
-abbrev pub SameRequest : List Event → ℕ → ℕ → ℕ → Type 0
-SameRequest es c k n = (m : ℕ) → k < m → m < n → At (Begins c) es m → ⊥
+abbrev pub SameRequest : Run → ℕ → ℕ → ℕ → Type 0
+SameRequest run c k n = (m : ℕ) → k < m → m < n → run (Begins c) m → ⊥
 
 -- exactly one of the events k + 1 to n has the property
-abbrev pub ExactlyOne : (Event → Type 0) → List Event → ℕ → ℕ → Type 0
-ExactlyOne P es k n = (j : ℕ) × (k < j) × (j ≤ n) × At P es j × ((i : ℕ) → k < i → i ≤ n → At P es i → i ≡ j)
+abbrev pub ExactlyOne : (Event → Type 0) → Run → ℕ → ℕ → Type 0
+ExactlyOne P run k n = (j : ℕ) × (k < j) × (j ≤ n) × run P j × ((i : ℕ) → k < i → i ≤ n → run P i → i ≡ j)
 
 -- "each grant takes effect at exactly one action after its begin and no later than its answer": the answer is event n, and the begin is the
 -- client's last that is done before it, event k
-abbrev pub OneEffect : List Event → Type 0
-OneEffect es =
-    (c n : ℕ) → At (GrantedTo c) es n
-    → (k : ℕ) × (k < n) × At (Begins c) es k × SameRequest es c k n × ExactlyOne (TakesEffect c) es k n
+abbrev pub OneEffect : Run → Type 0
+OneEffect run =
+    (c n : ℕ) → run (GrantedTo c) n
+    → (k : ℕ) × (k < n) × run (Begins c) k × SameRequest run c k n × ExactlyOne (TakesEffect c) run k n
 
 -- ---- e. "A request in the list that is begun and answered while all other benches rest and release nothing is refused for want of a frame
 -- exactly when, at its begin, its page is absent and every slot names a held frame."
@@ -132,30 +132,30 @@ AnswersTo c e = (e .asked ≡ Step c) × (((f : ℕ) × (e .answer ≡ Granted f
 abbrev pub TurnedDown : Event → Type 0
 TurnedDown e = (n : ℕ) × (e .answer ≡ Refused n) × (n ≢ 15)
 
--- Client c begins on page g at event k, in pool p, and is answered at event n; at the begin the others rest, and between the two events every call
--- is this client's or is turned down.
-pub record Alone (es : List Event) (p : Pool) (c g k n : ℕ) : Type 0 where
-  pub begun : At (λ e. (e .before ≡ p) × (e .asked ≡ Begin c g) × (e .answer ≡ Done g)) es k
+-- Client c begins on page g at event k, in pool p, and is answered at event n; at the begin the others rest, and every call of the pool between the
+-- two events is this client's or is turned down.
+pub record Alone (run : Run) (p : Pool) (c g k n : ℕ) : Type 0 where
+  pub begun : run (λ e. (e .before ≡ p) × (e .asked ≡ Begin c g) × (e .answer ≡ Done g)) k
   pub others-rest : (d : ℕ) → d ≢ c → client p d .stage ≡ 0
   pub later : k < n
-  pub answered : At (AnswersTo c) es n
-  pub same-request : SameRequest es c k n
-  pub no-others : (m : ℕ) → k < m → m < n → At (λ e. (caller (e .asked) ≡ c) ⊎ TurnedDown e) es m
+  pub answered : run (AnswersTo c) n
+  pub same-request : SameRequest run c k n
+  pub no-others : (m : ℕ) → k < m → m < n → IsCall run m → run (λ e. (caller (e .asked) ≡ c) ⊎ TurnedDown e) m
 
-abbrev pub RefusedAlone : List Event → Type 0
-RefusedAlone es =
-    (p : Pool) (c g k n : ℕ) → Alone es p c g k n → At (λ e. e .answer ≡ Refused 15) es n ↔ ((resident p g ≡ false) × AllHeld p)
+abbrev pub RefusedAlone : Run → Type 0
+RefusedAlone run =
+    (p : Pool) (c g k n : ℕ) → Alone run p c g k n → run (λ e. e .answer ≡ Refused 15) n ↔ ((resident p g ≡ false) × AllHeld p)
 
 -- ---- point 3
 
 pub record Point3 (p : Pool) (q : Sequential) (calls : List Call) : Type 0 where
   pub one-copy : Throughout OneCopy p calls
-  pub no-held-evicted : NoHeldEvicted (events p calls)
+  pub no-held-evicted : NoHeldEvicted (along (events p calls))
   pub held-pinned : Throughout HeldPinned p calls
-  pub taken-out-once : TakenOutOnce (events p calls)
+  pub taken-out-once : TakenOutOnce (along (events p calls))
   pub sequential : Follows p q calls
-  pub one-effect : OneEffect (events p calls)
-  pub refused-alone : RefusedAlone (events p calls)
+  pub one-effect : OneEffect (along (events p calls))
+  pub refused-alone : RefusedAlone (along (events p calls))
 
 -- "For every list of begins, steps and releases .. from a freshly set-up pool"
 abbrev pub Claim-point3 : Type 0

@@ -33,6 +33,18 @@ At P [] n = ⊥
 At P (x ∷ xs) zero = P x
 At P (x ∷ xs) (suc n) = At P xs n
 
+-- A run, for claims about it: of each property of calls, whether event n of the run is a call of the pool that has it. A list of calls gives one
+-- run; a list with other things between the calls would give another, and the claims would stand as they are.
+abbrev pub Run : Type 1
+Run = (Event → Type 0) → ℕ → Type 0
+
+abbrev pub along : List Event → Run
+along es P n = At P es n
+
+-- event n is a call of the pool, whichever
+abbrev pub IsCall : Run → ℕ → Type 0
+IsCall run n = run (λ _. Unit {0}) n
+
 -- every pool of a run has the property: the first, and each that a call returned
 unfoldable pub Throughout : (Pool → Type 0) → Pool → List Call → Type 0
 Throughout P p [] = P p
