@@ -7,11 +7,11 @@ use native.Mathlib.Omega.{arith}
 use native.Mathlib.Decide.{ℕ-discrete}
 use borrow.Author.Tests.{eqb-true}
 use Rattle.pool.specs.Limits.{maxHeld}
-use Rattle.pool.specs.State.{none, evicted, pinned, clientCount, resting, pins, client, grantPage, grantFrame}
+use Rattle.pool.specs.State.{none, evicted, pinned, clientCount, pins, client, grantPage, grantFrame}
 use Rattle.pool.specs.Answers.{valueOf}
 use Rattle.pool.specs.Grants.{grantOf}
 use Rattle.pool.specs.Apply.{apply}
-use Rattle.pool.specs.Calls.{turnedDown, setupOf, caller, refusal, releaseMove, moveOf, callOf}
+use Rattle.pool.specs.Calls.{turnedDown, caller, refusal, releaseMove, moveOf, callOf}
 use Rattle.pool.specs.declared.Pool.{Pool}
 use Rattle.pool.specs.declared.Client.{Client}
 use Rattle.pool.specs.declared.Move.{Move}
@@ -32,11 +32,10 @@ use Rattle.invariant.proofs.Edges.{Edge, released, moves-on, found1, found18, f
 use Rattle.invariant.proofs.Edges.{refuses, drops, removes, admits, revives, evicts20, evicts23, begins, releases}
 use Rattle.invariant.proofs.Effects.{effect}
 use Rattle.invariant.proofs.Steps.{call-edge}
-use Rattle.invariant.proofs.Setup.{setup-rests}
+use Rattle.invariant.proofs.Setup.{first-rests, first-reached}
 use Rattle.invariant.proofs.Calls.{outcomeOf, call-moves, call-turned-down}
 use Rattle.guarantee.specs.Runs.{Event}
 use Rattle.guarantee.specs.Claims.{OpenGrant, GrantOpens, GrantEnds, GrantsStay, GrantsAsTold, Claim-grants}
-use Rattle.guarantee.proofs.SetupDone.{setup-done}
 use Rattle.guarantee.proofs.Along.{at-some}
 use Rattle.guarantee.proofs.TurnedDown.{other-answer, other-call, same-stage, moved}
 
@@ -251,12 +250,9 @@ module _ (p : Pool) (r : Reached p) where
 -- ---- the claim
 
 pub grant-lists : Claim-grants
-grant-lists s t c h e calls =
-    let d = setup-done s t c h e in
-    let p = setupOf s t c h .pool in
-    let rests : ((b : ℕ) → client p b ≡ resting 0) = λ b. ap (λ (p : Pool). client p b) (d .fresh-pool) ∙ setup-rests s t c h (d .ok) b in
+grant-lists p u calls =
     record {
-      rests-at-first = λ b. same-stage (rests b);
-      none-at-first = λ b. ap (λ (k : Client). k .held) (rests b);
-      as-told = λ n e a b. at-some (λ x. x ≡ e) (GrantsAsTold b e) (λ p x r q. subst (GrantsAsTold b) q (call-told p r x b)) p calls (d .reached) n a;
+      rests-at-first = λ c. same-stage (first-rests u c);
+      none-at-first = λ c. ap (λ (k : Client). k .held) (first-rests u c);
+      as-told = λ n e a c. at-some (λ x. x ≡ e) (GrantsAsTold c e) (λ p x r q. subst (GrantsAsTold c) q (call-told p r x c)) p calls (first-reached u) n a;
     }

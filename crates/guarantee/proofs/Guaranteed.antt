@@ -7,10 +7,10 @@ use native.Mathlib.Omega.{arith}
 use Rattle.pool.specs.State.{total, client}
 use Rattle.pool.specs.Frames.{freeFrame}
 use Rattle.pool.specs.Valid.{valid}
-use Rattle.pool.specs.Calls.{setupOf}
 use Rattle.pool.specs.declared.Pool.{Pool}
 use Rattle.invariant.proofs.Reached.{Reached}
 use Rattle.invariant.proofs.After.{client-here}
+use Rattle.invariant.proofs.Setup.{first-rests, first-reached}
 use Rattle.invariant.proofs.Valid.{valid-reached}
 use Rattle.invariant.proofs.NeverFails.{finds}
 use Rattle.guarantee.specs.Claims.{Claim-point3, Claim-answers, Guarantee}
@@ -23,22 +23,19 @@ use Rattle.guarantee.proofs.OneEffect.{one-effect}
 use Rattle.guarantee.proofs.Alone.{refused-alone}
 use Rattle.guarantee.proofs.Listed.{listed, listed-along}
 use Rattle.guarantee.proofs.GrantLists.{grant-lists}
-use Rattle.guarantee.proofs.TurnedDown.{turned-down, refused}
+use Rattle.guarantee.proofs.TurnedDown.{same-stage, turned-down, refused}
 use Rattle.guarantee.proofs.Limits.{limits}
-use Rattle.guarantee.proofs.SetupDone.{setup-done}
 
 point3 : Claim-point3
-point3 s t c h e calls =
-    let p = setupOf s t c h .pool in
-    let first = setup-done s t c h e in
-    let r = first .reached in
+point3 p u calls =
+    let r = first-reached u in
     record {
       one-copy = one-copies p calls r;
       no-held-evicted = no-held-evicted p calls r;
       held-pinned = helds-pinned p calls r;
       taken-out-once = taken-out-once p calls r;
-      sequential = sequential s t c h e calls;
-      one-effect = one-effect p calls r (first .rests);
+      sequential = sequential u calls;
+      one-effect = one-effect p calls r (λ c. same-stage (first-rests u c));
       refused-alone = refused-alone p calls r;
     }
 
@@ -47,9 +44,8 @@ finds-frame : (p : Pool) → Reached p → (d : ℕ) → client p d .stage ≡ 4
 finds-frame p r d at4 = finds p r d (client-here p (λ k. k .stage ≡ 4) d at4 (λ e. let z : _≡_ {A = ℕ} 0 4 = e in omega arith)) at4
 
 answers : Claim-answers
-answers s t c h e calls =
-    let p = setupOf s t c h .pool in
-    let r = setup-done s t c h e .reached in
+answers p u calls =
+    let r = first-reached u in
     record {
       in-range = throughout (λ q. valid q ≡ true) valid-reached p calls r;
       finds = throughout (λ q. (d : ℕ) → client q d .stage ≡ 4 → freeFrame q < total q) finds-frame p calls r;

@@ -1,6 +1,5 @@
 -- The proofs of specs/Claims.antt, in reading order. All of them rest on the invariant, `Reached`, of crate `invariant`.
--- every pool of a run is reached, from the setup on, and what holds of reached pools holds along the run
-pub mod SetupDone
+-- what holds of reached pools holds along a run
 pub mod Along
 -- of every pool, a handed one too: a call is turned down or is one move; the listed answers
 pub mod TurnedDown

@@ -16,7 +16,7 @@ use Rattle.pool.specs.Table.{lookup, resident}
 use Rattle.pool.specs.Moves.{works, withPlace}
 use Rattle.pool.specs.Apply.{slotsAfter, pinsAfter, freeAfter, apply}
 use Rattle.pool.specs.Stages.{around}
-use Rattle.pool.specs.Calls.{setupOf, beginMove, callOf, poolAfter}
+use Rattle.pool.specs.Calls.{beginMove, callOf, poolAfter}
 use Rattle.pool.specs.declared.Pool.{Pool}
 use Rattle.pool.specs.declared.Client.{Client}
 use Rattle.pool.specs.declared.Move.{Move}
@@ -32,10 +32,9 @@ use Rattle.invariant.proofs.Writes.{keepsTable, lookup-kept}
 use Rattle.invariant.proofs.Searches.{pins-named}
 use Rattle.invariant.proofs.Table.{suc-not, lookup-mapped}
 use Rattle.invariant.proofs.Sums.{sum-zero, sum-has, sum-some-test}
-use Rattle.invariant.proofs.Calls.{reached-calls}
+use Rattle.invariant.proofs.Calls.{reached-after}
 use Rattle.guarantee.specs.Runs.{events, At}
 use Rattle.guarantee.specs.Claims.{GrantedWithin, Claim-limits}
-use Rattle.guarantee.proofs.SetupDone.{setup-done}
 use Rattle.guarantee.proofs.TurnedDown.{turned, one-move, turned-or-move}
 use Rattle.guarantee.proofs.AloneSteps.{AloneAt, StepIs, begun-is, begun-alone, answer-is, after-step, alone-next, move1, move1-found, move2, move3}
 use Rattle.guarantee.proofs.AloneSteps.{move4, move5, move6, move7, move8, move8-next, move9, move18}
@@ -271,8 +270,4 @@ size-after p [] = refl
 size-after p (x ∷ calls) = size-after (callOf p x .pool) calls ∙ size-call p x
 
 pub limits : Claim-limits
-limits s t c h e calls b g rest a =
-    let first = setup-done s t c h e in
-    let size = ap (λ (p : Pool). p .size) (first .fresh-pool) in
-    limits-from (poolAfter (setupOf s t c h .pool) calls) (reached-calls _ calls (first .reached)) rest s b g
-    (size-after (setupOf s t c h .pool) calls ∙ size) a
+limits p u calls b g rest a = limits-from (poolAfter p calls) (reached-after u calls) rest (p .size) b g (size-after p calls) a

@@ -6,20 +6,19 @@ use mathlib.Core.List.{List, [], _∷_}
 use Prim.Native.Nat.{ℕ, zero, suc}
 use lib.ListN.{replicate}
 use Rattle.pool.specs.Choose.{choose}
-use Rattle.pool.specs.State.{slot, client, grantPage}
+use Rattle.pool.specs.State.{clientCount, slot, client, grantPage}
 use Rattle.pool.specs.Valid.{numbersOk}
-use Rattle.pool.specs.Calls.{fresh, setupOf}
+use Rattle.pool.specs.Calls.{fresh, SetUp}
 use Rattle.pool.specs.declared.Pool.{Pool}
 use Rattle.pool.specs.declared.Call.{Call}
-use Rattle.pool.specs.declared.Answer.the-variants.{Done}
+use Rattle.laws.specs.Setups.{of-fresh}
 use Rattle.invariant.proofs.Reached.{Reached}
-use Rattle.invariant.proofs.Setup.{setup-evicted, setup-rests}
+use Rattle.invariant.proofs.Setup.{setup-evicted, setup-rests, reached-setup, first-reached}
 use Rattle.invariant.proofs.Calls.{reached-call}
 use Rattle.guarantee.specs.Sequential.{Sequential, empty, seqResting, start}
 use Rattle.guarantee.specs.Claims.{Follows, at-end, at-call}
 use Rattle.guarantee.proofs.SimulationRelation.{viewFrame, view-evicted, SimulationRelation, upTo, downFrom, viewClient, view, view-related}
 use Rattle.guarantee.proofs.Pages.{same-pages}
-use Rattle.guarantee.proofs.SetupDone.{setup-done}
 use Rattle.guarantee.proofs.Follow.{followed}
 
 -- from any two pools that are related
@@ -49,12 +48,14 @@ view-start s t c h ok = λ i. record { slots = all-same _ s empty vacant i; clie
     idle : (d : ℕ) → viewClient (client p d) (downFrom (grantPage p d) (client p d .held)) ≡ seqResting []
     idle d = rw (setup-rests s t c h ok d) refl
 
--- at a setup that is done the sequential pool that has just started is related to the pool
-pub start-related : (s t c h : ℕ) → setupOf s t c h .answer ≡ Done s → SimulationRelation (setupOf s t c h .pool) (start s t)
-start-related s t c h e =
-    let first = setup-done s t c h e in
-    let shape = rw (first .fresh-pool) at (first .reached .shape) in
-    rw (first .fresh-pool) (rw (view-start s t c h (first .ok)) at (view-related (fresh s t c h) shape))
+abbrev started : Pool → Sequential
+started p = start (p .size) (clientCount p)
 
-pub sequential : (s t c h : ℕ) → setupOf s t c h .answer ≡ Done s → (calls : List Call) → Follows (setupOf s t c h .pool) (start s t) calls
-sequential s t c h e calls = follows-on calls (setup-done s t c h e .reached) (start-related s t c h e)
+-- a pool that was set up is related to the sequential pool that has just started
+pub start-related : {p : Pool} → SetUp p → SimulationRelation p (started p)
+start-related =
+    of-fresh (λ p. SimulationRelation p (started p))
+    (λ s t c h ok. rw (view-start s t c h ok) at (view-related (fresh s t c h) (reached-setup s t c h ok .shape)))
+
+pub sequential : {p : Pool} → SetUp p → (calls : List Call) → Follows p (started p) calls
+sequential u calls = follows-on calls (first-reached u) (start-related u)

@@ -24,6 +24,7 @@ use Rattle.invariant.proofs.After.{few-frames, slot-in, pins-in, entry-in}
 use Rattle.invariant.proofs.Sums.{sum-same}
 use Rattle.invariant.proofs.Searches.{pins-named}
 use Rattle.invariant.proofs.Table.{mapped-entry, mapped-is}
+use Rattle.invariant.proofs.Setup.{first-reached}
 use Rattle.invariant.proofs.Calls.{reached-call}
 use Rattle.invariant.proofs.Pigeonhole.{below, equal, below-all, equal-has, equal-none, equal-at-most}
 use Rattle.guarantee.specs.Runs.{Event, events}
@@ -33,7 +34,6 @@ use Rattle.guarantee.proofs.SimulationRelation.{viewFrame, view-evicted
 use Rattle.guarantee.proofs.PageCount.{occupied, occupancy, pageCount, pageCount-sum, pageCount-none, gained, lost}
 use Rattle.guarantee.proofs.Follow.{followed}
 use Rattle.guarantee.proofs.Sequence.{start-related}
-use Rattle.guarantee.proofs.SetupDone.{setup-done}
 
 -- ---- a numbering that gives each number with a property once gives as many of them as there are
 
@@ -177,4 +177,4 @@ sum-run {p} {q} (x ∷ calls) t r related e h =
     sum-run calls (tallied u t) (reached-call p x r) (f .related) (omega (arith, e, f .page-count, one-up .gains, one-up .loses)) h
 
 pub sum : Claim-sum
-sum s t c h e calls low = sum-run calls zeroTally (setup-done s t c h e .reached) (start-related s t c h e) (omega (arith, pageCount-none s)) low
+sum p u calls low = sum-run calls zeroTally (first-reached u) (start-related u) (omega (arith, pageCount-none (p .size))) low

@@ -1,6 +1,6 @@
 -- The claims are not empty: in one run a grant is told and released, an eviction at 14 is taken out of its slot, and a request takes effect and is
--- granted; in another a request alone is refused by 15. Both are short runs from a setup of one slot and one client, and are computed. Assumes
--- nothing.
+-- granted; in another a request alone is refused by 15. Both are short runs from an accepted setup of one slot and one client, and are computed.
+-- Assumes nothing.
 use mathlib.Core.Path.{_≡_, refl, sym, ap, subst}
 use mathlib.Core.Logic.{_⊎_, inl, inr}
 use mathlib.Core.List.{List, _∷_, _++_}
@@ -20,11 +20,12 @@ use Rattle.pool.specs.Stages.{around, advanced, growth, raised, busyVisit, evic
 use Rattle.pool.specs.Stages.{stage10, stage11, stage12, stage13, stage14, stage15, stage16, stage17, stage18, stage19, stage20, stage21, stage22, stage23}
 use Rattle.pool.specs.Stages.{stageMove}
 use Rattle.pool.specs.Valid.{numbersOk, frameOk, usedOk, stateOk, entryOk, grantOk, countsOk, namesOk, clientOk, valid}
-use Rattle.pool.specs.Calls.{setupOf, caller, refusalAt, refusal, releaseMove, moveOf, finished, callOf, poolAfter}
+use Rattle.pool.specs.Calls.{setupOf, SetUp, caller, refusalAt, refusal, releaseMove, moveOf, finished, callOf, poolAfter}
 use Rattle.pool.specs.Cases.{steps, admit, admitAndRelease}
 use Rattle.pool.specs.declared.Pool.{Pool}
 use Rattle.pool.specs.declared.Client.{Client}
 use Rattle.pool.specs.declared.Call.the-variants.{Begin, Step}
+use Rattle.laws.specs.Setups.{set-up}
 use Rattle.invariant.proofs.After.{client-past}
 use Rattle.guarantee.specs.Runs.{Event, events, At, along, Begins, GrantedTo, Releases}
 use Rattle.guarantee.specs.Claims.{Evicts, TakenOut, takesEffect, TakesEffect, TurnedDown, Alone}
@@ -42,9 +43,16 @@ unfolding choose both either scan howMany refusalOf within slot page pins count 
     setupOf caller refusalAt refusal releaseMove moveOf finished callOf poolAfter events At takesEffect
 computing = 0
 
+abbrev pub first : Pool
+first = setupOf 1 1 3 0 .pool
+
+pub accepted : SetUp first
+unfolding computing
+accepted = set-up 1 1 3 0 refl
+
 -- page 9 is admitted and released, and page 5 takes its slot: event 18 is the stage 14, event 19 the stage 15, event 22 the answer
 abbrev pub swap-run : List Event
-swap-run = events (setupOf 1 1 3 0 .pool) (admitAndRelease 9 ++ Begin 0 5 ∷ steps 0 12)
+swap-run = events first (admitAndRelease 9 ++ Begin 0 5 ∷ steps 0 12)
 
 -- page 9 is granted at event 8 and released at event 9
 pub told : At (GrantedTo 0) swap-run 8
@@ -82,7 +90,7 @@ grants-frame = (1, refl, refl)
 
 -- page 9 is held in the one slot: the request for page 5 that is begun at event 9 is refused by 15 at event 15
 abbrev pub refused-run : List Event
-refused-run = events (setupOf 1 1 3 0 .pool) (admit 9 ++ Begin 0 5 ∷ steps 0 6)
+refused-run = events first (admit 9 ++ Begin 0 5 ∷ steps 0 6)
 
 module _ (c : ℕ) where
   -- among the client's own steps there is no begin
@@ -101,12 +109,12 @@ module _ (c : ℕ) where
 abbrev ten : ℕ → ℕ
 ten j = suc (suc (suc (suc (suc (suc (suc (suc (suc (suc j)))))))))
 
-pub alone-holds : Alone (along refused-run) (poolAfter (setupOf 1 1 3 0 .pool) (admit 9)) 0 5 9 15
+pub alone-holds : Alone (along refused-run) (poolAfter first (admit 9)) 0 5 9 15
 unfolding computing
 alone-holds =
     record {
       begun = (refl, refl, refl);
-      others-rest = λ d z. ap (λ (k : Client). k .stage) (client-past (poolAfter (setupOf 1 1 3 0 .pool) (admit 9)) d (omega arith));
+      others-rest = λ d z. ap (λ (k : Client). k .stage) (client-past (poolAfter first (admit 9)) d (omega arith));
       later = omega arith;
       answered = (refl, inr refl);
       same-request = λ m a b. subst (λ (i : ℕ). At (Begins 0) refused-run i → ⊥) (ten-is m a) (no-begin 0 _ 6 (m - 10));

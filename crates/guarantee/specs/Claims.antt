@@ -7,14 +7,14 @@ use mathlib.Core.List.{List, [], _∷_}
 use Prim.Native.Nat.{ℕ, suc, _+_, _≤_, _<_}
 use lib.Dec.{T, eqb}
 use lib.ListN.{replicate}
-use Rattle.pool.specs.State.{none, evicted, pinned, total, slot, pins, client, grantPage, grantFrame}
+use Rattle.pool.specs.State.{none, evicted, pinned, clientCount, total, slot, pins, client, grantPage, grantFrame}
 use Rattle.pool.specs.Table.{lookup, resident, residents}
 use Rattle.pool.specs.Grants.{held}
 use Rattle.pool.specs.Frames.{freeFrame}
 use Rattle.pool.specs.Moves.{refused15}
 use Rattle.pool.specs.Apply.{apply}
 use Rattle.pool.specs.Valid.{valid}
-use Rattle.pool.specs.Calls.{setupOf, caller, callOf, poolAfter}
+use Rattle.pool.specs.Calls.{SetUp, caller, callOf, poolAfter}
 use Rattle.pool.specs.Tallies.{largest, zeroTally, tallied}
 use Rattle.pool.specs.declared.Pool.{Pool}
 use Rattle.pool.specs.declared.Tally.{Tally}
@@ -148,18 +148,19 @@ RefusedAlone run =
 
 -- ---- point 3
 
-pub record Point3 (p : Pool) (q : Sequential) (calls : List Call) : Type 0 where
+-- of the calls in a list, from pool p on; the sequential pool starts with as many slots and clients as p has
+pub record Point3 (p : Pool) (calls : List Call) : Type 0 where
   pub one-copy : Throughout OneCopy p calls
   pub no-held-evicted : NoHeldEvicted (along (events p calls))
   pub held-pinned : Throughout HeldPinned p calls
   pub taken-out-once : TakenOutOnce (along (events p calls))
-  pub sequential : Follows p q calls
+  pub sequential : Follows p (start (p .size) (clientCount p)) calls
   pub one-effect : OneEffect (along (events p calls))
   pub refused-alone : RefusedAlone (along (events p calls))
 
 -- "For every list of begins, steps and releases .. from a freshly set-up pool"
 abbrev pub Claim-point3 : Type 0
-Claim-point3 = (s t c h : ℕ) → setupOf s t c h .answer ≡ Done s → (calls : List Call) → Point3 (setupOf s t c h .pool) (start s t) calls
+Claim-point3 = (p : Pool) → SetUp p → (calls : List Call) → Point3 p calls
 
 -- ---- the clients' grants: "a grant is open from its answer until a release ends it". `OneCopy` speaks of the grants that the pool lists for each client;
 -- here they are those that the answers told it and that it has not released.
@@ -220,7 +221,7 @@ pub record GrantLists (p : Pool) (calls : List Call) : Type 0 where
   pub as-told : (n : ℕ) (e : Event) → At (λ x. x ≡ e) (events p calls) n → (c : ℕ) → GrantsAsTold c e
 
 abbrev pub Claim-grants : Type 0
-Claim-grants = (s t c h : ℕ) → setupOf s t c h .answer ≡ Done s → (calls : List Call) → GrantLists (setupOf s t c h .pool) calls
+Claim-grants = (p : Pool) → SetUp p → (calls : List Call) → GrantLists p calls
 
 -- ---- answers: "done, a grant, a stage or a numbered refusal"
 
@@ -244,7 +245,7 @@ pub record Answered (p : Pool) (calls : List Call) : Type 0 where
   pub listed : (n : ℕ) (e : Event) → At (λ x. x ≡ e) (events p calls) n → Listed (e .before) (e .asked) (e .answer)
 
 abbrev pub Claim-answers : Type 0
-Claim-answers = (s t c h : ℕ) → setupOf s t c h .answer ≡ Done s → (calls : List Call) → Answered (setupOf s t c h .pool) calls
+Claim-answers = (p : Pool) → SetUp p → (calls : List Call) → Answered p calls
 
 -- "All but 15 change no pool, tally or list.": of every pool, from wherever it was handed
 abbrev pub Claim-turned-down : Type 0
@@ -272,9 +273,8 @@ BelowLargest t =
 -- "resident pages = admitted + revived - drops"
 abbrev pub Claim-sum : Type 0
 Claim-sum =
-    (s t c h : ℕ) → setupOf s t c h .answer ≡ Done s → (calls : List Call)
-    → let p = setupOf s t c h .pool in
-    let tally = tallyOf zeroTally (events p calls) in
+    (p : Pool) → SetUp p → (calls : List Call)
+    → let tally = tallyOf zeroTally (events p calls) in
     BelowLargest tally → residents (poolAfter p calls) + tally .drops ≡ tally .admitted + tally .revived
 
 -- ---- "Stepped alone, all others resting, a hit takes at most 3 steps, and an admission to an empty slot at most S + 7."
@@ -289,12 +289,12 @@ GrantedWithin p c n = (i : ℕ) × (i < n) × GrantedAtLast p c i
 
 abbrev pub Claim-limits : Type 0
 Claim-limits =
-    (s t c h : ℕ) → setupOf s t c h .answer ≡ Done s → (calls : List Call) (b g : ℕ)
-    → let p = poolAfter (setupOf s t c h .pool) calls in
-    let q = callOf p (Begin b g) .pool in
-    ((d : ℕ) → client p d .stage ≡ 0) → callOf p (Begin b g) .answer ≡ Done g
-    → (resident p g ≡ true → GrantedWithin q b 3)
-    × (resident p g ≡ false → (i : ℕ) → i < p .size → slot p i ≡ none → GrantedWithin q b (s + 7))
+    (p : Pool) → SetUp p → (calls : List Call) (b g : ℕ)
+    → let now = poolAfter p calls in
+    let q = callOf now (Begin b g) .pool in
+    ((d : ℕ) → client now d .stage ≡ 0) → callOf now (Begin b g) .answer ≡ Done g
+    → (resident now g ≡ true → GrantedWithin q b 3)
+    × (resident now g ≡ false → (i : ℕ) → i < now .size → slot now i ≡ none → GrantedWithin q b (p .size + 7))
 
 -- ---- all of it
 

@@ -2,7 +2,6 @@
 -- passes check 8; one that is turned down changes nothing. So every pool that comes from setup and calls is reached. Assumes nothing.
 use mathlib.Core.Path.{_≡_, refl, sym, ap, subst, _∙_}
 use mathlib.Core.Logic.{_≢_}
-use mathlib.Core.Bool.{true}
 use mathlib.Core.List.{List, [], _∷_}
 use Prim.Native.Nat.{ℕ, _<_}
 use native.Mathlib.Decide.{ℕ-discrete}
@@ -12,8 +11,7 @@ use Rattle.pool.specs.Choose.{choose}
 use Rattle.pool.specs.Answers.{refusalOf}
 use Rattle.pool.specs.State.{clientCount, client}
 use Rattle.pool.specs.Apply.{apply}
-use Rattle.pool.specs.Valid.{numbersOk}
-use Rattle.pool.specs.Calls.{turnedDown, fresh, caller, refusalAt, refusal, moveOf, finished, callOf, poolAfter}
+use Rattle.pool.specs.Calls.{turnedDown, SetUp, caller, refusalAt, refusal, moveOf, finished, callOf, poolAfter}
 use Rattle.pool.specs.declared.Pool.{Pool}
 use Rattle.pool.specs.declared.Call.{Call}
 use Rattle.pool.specs.declared.Move.{Move}
@@ -34,7 +32,7 @@ use Rattle.invariant.proofs.PinCounts.{pin-counts-next}
 use Rattle.invariant.proofs.Mapping.{mapping-next}
 use Rattle.invariant.proofs.Evictions.{evictions-next}
 use Rattle.invariant.proofs.Valid.{valid-reached}
-use Rattle.invariant.proofs.Setup.{reached-setup}
+use Rattle.invariant.proofs.Setup.{first-reached}
 
 -- ---- a move
 
@@ -102,5 +100,5 @@ reached-calls p [] r = r
 reached-calls p (x ∷ calls) r = reached-calls (callOf p x .pool) calls (reached-call p x r)
 
 -- THE INVARIANT, of every pool that comes from setup and calls
-pub reached-after : (s t c h : ℕ) → numbersOk s t c ≡ true → (calls : List Call) → Reached (poolAfter (fresh s t c h) calls)
-reached-after s t c h ok calls = reached-calls (fresh s t c h) calls (reached-setup s t c h ok)
+pub reached-after : {p : Pool} → SetUp p → (calls : List Call) → Reached (poolAfter p calls)
+reached-after {p} u calls = reached-calls p calls (first-reached u)

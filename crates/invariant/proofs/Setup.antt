@@ -1,4 +1,4 @@
--- A pool that is set up is reached: nothing is in its slots and its table, every frame is evicted, every client rests. So most clauses speak of
+-- A pool that was set up is reached: nothing is in its slots and its table, every frame is evicted, every client rests. So most clauses speak of
 -- nothing, and the rest count to 0. Assumes nothing.
 use mathlib.Core.Path.{_≡_, refl, sym, ap, _∙_}
 use mathlib.Core.Logic.{_≢_, inl}
@@ -12,11 +12,12 @@ use borrow.Author.Tests.{ltb-true, leb-true}
 use Rattle.pool.specs.Limits.{maxSize, maxClients, maxFrames}
 use Rattle.pool.specs.State.{none, evicted, total, within, resting, no-client, slot, pins, count, entryFrame, client, grantFrame}
 use Rattle.pool.specs.Valid.{numbersOk}
-use Rattle.pool.specs.Calls.{fresh}
+use Rattle.pool.specs.Calls.{fresh, SetUp}
 use Rattle.pool.specs.declared.Pool.{Pool}
 use Rattle.pool.specs.declared.Client.{Client}
 use Rattle.laws.specs.Choices.{by-test}
 use Rattle.laws.specs.Scans.{both-true}
+use Rattle.laws.specs.Setups.{of-fresh}
 use Rattle.invariant.proofs.Reached.{Shape, Reached, unclaimed, one, mapped, claims, claimed, filling}
 use Rattle.invariant.proofs.After.{few-frames, within-in, within-past}
 use Rattle.invariant.proofs.Sums.{sum-zero, sum-full}
@@ -152,3 +153,11 @@ module _ (s t c h : ℕ) (ok : numbersOk s t c ≡ true) where
           evicted-mapped = λ f z n _. absurd (n (mapped-zeros f z));
         };
       }
+
+-- ---- of the pool of an accepted setup, the first of a run
+
+pub first-rests : {p : Pool} → SetUp p → (d : ℕ) → client p d ≡ resting 0
+first-rests = of-fresh (λ p. (d : ℕ) → client p d ≡ resting 0) setup-rests
+
+pub first-reached : {p : Pool} → SetUp p → Reached p
+first-reached = of-fresh Reached reached-setup

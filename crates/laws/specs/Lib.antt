@@ -4,3 +4,4 @@ pub mod Loops
 pub mod Elements
 pub mod Each
 pub mod StageAnswers
+pub mod Setups

@@ -1,4 +1,5 @@
 -- The calls: what each is turned down by, in checking order, the move of one that is not, and check 8 again after it. Assumes nothing.
+use mathlib.Core.Path.{_≡_}
 use mathlib.Core.Bool.{not}
 use mathlib.Core.List.{List, [], _∷_}
 use Prim.Native.Nat.{ℕ, _-_}
@@ -58,6 +59,15 @@ noPool = fresh 0 0 0 0
 -- 8. "S, T or C is outside its range."
 unfoldable pub setupOf : ℕ → ℕ → ℕ → ℕ → Outcome
 setupOf s t c h = choose (numbersOk s t c) (record { answer = Done s; counted = Nothing; pool = fresh s t c h }) (turnedDown 8 noPool)
+
+-- what an accepted setup is: p is the pool that a setup with some numbers returned, and that setup was done
+pub record SetUp (p : Pool) : Type 0 where
+  pub size : ℕ
+  pub clients : ℕ
+  pub cap : ℕ
+  pub hand : ℕ
+  pub done : setupOf size clients cap hand .answer ≡ Done size
+  pub made : setupOf size clients cap hand .pool ≡ p
 
 -- ---- begin, step, release
 
