@@ -24,7 +24,7 @@ use Rattle.invariant.proofs.Calls.{reached-call}
 use Rattle.guarantee.specs.Runs.{Event, eventOf, events, At, along, Begins}
 use Rattle.guarantee.specs.Claims.{AllHeld, AnswersTo, TurnedDown, RefusedAlone}
 use Rattle.guarantee.proofs.TurnedDown.{same-pool, other-answer, other-call, turned-down, turned, one-move, turned-or-move}
-use Rattle.guarantee.proofs.OneClient.{rest-unanswered}
+use Rattle.guarantee.proofs.OneClient.{working-unanswered, rest-unanswered}
 use Rattle.guarantee.proofs.AloneSteps.{begun-is, begun-rests, begun-alone}
 use Rattle.guarantee.proofs.SinceBegin.{SameAsBegin, same-as-begin-next, counters-pins}
 use Rattle.guarantee.proofs.Along.{at-before}
@@ -72,8 +72,7 @@ module _ (p₀ : Pool) (b g : ℕ) (reached : Reached p₀) (rest : (c : ℕ) �
       subst (λ (y : Call). AnswersTo b (eventOf p y) → RefusedIff (eventOf p y)) (sym (a .0)) (ends (result p₀ b g reached rest p running)) a
     where
       ends : Result (callOf p (Step b)) → AnswersTo b (eventOf p (Step b)) → RefusedIff (eventOf p (Step b))
-      ends (goes-on j e _) (_, inl r) = other-answer (sym e ∙ r .1) tt
-      ends (goes-on j e _) (_, inr r) = other-answer (sym e ∙ r) tt
+      ends (goes-on j e _) answered = absurd (working-unanswered (eventOf p (Step b)) e answered)
       ends (granted f e _ n) _ = inr ((λ r. other-answer (sym r ∙ e) tt), n)
       ends (refused e _ f) _ = inl (e, f)
   run-alone p (x ∷ calls) (suc n) running nb fair a =

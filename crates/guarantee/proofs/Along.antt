@@ -31,6 +31,13 @@ at-each P Q h p [] r n a = a
 at-each P Q h p (x ∷ calls) r zero a = h p x r a
 at-each P Q h p (x ∷ calls) r (suc n) a = at-each P Q h (callOf p x .pool) calls (reached-call p x r) n a
 
+-- two properties of one event
+pub at-both : (P Q : Event → Type 0) (es : List Event) (n : ℕ) → At P es n → At Q es n → At (λ e. P e × Q e) es n
+unfolding At
+at-both P Q [] n a b = a
+at-both P Q (e ∷ es) zero a b = (a, b)
+at-both P Q (e ∷ es) (suc n) a b = at-both P Q es n a b
+
 -- a list that has event n has the events before it
 pub at-before : (P : Event → Type 0) (es : List Event) (m n : ℕ) → m ≤ n → At P es n → IsCall (along es) m
 unfolding At

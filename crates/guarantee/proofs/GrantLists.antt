@@ -2,6 +2,7 @@
 -- nothing else changes them. Once for one call of a reached pool, by the moves of the invariant's `Edges`, then along the run. Assumes nothing.
 use mathlib.Core.Path.{_≡_, refl, sym, ap, subst, _∙_}
 use mathlib.Core.Logic.{_≢_}
+use mathlib.Core.List.{List}
 use Prim.Native.Nat.{ℕ, _+_, _-_, _≤_, _<_}
 use native.Mathlib.Omega.{arith}
 use native.Mathlib.Decide.{ℕ-discrete}
@@ -11,7 +12,7 @@ use Rattle.pool.specs.State.{none, evicted, pinned, clientCount, pins, client, 
 use Rattle.pool.specs.Answers.{valueOf}
 use Rattle.pool.specs.Grants.{grantOf}
 use Rattle.pool.specs.Apply.{apply}
-use Rattle.pool.specs.Calls.{turnedDown, caller, refusal, releaseMove, moveOf, callOf}
+use Rattle.pool.specs.Calls.{turnedDown, SetUp, caller, refusal, releaseMove, moveOf, callOf}
 use Rattle.pool.specs.declared.Pool.{Pool}
 use Rattle.pool.specs.declared.Client.{Client}
 use Rattle.pool.specs.declared.Move.{Move}
@@ -34,9 +35,9 @@ use Rattle.invariant.proofs.Effects.{effect}
 use Rattle.invariant.proofs.Steps.{call-edge}
 use Rattle.invariant.proofs.Setup.{first-rests, first-reached}
 use Rattle.invariant.proofs.Calls.{outcomeOf, call-moves, call-turned-down}
-use Rattle.guarantee.specs.Runs.{Event}
-use Rattle.guarantee.specs.Claims.{OpenGrant, GrantOpens, GrantEnds, GrantsStay, GrantsAsTold, Claim-grants}
-use Rattle.guarantee.proofs.Along.{at-some}
+use Rattle.guarantee.specs.Runs.{Event, events, along}
+use Rattle.guarantee.specs.Claims.{OpenGrant, GrantOpens, GrantEnds, GrantsStay, GrantsAsTold, GrantLists}
+use Rattle.guarantee.proofs.Along.{at-each}
 use Rattle.guarantee.proofs.TurnedDown.{other-answer, other-call, same-stage, moved}
 
 same-grant : {g h e f : ℕ} → g ≡ h → e ≡ f → _≡_ {A = OpenGrant} (record { page = g; frame = e }) (record { page = h; frame = f })
@@ -249,10 +250,10 @@ module _ (p : Pool) (r : Reached p) where
 
 -- ---- the claim
 
-pub grant-lists : Claim-grants
+pub grant-lists : (p : Pool) → SetUp p → (calls : List Call) → GrantLists p (along (events p calls))
 grant-lists p u calls =
     record {
       rests-at-first = λ c. same-stage (first-rests u c);
       none-at-first = λ c. ap (λ (k : Client). k .held) (first-rests u c);
-      as-told = λ n e a c. at-some (λ x. x ≡ e) (GrantsAsTold c e) (λ p x r q. subst (GrantsAsTold c) q (call-told p r x c)) p calls (first-reached u) n a;
+      as-told = λ c. at-each (λ _. Unit {0}) (GrantsAsTold c) (λ p x r _. call-told p r x c) p calls (first-reached u);
     }

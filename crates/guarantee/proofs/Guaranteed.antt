@@ -30,6 +30,7 @@ point3 : Claim-point3
 point3 p u calls =
     let r = first-reached u in
     record {
+      grants = grant-lists p u calls;
       one-copy = one-copies p calls r;
       no-held-evicted = no-held-evicted p calls r;
       held-pinned = helds-pinned p calls r;
@@ -56,7 +57,6 @@ pub guarantee : Guarantee
 guarantee =
     record {
       point3 = point3;
-      grants = grant-lists;
       listed = listed;
       answers = answers;
       turned-down = turned-down;

@@ -1,5 +1,5 @@
 -- Once a stage 15 has replaced a frame, and until a stage 4 takes it, the frame stands in no slot and is nobody's own (`OutOfSlot`). So between two stages
--- 15 that replace it a stage 4 takes it. Assumes nothing.
+-- 15 that replace it a stage 4 takes it; and one stage 15 replaces it in one slot, as no two slots name it. Assumes nothing.
 use mathlib.Core.Path.{_≡_, sym, ap, subst, _∙_}
 use mathlib.Core.Logic.{_≢_, _⊎_, inl, inr}
 use mathlib.Core.List.{List, [], _∷_}
@@ -28,7 +28,7 @@ use Rattle.invariant.proofs.Allowed.{allowed, only-step}
 use Rattle.invariant.proofs.Calls.{reached-call}
 use Rattle.guarantee.specs.Runs.{eventOf, events, At, along}
 use Rattle.guarantee.specs.Claims.{Evicts, Replaces, Takes, TakenOutOnce}
-use Rattle.guarantee.proofs.Along.{at-some}
+use Rattle.guarantee.proofs.Along.{at-some, at-both}
 use Rattle.guarantee.proofs.TurnedDown.{TurnedOrMove, turned, one-move, turned-or-move}
 
 -- ---- a frame that is out stays so until a stage 4 takes it
@@ -86,17 +86,14 @@ out-call p x f r z o = go (turned-or-move p x)
 
 -- ---- a stage 15 that replaces it makes it so
 
-replaced-out : (p : Pool) (x : Call) (f : ℕ) → Reached p → f ≢ none → Replaces f (eventOf p x) → OutOfSlot (callOf p x .pool) f
+replaced-out : (p : Pool) (x : Call) (f i : ℕ) → Reached p → f ≢ none → Replaces f i (eventOf p x) → OutOfSlot (callOf p x .pool) f
 unfolding caller
-replaced-out p x f r z h =
+replaced-out p x f i r z h =
     subst (λ (y : Call). slot (callOf p y .pool) i ≢ f → OutOfSlot (callOf p y .pool) f) (sym (h .step-of .0))
     (go (turned-or-move p (Step c))) (h .names-no-more)
   where
     c : ℕ
     c = h .client-of
-
-    i : ℕ
-    i = h .at-slot
 
     m : Move
     m = moveOf p (Step c)
@@ -123,27 +120,35 @@ replaced-out p x f r z h =
 -- ---- along a run
 
 -- a frame that is out is replaced only after it was taken
-taken-first : (p : Pool) (calls : List Call) (f : ℕ) → Reached p → f ≢ none → OutOfSlot p f → (n : ℕ) → At (Replaces f) (events p calls) n
+taken-first : (p : Pool) (calls : List Call) (f i : ℕ) → Reached p → f ≢ none → OutOfSlot p f → (n : ℕ) → At (Replaces f i) (events p calls) n
     → (m : ℕ) × (m < n) × At (Takes f) (events p calls) m
 unfolding events At
-taken-first p [] f r z o n h = absurd h
-taken-first p (x ∷ calls) f r z o zero h = absurd (o .no-slot (h .at-slot) (h .named))
-taken-first p (x ∷ calls) f r z o (suc n) h =
-    let ih = taken-first (callOf p x .pool) calls f (reached-call p x r) z in
+taken-first p [] f i r z o n h = absurd h
+taken-first p (x ∷ calls) f i r z o zero h = absurd (o .no-slot i (h .named))
+taken-first p (x ∷ calls) f i r z o (suc n) h =
+    let ih = taken-first (callOf p x .pool) calls f i (reached-call p x r) z in
     elim (out-call p x f r z o) [ inl q ↦ (let w = ih q n h in (suc (w .0), omega (arith, w .1), w .2)) | inr t ↦ (0, omega arith, t) ]
 
 -- between two stages 15 that replace one frame, a stage 4 takes it
-taken-between : (p : Pool) (calls : List Call) (f : ℕ) → Reached p → f ≢ none → (k n : ℕ) → k < n → At (Replaces f) (events p calls) k
-    → At (Replaces f) (events p calls) n → (m : ℕ) × (k < m) × (m < n) × At (Takes f) (events p calls) m
+taken-between : (p : Pool) (calls : List Call) (f i j : ℕ) → Reached p → f ≢ none → (k n : ℕ) → k < n → At (Replaces f i) (events p calls) k
+    → At (Replaces f j) (events p calls) n → (m : ℕ) × (k < m) × (m < n) × At (Takes f) (events p calls) m
 unfolding events At
-taken-between p [] f r z k n l a b = absurd a
-taken-between p (x ∷ calls) f r z k zero l a b = absurd (not-suc-le-zero l)
-taken-between p (x ∷ calls) f r z zero (suc n) l a b =
-    let w = taken-first (callOf p x .pool) calls f (reached-call p x r) z (replaced-out p x f r z a) n b in
+taken-between p [] f i j r z k n l a b = absurd a
+taken-between p (x ∷ calls) f i j r z k zero l a b = absurd (not-suc-le-zero l)
+taken-between p (x ∷ calls) f i j r z zero (suc n) l a b =
+    let w = taken-first (callOf p x .pool) calls f j (reached-call p x r) z (replaced-out p x f i r z a) n b in
     (suc (w .0), omega arith, omega (arith, w .1), w .2)
-taken-between p (x ∷ calls) f r z (suc k) (suc n) l a b =
-    let w = taken-between (callOf p x .pool) calls f (reached-call p x r) z k n (le-of-suc-le-suc l) a b in
+taken-between p (x ∷ calls) f i j r z (suc k) (suc n) l a b =
+    let w = taken-between (callOf p x .pool) calls f i j (reached-call p x r) z k n (le-of-suc-le-suc l) a b in
     (suc (w .0), omega (arith, w .1), omega (arith, w .2), w .3)
+
+-- no two slots name one frame, so a stage 15 replaces it in one
+one-slot : (p : Pool) (calls : List Call) (f i j : ℕ) → Reached p → f ≢ none → (n : ℕ) → At (Replaces f i) (events p calls) n
+    → At (Replaces f j) (events p calls) n → i ≡ j
+one-slot p calls f i j r z n a b =
+    at-some (λ e. Replaces f i e × Replaces f j e) (i ≡ j)
+    (λ p x r h. r .places .slots-distinct i j (λ q. z (sym (h .0 .named) ∙ q)) (h .0 .named ∙ sym (h .1 .named))) p calls r n
+    (at-both (Replaces f i) (Replaces f j) (events p calls) n a b)
 
 -- what is evicted is a frame
 evicts-frame : (p : Pool) (calls : List Call) (f : ℕ) → Reached p → (k : ℕ) → At (Evicts f) (events p calls) k → f ≢ none
@@ -151,16 +156,22 @@ evicts-frame p calls f =
     at-some (Evicts f) (f ≢ none) (λ p x r e. pins-named p (r .shape) f (e .becomes-evicted .0)) p calls
 
 pub taken-out-once : (p : Pool) (calls : List Call) → Reached p → TakenOutOnce (along (events p calls))
-taken-out-once p calls r f k m n e a b = go (decLt m n) (decLt n m)
+taken-out-once p calls r f k i j m n e a b = (same-event, omega (arith, same-slot))
   where
     z : f ≢ none
     z = evicts-frame p calls f r k e
 
     go : Dec (m < n) → Dec (n < m) → m ≡ n
     go (yes l) _ =
-        let t = taken-between p calls f r z m n l (a .replaces) (b .replaces) in
+        let t = taken-between p calls f i j r z m n l (a .replaces) (b .replaces) in
         absurd (b .not-anew (t .0) (omega (arith, a .later, t .1)) (t .2) (t .3))
     go (no _) (yes l) =
-        let t = taken-between p calls f r z n m l (b .replaces) (a .replaces) in
+        let t = taken-between p calls f j i r z n m l (b .replaces) (a .replaces) in
         absurd (a .not-anew (t .0) (omega (arith, b .later, t .1)) (t .2) (t .3))
     go (no x) (no y) = omega arith
+
+    same-event : m ≡ n
+    same-event = go (decLt m n) (decLt n m)
+
+    same-slot : i ≡ j
+    same-slot = one-slot p calls f i j r z m (a .replaces) (subst (At (Replaces f j) (events p calls)) (sym same-event) (b .replaces))

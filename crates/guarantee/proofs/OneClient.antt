@@ -14,12 +14,12 @@ use Rattle.pool.specs.declared.Move.{Move}
 use Rattle.pool.specs.declared.Outcome.{Outcome}
 use Rattle.pool.specs.declared.Call.{Call}
 use Rattle.pool.specs.declared.Call.the-variants.{Begin, Step, Release}
-use Rattle.pool.specs.declared.Answer.the-variants.{Granted, Refused}
+use Rattle.pool.specs.declared.Answer.the-variants.{Working, Refused}
 use Rattle.invariant.proofs.Reached.{Shape, Reached}
 use Rattle.invariant.proofs.After.{client-same, client-other}
 use Rattle.invariant.proofs.Allowed.{Allowed, allowed, may-step}
 use Rattle.invariant.proofs.Calls.{reached-call}
-use Rattle.guarantee.specs.Runs.{eventOf, events, At, Begins}
+use Rattle.guarantee.specs.Runs.{Event, eventOf, events, At, Begins}
 use Rattle.guarantee.specs.Claims.{AnswersTo, TurnedDown}
 use Rattle.guarantee.proofs.TurnedDown.{same-answer, same-stage, other-answer, other-call, moved, TurnedOrMove, turned, one-move, turned-or-move}
 use Rattle.guarantee.proofs.TurnedDown.{turned-down-not-15, is-done, is-stuck, done-or-stuck}
@@ -55,6 +55,18 @@ begins-or-not p x c s = go x (client-after p x c s)
     go (Step d) (mine e a o n) = no (λ b. other-call (b .1) tt)
     go (Release d g) (mine e a o n) = no (λ b. other-call (b .1) tt)
 
+-- ---- what answers no request
+
+-- a call that is turned down
+pub turned-unanswered : {c : ℕ} (e : Event) → TurnedDown e → AnswersTo c e → ⊥
+turned-unanswered e t (_, inl g) = other-answer (sym (t .1) ∙ g .1) tt
+turned-unanswered e t (_, inr g) = t .2 (refused-same (sym (t .1) ∙ g))
+
+-- a step that leads on to a stage
+pub working-unanswered : {c j : ℕ} (e : Event) → e .answer ≡ Working j → AnswersTo c e → ⊥
+working-unanswered e w (_, inl g) = other-answer (sym w ∙ g .1) tt
+working-unanswered e w (_, inr g) = other-answer (sym w ∙ g) tt
+
 -- ---- a resting client: it rests on, or its begin is done; its steps are turned down
 
 abbrev RestsOrBegins : Pool → Call → ℕ → Type 0
@@ -80,11 +92,7 @@ pub rest-unanswered : (p : Pool) (calls : List Call) → Reached p → (c n : �
 unfolding events At
 rest-unanswered p [] r c n z nb a = a
 rest-unanswered p (x ∷ calls) r c zero z nb a =
-    elim (rests-or-begins p x c (r .shape) z) [ inl w ↦ not-both (w .1 (a .0)) (a .1) | inr b ↦ other-call (sym (b .1) ∙ a .0) tt ]
-  where
-    not-both : TurnedDown (eventOf p x) → ((f : ℕ) × (callOf p x .answer ≡ Granted f)) ⊎ (callOf p x .answer ≡ Refused 15) → ⊥
-    not-both t (inl g) = other-answer (sym (t .1) ∙ g .1) tt
-    not-both t (inr g) = t .2 (refused-same (sym (t .1) ∙ g))
+    elim (rests-or-begins p x c (r .shape) z) [ inl w ↦ turned-unanswered (eventOf p x) (w .1 (a .0)) a | inr b ↦ other-call (sym (b .1) ∙ a .0) tt ]
 rest-unanswered p (x ∷ calls) r c (suc n) z nb a =
     let ih = rest-unanswered (callOf p x .pool) calls (reached-call p x r) c n in
     elim (rests-or-begins p x c (r .shape) z) [ inl w ↦ ih (w .0) (λ m l. nb (suc m) (omega arith)) a | inr b ↦ nb 0 (omega arith) b ]

@@ -1,7 +1,7 @@
--- A grant is begun before it in the run, as the clients rest at first, and takes effect at exactly one action after its begin. Whether it has is told
--- by the stage its client stands at, `pinsFound`: a step at which it takes effect leads from a stage that says no to one that says yes, or grants at
--- a stage that says no; every other step of a working client leaves the answer as it is, and grants only where it is yes. Of the invariant only the
--- arrays' lengths are used. Assumes nothing.
+-- A grant is begun before it in the run, as the clients rest at first, and takes effect at exactly one action after its begin; no other answer stands
+-- between, as an answer puts its client to rest. Whether the request has taken effect is told by the stage its client stands at, `pinsFound`: a step at
+-- which it takes effect leads from a stage that says no to one that says yes, or grants at a stage that says no; every other step of a working client
+-- leaves the answer as it is, and grants only where it is yes. Of the invariant only the arrays' lengths are used. Assumes nothing.
 use mathlib.Core.Path.{_≡_, refl, sym, ap, subst, _∙_}
 use mathlib.Core.Logic.{_≢_, _⊎_, inl, inr}
 use mathlib.Core.Bool.{Bool, true, false, not, cond, _&&_, true≢false}
@@ -23,13 +23,13 @@ use Rattle.laws.specs.Scans.{and-parts}
 use Rattle.invariant.proofs.StageTests.{T-false}
 use Rattle.invariant.proofs.Allowed.{may-begin, may-release}
 use Rattle.invariant.proofs.Calls.{reached-call}
-use Rattle.guarantee.specs.Runs.{Event, eventOf, events, At, along, Begins, GrantedTo}
+use Rattle.guarantee.specs.Runs.{Event, eventOf, events, At, along, NoneBetween, Begins, GrantedTo}
 use Rattle.guarantee.specs.Sequential.{adding, admitting}
-use Rattle.guarantee.specs.Claims.{AnswersTo, TurnedDown, takesEffect, TakesEffect, SameRequest, ExactlyOne, OneEffect}
+use Rattle.guarantee.specs.Claims.{AnswersTo, TurnedDown, takesEffect, TakesEffect, TakesEffectOnce, OneEffect}
 use Rattle.guarantee.proofs.Along.{at-each}
 use Rattle.laws.specs.StageAnswers.{on-successors, on-grants, StageAnswer, goes, grants, refuses, sticks, stage-answer}
 use Rattle.guarantee.proofs.TurnedDown.{same-answer, same-stage, other-answer}
-use Rattle.guarantee.proofs.OneClient.{ClientAfter, same, mine, client-after, begins-or-not, rest-unanswered}
+use Rattle.guarantee.proofs.OneClient.{ClientAfter, same, mine, client-after, begins-or-not, turned-unanswered, working-unanswered, rest-unanswered}
 
 -- ---- one event of a working client
 
@@ -41,7 +41,7 @@ abbrev tookEffect : Pool → ℕ → Bool
 tookEffect p c = pinsFound (client p c .stage)
 
 data WorkingEvent (c : ℕ) (e : Event) : Type 0 where
-  works : client (e .next) c .stage ≢ 0 → (GrantedTo c e → ⊥) → EffectChange c e (tookEffect (e .before) c) (tookEffect (e .next) c) → WorkingEvent c e
+  works : client (e .next) c .stage ≢ 0 → (AnswersTo c e → ⊥) → EffectChange c e (tookEffect (e .before) c) (tookEffect (e .next) c) → WorkingEvent c e
   granted : client (e .next) c .stage ≡ 0 → EffectChange c e (tookEffect (e .before) c) true → WorkingEvent c e
   refused : client (e .next) c .stage ≡ 0 → (GrantedTo c e → ⊥) → WorkingEvent c e
 
@@ -65,7 +65,7 @@ unchanged : (p : Pool) (x : Call) (c : ℕ) → client p c .stage ≢ 0 → clie
 unfolding takesEffect
 unchanged p x c z e d =
     works (λ w. z (sym (same-stage e) ∙ w))
-    (λ g. other-answer (sym (d (g .1) .1) ∙ g .2) tt)
+    (λ a. turned-unanswered (eventOf p x) (d (a .0)) a)
     (inr ((λ w. rw (d (w .0) .1) at (w .1)), ap (λ (k : Client). pinsFound (k .stage)) (sym e)))
 
 -- its own step
@@ -81,7 +81,7 @@ working-step p c r z = go (client-after p (Step c) c (r .shape))
     by-answer a n (goes j l w s) =
         let at : client (callOf p (Step c) .pool) c .stage ≡ j = same-stage n ∙ s in
         let t = and-parts (not (eqb j 0)) _ (on-successors (λ i j. not (eqb j 0) && effectOk (pinsFound i) (adding i j) (pinsFound j)) tt i j l) in
-        works (λ q. eqb-false j 0 (T-false (eqb j 0) (t .0)) (sym at ∙ q)) (λ g. other-answer (sym (a ∙ w) ∙ g .2) tt)
+        works (λ q. eqb-false j 0 (T-false (eqb j 0) (t .0)) (sym at ∙ q)) (working-unanswered (eventOf p (Step c)) (a ∙ w))
         (effect-change c (eventOf p (Step c)) (adding i j) _ _ refl (ap (takesEffect i) (a ∙ w)) (rw at (t .1)))
     by-answer a n (grants f l _ w s) =
         granted (same-stage n ∙ s)
@@ -139,78 +139,98 @@ effects-last c false e es (inl m) = (0, omega arith, m .0, λ i l _. omega arith
 effects-last c true e es (inl m) = absurd (true≢false (m .1))
 effects-last c false e es (inr m) = absurd (true≢false (sym (m .1)))
 
-abbrev NoBegin : ℕ → List Event → ℕ → Type 0
-NoBegin c es n = (m : ℕ) → m < n → At (Begins c) es m → ⊥
-
 -- a grant answers a request
-answers : (p : Pool) (calls : List Call) → Reached p → (c n : ℕ) → At (GrantedTo c) (events p calls) n → At (AnswersTo c) (events p calls) n
-answers p calls r c n g = at-each (GrantedTo c) (AnswersTo c) (λ _ _ _ g. (g .1, inl (g .0, g .2))) p calls r n g
+answer : {c : ℕ} (e : Event) → GrantedTo c e → AnswersTo c e
+answer e g = (g .1, inl (g .0, g .2))
 
-effects-from : (p : Pool) (calls : List Call) → Reached p → (c n : ℕ) → client p c .stage ≢ 0 → NoBegin c (events p calls) n
-    → At (GrantedTo c) (events p calls) n → EffectsUpTo c (tookEffect p c) (events p calls) n
+answers : (p : Pool) (calls : List Call) → Reached p → (c n : ℕ) → At (GrantedTo c) (events p calls) n → At (AnswersTo c) (events p calls) n
+answers p calls r c n g = at-each (GrantedTo c) (AnswersTo c) (λ p x _ g. answer (eventOf p x) g) p calls r n g
+
+-- none of the first n events has the property
+abbrev NoneBefore : (Event → Type 0) → List Event → ℕ → Type 0
+NoneBefore P es n = (m : ℕ) → m < n → At P es m → ⊥
+
+-- one event more in front
+module _ (P : Event → Type 0) (e : Event) (es : List Event) where
+  before-more : (n : ℕ) → (P e → ⊥) → NoneBefore P es n → NoneBefore P (e ∷ es) (suc n)
+  unfolding At
+  before-more n d h = λ m. elim m [ zero ↦ λ _. d | suc m ↦ λ l. h m (le-of-suc-le-suc l) ]
+
+  between-first : (n : ℕ) → NoneBefore P es n → NoneBetween P (along (e ∷ es)) 0 (suc n)
+  unfolding At
+  between-first n h = λ m. elim m [ zero ↦ λ l _ _. not-suc-le-zero l | suc m ↦ λ _ l. h m (le-of-suc-le-suc l) ]
+
+  between-later : {k n : ℕ} → NoneBetween P (along es) k n → NoneBetween P (along (e ∷ es)) (suc k) (suc n)
+  unfolding At
+  between-later h = λ m. elim m [ zero ↦ λ l _ _. not-suc-le-zero l | suc m ↦ λ a b. h m (le-of-suc-le-suc a) (le-of-suc-le-suc b) ]
+
+-- From a pool where the client works, up to the grant, with no begin in between: the request takes effect once, and is not answered before.
+effects-from : (p : Pool) (calls : List Call) → Reached p → (c n : ℕ) → client p c .stage ≢ 0 → NoneBefore (Begins c) (events p calls) n
+    → At (GrantedTo c) (events p calls) n → EffectsUpTo c (tookEffect p c) (events p calls) n × NoneBefore (AnswersTo c) (events p calls) n
 unfolding events At
 effects-from p [] r c n z nb g = absurd g
 effects-from p (x ∷ calls) r c zero z nb g =
     elim (working-event p x c r z) [
-      | works _ y _ ↦ absurd (y g)
-      | granted _ m ↦ effects-last c (tookEffect p c) (eventOf p x) (events (callOf p x .pool) calls) m
+      | works _ y _ ↦ absurd (y (answer (eventOf p x) g))
+      | granted _ m ↦ (effects-last c (tookEffect p c) (eventOf p x) (events (callOf p x .pool) calls) m, λ m l _. not-suc-le-zero l)
       | refused _ y ↦ absurd (y g)
     ]
 effects-from p (x ∷ calls) r c (suc n) z nb g =
     let q : Pool = callOf p x .pool in
-    let later : NoBegin c (events q calls) n = λ m l. nb (suc m) (omega arith) in
+    let later : NoneBefore (Begins c) (events q calls) n = λ m l. nb (suc m) (omega arith) in
     let ih = effects-from q calls (reached-call p x r) c n in
     let end : client q c .stage ≢ 0 = λ w. rest-unanswered q calls (reached-call p x r) c n w later (answers q calls (reached-call p x r) c n g) in
     elim (working-event p x c r z) [
-      | works w _ m ↦ effects-more c (tookEffect p c) (tookEffect q c) (eventOf p x) (events q calls) n m (ih w later g)
+      | works w y m ↦
+          let h = ih w later g in
+          (effects-more c (tookEffect p c) (tookEffect q c) (eventOf p x) (events q calls) n m (h .0), before-more _ _ _ n y (h .1))
       | granted w _ ↦ absurd (end w)
       | refused w _ ↦ absurd (end w)
     ]
 
--- the request of a grant at event n is begun at an event before, and takes effect once from there on
-abbrev BegunAndOnce : ℕ → List Event → ℕ → Type 0
-BegunAndOnce c es n = (k : ℕ) × (k < n) × At (Begins c) es k × SameRequest (along es) c k n × ExactlyOne (TakesEffect c) (along es) k n
-
--- one event more in front: the begin is a later one, it is this one, or there is none
-begun-later : (c : ℕ) (e : Event) (es : List Event) (n : ℕ) → BegunAndOnce c es n → BegunAndOnce c (e ∷ es) (suc n)
+-- the begin is a later one, it is this one, or there is none
+begun-later : (c : ℕ) (e : Event) (es : List Event) (n : ℕ) → TakesEffectOnce (along es) c n → TakesEffectOnce (along (e ∷ es)) c (suc n)
 unfolding At
-begun-later c e es n h = (
-  suc (h .0),
-  omega (arith, h .1),
-  h .2,
-  λ m. elim m [ zero ↦ λ l _ _. not-suc-le-zero l | suc m ↦ λ l g b. h .3 m (le-of-suc-le-suc l) (le-of-suc-le-suc g) b ],
-  (
-    suc (h .4 .0),
-    omega (arith, h .4 .1),
-    omega (arith, h .4 .2),
-    h .4 .3,
-    λ i. elim i [ zero ↦ λ l _ _. absurd (not-suc-le-zero l) | suc i ↦ λ l g w. ap suc (h .4 .4 i (le-of-suc-le-suc l) (le-of-suc-le-suc g) w) ],
-  ),
-)
+begun-later c e es n h =
+    let w = h .once in
+    record {
+      begin = suc (h .begin);
+      earlier = omega (arith, h .earlier);
+      begun = h .begun;
+      same-request = between-later _ e es (h .same-request);
+      no-other-answer = between-later _ e es (h .no-other-answer);
+      once = (
+        suc (w .0),
+        omega (arith, w .1),
+        omega (arith, w .2),
+        w .3,
+        λ i. elim i [ zero ↦ λ l _ _. absurd (not-suc-le-zero l) | suc i ↦ λ l g x. ap suc (w .4 i (le-of-suc-le-suc l) (le-of-suc-le-suc g) x) ],
+      );
+    }
 
-begun-now : (c : ℕ) (e : Event) (es : List Event) (n : ℕ) → Begins c e → NoBegin c es n → EffectsUpTo c false es n → BegunAndOnce c (e ∷ es) (suc n)
+begun-now : (c : ℕ) (e : Event) (es : List Event) (n : ℕ) → Begins c e → NoneBefore (Begins c) es n
+    → EffectsUpTo c false es n × NoneBefore (AnswersTo c) es n → TakesEffectOnce (along (e ∷ es)) c (suc n)
 unfolding At EffectsUpTo
-begun-now c e es n b nb h = (
-  0,
-  omega arith,
-  b,
-  λ m. elim m [ zero ↦ λ l _ _. not-suc-le-zero l | suc m ↦ λ _ g. nb m (le-of-suc-le-suc g) ],
-  (
-    suc (h .0),
-    omega arith,
-    omega (arith, h .1),
-    h .2,
-    λ i. elim i [ zero ↦ λ l _ _. absurd (not-suc-le-zero l) | suc i ↦ λ _ g w. ap suc (h .3 i (le-of-suc-le-suc g) w) ],
-  ),
-)
-
-no-begin : (c : ℕ) (e : Event) (es : List Event) (n : ℕ) → (Begins c e → ⊥) → NoBegin c es n → NoBegin c (e ∷ es) (suc n)
-unfolding At
-no-begin c e es n d nb = λ m. elim m [ zero ↦ λ _. d | suc m ↦ λ l. nb m (le-of-suc-le-suc l) ]
+begun-now c e es n b nb h =
+    let w = h .0 in
+    record {
+      begin = 0;
+      earlier = omega arith;
+      begun = b;
+      same-request = between-first _ e es n nb;
+      no-other-answer = between-first _ e es n (h .1);
+      once = (
+        suc (w .0),
+        omega arith,
+        omega (arith, w .1),
+        w .2,
+        λ i. elim i [ zero ↦ λ l _ _. absurd (not-suc-le-zero l) | suc i ↦ λ _ g x. ap suc (w .3 i (le-of-suc-le-suc g) x) ],
+      );
+    }
 
 -- a grant has its begin in the run, or none of the client's is done there before it
 begun-or-not : (p : Pool) (calls : List Call) → Reached p → (c n : ℕ) → At (GrantedTo c) (events p calls) n
-    → BegunAndOnce c (events p calls) n ⊎ NoBegin c (events p calls) n
+    → TakesEffectOnce (along (events p calls)) c n ⊎ NoneBefore (Begins c) (events p calls) n
 unfolding events At
 begun-or-not p [] r c n g = absurd g
 begun-or-not p (x ∷ calls) r c zero g = inr (λ m l _. not-suc-le-zero l)
@@ -223,14 +243,14 @@ begun-or-not p (x ∷ calls) r c (suc n) g =
     q : Pool
     q = callOf p x .pool
 
-    here : NoBegin c (events q calls) n → Dec (Begins c (eventOf p x))
-        → BegunAndOnce c (eventOf p x ∷ events q calls) (suc n) ⊎ NoBegin c (eventOf p x ∷ events q calls) (suc n)
+    here : NoneBefore (Begins c) (events q calls) n → Dec (Begins c (eventOf p x))
+        → TakesEffectOnce (along (eventOf p x ∷ events q calls)) c (suc n) ⊎ NoneBefore (Begins c) (eventOf p x ∷ events q calls) (suc n)
     here nb (yes b) =
         let one : client q c .stage ≡ 1 = begun p x c r b in
         inl (begun-now c (eventOf p x) (events q calls) n b nb
-        (subst (λ (i : ℕ). EffectsUpTo c (pinsFound i) (events q calls) n) one
+        (subst (λ (i : ℕ). EffectsUpTo c (pinsFound i) (events q calls) n × NoneBefore (AnswersTo c) (events q calls) n) one
         (effects-from q calls (reached-call p x r) c n (λ z. omega arith) nb g)))
-    here nb (no d) = inr (no-begin c (eventOf p x) (events q calls) n d nb)
+    here nb (no d) = inr (before-more _ (eventOf p x) (events q calls) n d nb)
 
 -- from a pool whose clients rest: there no client is granted anything before it begins
 pub one-effect : (p : Pool) (calls : List Call) → Reached p → ((c : ℕ) → client p c .stage ≡ 0) → OneEffect (along (events p calls))

@@ -70,12 +70,12 @@ pub eviction : At (Evicts 0) swap-run 18
 unfolding computing
 eviction = record { client-of = 0; stage = 14; step-of = (refl, refl); one-of = tt; becomes-evicted = ((λ z. zero-one (sym z)), refl) }
 
-pub taken-out : TakenOut (along swap-run) 0 18 19
+pub taken-out : TakenOut (along swap-run) 0 18 0 19
 unfolding computing
 taken-out =
     record {
       later = omega arith;
-      replaces = record { client-of = 0; step-of = (refl, refl); at-slot = 0; named = refl; names-no-more = λ z. zero-one (sym z) };
+      replaces = record { client-of = 0; step-of = (refl, refl); named = refl; names-no-more = λ z. zero-one (sym z) };
       not-anew = λ m a b _. let none : ⊥ = omega arith in none;
     }
 

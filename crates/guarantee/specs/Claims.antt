@@ -23,7 +23,7 @@ use Rattle.pool.specs.declared.Call.the-variants.{Begin, Step, Release}
 use Rattle.pool.specs.declared.Answer.{Answer}
 use Rattle.pool.specs.declared.Answer.the-variants.{Done, Working, Granted, Refused}
 use Rattle.pool.specs.declared.Counted.the-variants.{Nothing}
-use Rattle.guarantee.specs.Runs.{Event, events, At, Run, along, IsCall, Throughout, StepAt, Begins, GrantedTo, Releases}
+use Rattle.guarantee.specs.Runs.{Event, events, At, Run, along, IsCall, NoneBetween, Throughout, StepAt, Begins, GrantedTo, Releases}
 use Rattle.guarantee.specs.Sequential.{Sequential, Keeps, seqClient, start, Rule, adding, admitting}
 
 -- ---- a. "any two grants of one page that were ever open together name the same frame"
@@ -32,138 +32,8 @@ abbrev pub OneCopy : Pool → Type 0
 OneCopy p =
     (c d i j : ℕ) → i < client p c .held → j < client p d .held → grantPage p c i ≡ grantPage p d j → grantFrame p c i ≡ grantFrame p d j
 
--- ---- b. "no held frame was evicted"
-
--- a call leaves a frame evicted that was not
-abbrev pub BecomesEvicted : ℕ → Event → Type 0
-BecomesEvicted f e = (pins (e .before) f ≢ evicted) × (pins (e .next) f ≡ evicted)
-
-abbrev pub NoHeldEvicted : Run → Type 0
-NoHeldEvicted run = (f n : ℕ) → run (BecomesEvicted f) n → run (λ e. held (e .before) f ≡ false) n
-
-abbrev pub HeldPinned : Pool → Type 0
-HeldPinned p = (f : ℕ) → held p f ≡ true → pinned 1 ≤ pins p f
-
--- ---- c. "no eviction was taken out of its slot twice"
-
--- "An eviction is a stage 14, 20 or 23 that sets a frame's pins to -1"
-pub record Evicts (f : ℕ) (e : Event) : Type 0 where
-  pub client-of : ℕ
-  pub stage : ℕ
-  pub step-of : StepAt client-of stage e
-  pub one-of : T (eqb stage 14 || eqb stage 20 || eqb stage 23)
-  pub becomes-evicted : BecomesEvicted f e
-
--- "it is taken out of its slot each time a stage 15 replaces that frame in a slot before a stage 4 takes it anew"
-pub record Replaces (f : ℕ) (e : Event) : Type 0 where
-  pub client-of : ℕ
-  pub step-of : StepAt client-of 15 e
-  pub at-slot : ℕ
-  pub named : slot (e .before) at-slot ≡ f
-  pub names-no-more : slot (e .next) at-slot ≢ f
-
-pub record Takes (f : ℕ) (e : Event) : Type 0 where
-  pub client-of : ℕ
-  pub step-of : StepAt client-of 4 e
-  pub takes : client (e .next) client-of .own ≡ f
-
--- the eviction of frame f at event k is taken out of its slot at event n
-pub record TakenOut (run : Run) (f k n : ℕ) : Type 0 where
-  pub later : k < n
-  pub replaces : run (Replaces f) n
-  pub not-anew : (m : ℕ) → k < m → m < n → run (Takes f) m → ⊥
-
-abbrev pub TakenOutOnce : Run → Type 0
-TakenOutOnce run = (f k m n : ℕ) → run (Evicts f) k → TakenOut run f k m → TakenOut run f k n → m ≡ n
-
--- ---- d. "The plain pool's choices can be made so that all these rules are kept, every answer equals the real pool's .., and after every call the
--- plain pool's pages with their frames are exactly the resident ones with theirs."
-
-abbrev pub SamePages : Pool → Sequential → Type 0
-SamePages p q = (g f : ℕ) → Keeps q g f ↔ ((resident p g ≡ true) × (lookup p g ≡ f))
-
--- and its clients stand where the real ones stand
-abbrev pub SameStages : Pool → Sequential → Type 0
-SameStages p q = (c : ℕ) → seqClient q c .stage ≡ client p c .stage
-
--- the sequential pool, from state q, can answer each call as the pool p and its successors do
-pub data Follows : Pool → Sequential → List Call → Type 0 where
-  at-end : {p : Pool} {q : Sequential} → SamePages p q → SameStages p q → Follows p q []
-  at-call : {p : Pool} {q q′ : Sequential} {x : Call} {calls : List Call}
-      → SamePages p q → SameStages p q → Rule q x (callOf p x .answer) q′ → Follows (callOf p x .pool) q′ calls → Follows p q (x ∷ calls)
-
--- "A grant takes effect where it is added or admitted.": the steps of which the sequential pool's rules `adds` and `admits` speak, by the stage and
--- the answer, which both pools share (`SameStages`, and the answer in `at-call`)
-unfoldable pub takesEffect : ℕ → Answer → Bool
-takesEffect i (Done n) = false
-takesEffect i (Working j) = adding i j
-takesEffect i (Granted f) = admitting i
-takesEffect i (Refused n) = false
-
-abbrev pub TakesEffect : ℕ → Event → Type 0
-TakesEffect c e = (e .asked ≡ Step c) × T (takesEffect (client (e .before) c .stage) (e .answer))
-
--- Client c's request that is begun at event k is open up to event n: no later begin of the client is done before n.
-abbrev pub SameRequest : Run → ℕ → ℕ → ℕ → Type 0
-SameRequest run c k n = (m : ℕ) → k < m → m < n → run (Begins c) m → ⊥
-
--- exactly one of the events k + 1 to n has the property
-abbrev pub ExactlyOne : (Event → Type 0) → Run → ℕ → ℕ → Type 0
-ExactlyOne P run k n = (j : ℕ) × (k < j) × (j ≤ n) × run P j × ((i : ℕ) → k < i → i ≤ n → run P i → i ≡ j)
-
--- "each grant takes effect at exactly one action after its begin and no later than its answer": the answer is event n, and the begin is the
--- client's last that is done before it, event k
-abbrev pub OneEffect : Run → Type 0
-OneEffect run =
-    (c n : ℕ) → run (GrantedTo c) n
-    → (k : ℕ) × (k < n) × run (Begins c) k × SameRequest run c k n × ExactlyOne (TakesEffect c) run k n
-
--- ---- e. "A request in the list that is begun and answered while all other benches rest and release nothing is refused for want of a frame
--- exactly when, at its begin, its page is absent and every slot names a held frame."
-
-abbrev pub AllHeld : Pool → Type 0
-AllHeld p = (i : ℕ) → i < p .size → (slot p i ≢ none) × (held p (slot p i) ≡ true)
-
--- the request of client c is answered
-abbrev pub AnswersTo : ℕ → Event → Type 0
-AnswersTo c e = (e .asked ≡ Step c) × (((f : ℕ) × (e .answer ≡ Granted f)) ⊎ (e .answer ≡ Refused 15))
-
--- a call that is turned down, by whichever number but 15
-abbrev pub TurnedDown : Event → Type 0
-TurnedDown e = (n : ℕ) × (e .answer ≡ Refused n) × (n ≢ 15)
-
--- Client c begins on page g at event k, in pool p, and is answered at event n; at the begin the others rest, and every call of the pool between the
--- two events is this client's or is turned down.
-pub record Alone (run : Run) (p : Pool) (c g k n : ℕ) : Type 0 where
-  pub begun : run (λ e. (e .before ≡ p) × (e .asked ≡ Begin c g) × (e .answer ≡ Done g)) k
-  pub others-rest : (d : ℕ) → d ≢ c → client p d .stage ≡ 0
-  pub later : k < n
-  pub answered : run (AnswersTo c) n
-  pub same-request : SameRequest run c k n
-  pub no-others : (m : ℕ) → k < m → m < n → IsCall run m → run (λ e. (caller (e .asked) ≡ c) ⊎ TurnedDown e) m
-
-abbrev pub RefusedAlone : Run → Type 0
-RefusedAlone run =
-    (p : Pool) (c g k n : ℕ) → Alone run p c g k n → run (λ e. e .answer ≡ Refused 15) n ↔ ((resident p g ≡ false) × AllHeld p)
-
--- ---- point 3
-
--- of the calls in a list, from pool p on; the sequential pool starts with as many slots and clients as p has
-pub record Point3 (p : Pool) (calls : List Call) : Type 0 where
-  pub one-copy : Throughout OneCopy p calls
-  pub no-held-evicted : NoHeldEvicted (along (events p calls))
-  pub held-pinned : Throughout HeldPinned p calls
-  pub taken-out-once : TakenOutOnce (along (events p calls))
-  pub sequential : Follows p (start (p .size) (clientCount p)) calls
-  pub one-effect : OneEffect (along (events p calls))
-  pub refused-alone : RefusedAlone (along (events p calls))
-
--- "For every list of begins, steps and releases .. from a freshly set-up pool"
-abbrev pub Claim-point3 : Type 0
-Claim-point3 = (p : Pool) → SetUp p → (calls : List Call) → Point3 p calls
-
--- ---- the clients' grants: "a grant is open from its answer until a release ends it". `OneCopy` speaks of the grants that the pool lists for each client;
--- here they are those that the answers told it and that it has not released.
+-- `OneCopy` speaks of the grants that the pool lists for each client. They are those that the answers told the client and that it has not released
+-- since, which the rest of this part says.
 
 pub record OpenGrant : Type 0 where
   pub page : ℕ
@@ -214,14 +84,149 @@ module _ (c : ℕ) (e : Event) where
     pub still-wants : (Begins c e → ⊥) → client (e .next) c .stage ≢ 0
         → (client (e .before) c .stage ≢ 0) × (client (e .next) c .page ≡ client (e .before) c .page)
 
--- "At setup .. every bench rests with no grants."
-pub record GrantLists (p : Pool) (calls : List Call) : Type 0 where
+-- every client rests at first and has no grants, and every call of the run changes its grants as it was told
+pub record GrantLists (p : Pool) (run : Run) : Type 0 where
   pub rests-at-first : (c : ℕ) → client p c .stage ≡ 0
   pub none-at-first : (c : ℕ) → client p c .held ≡ 0
-  pub as-told : (n : ℕ) (e : Event) → At (λ x. x ≡ e) (events p calls) n → (c : ℕ) → GrantsAsTold c e
+  pub as-told : (c n : ℕ) → IsCall run n → run (GrantsAsTold c) n
 
-abbrev pub Claim-grants : Type 0
-Claim-grants = (p : Pool) → SetUp p → (calls : List Call) → GrantLists p calls
+-- ---- b. "no held frame was evicted"
+
+-- a call leaves a frame evicted that was not
+abbrev pub BecomesEvicted : ℕ → Event → Type 0
+BecomesEvicted f e = (pins (e .before) f ≢ evicted) × (pins (e .next) f ≡ evicted)
+
+abbrev pub NoHeldEvicted : Run → Type 0
+NoHeldEvicted run = (f n : ℕ) → run (BecomesEvicted f) n → run (λ e. held (e .before) f ≡ false) n
+
+abbrev pub HeldPinned : Pool → Type 0
+HeldPinned p = (f : ℕ) → held p f ≡ true → pinned 1 ≤ pins p f
+
+-- ---- c. "no eviction was taken out of its slot twice"
+
+-- "An eviction is a stage 14, 20 or 23 that sets a frame's pins to -1"
+pub record Evicts (f : ℕ) (e : Event) : Type 0 where
+  pub client-of : ℕ
+  pub stage : ℕ
+  pub step-of : StepAt client-of stage e
+  pub one-of : T (eqb stage 14 || eqb stage 20 || eqb stage 23)
+  pub becomes-evicted : BecomesEvicted f e
+
+-- A stage 15 replaces frame f in slot i. This takes an eviction of f out of that slot, unless a stage 4 took the frame anew in between.
+pub record Replaces (f i : ℕ) (e : Event) : Type 0 where
+  pub client-of : ℕ
+  pub step-of : StepAt client-of 15 e
+  pub named : slot (e .before) i ≡ f
+  pub names-no-more : slot (e .next) i ≢ f
+
+pub record Takes (f : ℕ) (e : Event) : Type 0 where
+  pub client-of : ℕ
+  pub step-of : StepAt client-of 4 e
+  pub takes : client (e .next) client-of .own ≡ f
+
+-- the eviction of frame f at event k is taken out of slot i at event n
+pub record TakenOut (run : Run) (f k i n : ℕ) : Type 0 where
+  pub later : k < n
+  pub replaces : run (Replaces f i) n
+  pub not-anew : NoneBetween (Takes f) run k n
+
+-- what takes one eviction out twice is one event, and one slot
+abbrev pub TakenOutOnce : Run → Type 0
+TakenOutOnce run = (f k i j m n : ℕ) → run (Evicts f) k → TakenOut run f k i m → TakenOut run f k j n → (m ≡ n) × (i ≡ j)
+
+-- ---- d. "The plain pool's choices can be made so that all these rules are kept, every answer equals the real pool's .., and after every call the
+-- plain pool's pages with their frames are exactly the resident ones with theirs."
+
+abbrev pub SamePages : Pool → Sequential → Type 0
+SamePages p q = (g f : ℕ) → Keeps q g f ↔ ((resident p g ≡ true) × (lookup p g ≡ f))
+
+-- and its clients stand where the real ones stand
+abbrev pub SameStages : Pool → Sequential → Type 0
+SameStages p q = (c : ℕ) → seqClient q c .stage ≡ client p c .stage
+
+-- the sequential pool, from state q, can answer each call as the pool p and its successors do
+pub data Follows : Pool → Sequential → List Call → Type 0 where
+  at-end : {p : Pool} {q : Sequential} → SamePages p q → SameStages p q → Follows p q []
+  at-call : {p : Pool} {q q′ : Sequential} {x : Call} {calls : List Call}
+      → SamePages p q → SameStages p q → Rule q x (callOf p x .answer) q′ → Follows (callOf p x .pool) q′ calls → Follows p q (x ∷ calls)
+
+-- "A grant takes effect where it is added or admitted.": the steps of which the sequential pool's rules `adds` and `admits` speak, by the stage and
+-- the answer, which both pools share (`SameStages`, and the answer in `at-call`)
+unfoldable pub takesEffect : ℕ → Answer → Bool
+takesEffect i (Done n) = false
+takesEffect i (Working j) = adding i j
+takesEffect i (Granted f) = admitting i
+takesEffect i (Refused n) = false
+
+abbrev pub TakesEffect : ℕ → Event → Type 0
+TakesEffect c e = (e .asked ≡ Step c) × T (takesEffect (client (e .before) c .stage) (e .answer))
+
+-- the request of client c is answered
+abbrev pub AnswersTo : ℕ → Event → Type 0
+AnswersTo c e = (e .asked ≡ Step c) × (((f : ℕ) × (e .answer ≡ Granted f)) ⊎ (e .answer ≡ Refused 15))
+
+-- Client c's request that is begun at event k is its last up to event n: no later begin of the client is done before n.
+abbrev pub SameRequest : Run → ℕ → ℕ → ℕ → Type 0
+SameRequest run c k n = NoneBetween (Begins c) run k n
+
+-- exactly one of the events k + 1 to n has the property
+abbrev pub ExactlyOne : (Event → Type 0) → Run → ℕ → ℕ → Type 0
+ExactlyOne P run k n = (j : ℕ) × (k < j) × (j ≤ n) × run P j × ((i : ℕ) → k < i → i ≤ n → run P i → i ≡ j)
+
+-- The request of client c that event n answers, and its one effect. Its begin is the client's last that is done before n, and no answer of the client
+-- stands between the two: so event n answers this very request.
+pub record TakesEffectOnce (run : Run) (c n : ℕ) : Type 0 where
+  pub begin : ℕ
+  pub earlier : begin < n
+  pub begun : run (Begins c) begin
+  pub same-request : SameRequest run c begin n
+  pub no-other-answer : NoneBetween (AnswersTo c) run begin n
+  pub once : ExactlyOne (TakesEffect c) run begin n
+
+-- Every grant answers a request that takes effect at exactly one event, after its begin and no later than the answer.
+abbrev pub OneEffect : Run → Type 0
+OneEffect run = (c n : ℕ) → run (GrantedTo c) n → TakesEffectOnce run c n
+
+-- ---- e. "A request in the list that is begun and answered while all other benches rest and release nothing is refused for want of a frame
+-- exactly when, at its begin, its page is absent and every slot names a held frame."
+
+abbrev pub AllHeld : Pool → Type 0
+AllHeld p = (i : ℕ) → i < p .size → (slot p i ≢ none) × (held p (slot p i) ≡ true)
+
+-- a call that is turned down, by whichever number but 15
+abbrev pub TurnedDown : Event → Type 0
+TurnedDown e = (n : ℕ) × (e .answer ≡ Refused n) × (n ≢ 15)
+
+-- Client c begins on page g at event k, in pool p, and is answered at event n; at the begin the others rest, and every call of the pool between the
+-- two events is this client's or is turned down.
+pub record Alone (run : Run) (p : Pool) (c g k n : ℕ) : Type 0 where
+  pub begun : run (λ e. (e .before ≡ p) × (e .asked ≡ Begin c g) × (e .answer ≡ Done g)) k
+  pub others-rest : (d : ℕ) → d ≢ c → client p d .stage ≡ 0
+  pub later : k < n
+  pub answered : run (AnswersTo c) n
+  pub same-request : SameRequest run c k n
+  pub no-others : (m : ℕ) → k < m → m < n → IsCall run m → run (λ e. (caller (e .asked) ≡ c) ⊎ TurnedDown e) m
+
+abbrev pub RefusedAlone : Run → Type 0
+RefusedAlone run =
+    (p : Pool) (c g k n : ℕ) → Alone run p c g k n → run (λ e. e .answer ≡ Refused 15) n ↔ ((resident p g ≡ false) × AllHeld p)
+
+-- ---- point 3
+
+-- of the calls in a list, from pool p on; the sequential pool starts with as many slots and clients as p has
+pub record Point3 (p : Pool) (calls : List Call) : Type 0 where
+  pub grants : GrantLists p (along (events p calls))
+  pub one-copy : Throughout OneCopy p calls
+  pub no-held-evicted : NoHeldEvicted (along (events p calls))
+  pub held-pinned : Throughout HeldPinned p calls
+  pub taken-out-once : TakenOutOnce (along (events p calls))
+  pub sequential : Follows p (start (p .size) (clientCount p)) calls
+  pub one-effect : OneEffect (along (events p calls))
+  pub refused-alone : RefusedAlone (along (events p calls))
+
+-- "For every list of begins, steps and releases .. from a freshly set-up pool"
+abbrev pub Claim-point3 : Type 0
+Claim-point3 = (p : Pool) → SetUp p → (calls : List Call) → Point3 p calls
 
 -- ---- answers: "done, a grant, a stage or a numbered refusal"
 
@@ -300,7 +305,6 @@ Claim-limits =
 
 pub record Guarantee : Type 0 where
   pub point3 : Claim-point3
-  pub grants : Claim-grants
   pub listed : Claim-listed
   pub answers : Claim-answers
   pub turned-down : Claim-turned-down

@@ -1,7 +1,7 @@
 -- Runs: "every list of begins, steps and releases, refused ones included, in whatever order the benches make them". Assumes nothing.
 use mathlib.Core.Path.{_≡_}
 use mathlib.Core.List.{List, [], _∷_}
-use Prim.Native.Nat.{ℕ, zero, suc}
+use Prim.Native.Nat.{ℕ, zero, suc, _<_}
 use Rattle.pool.specs.State.{client}
 use Rattle.pool.specs.Calls.{callOf}
 use Rattle.pool.specs.declared.Pool.{Pool}
@@ -44,6 +44,10 @@ along es P n = At P es n
 -- event n is a call of the pool, whichever
 abbrev pub IsCall : Run → ℕ → Type 0
 IsCall run n = run (λ _. Unit {0}) n
+
+-- no event between k and n is a call that has the property
+abbrev pub NoneBetween : (Event → Type 0) → Run → ℕ → ℕ → Type 0
+NoneBetween P run k n = (m : ℕ) → k < m → m < n → run P m → ⊥
 
 -- every pool of a run has the property: the first, and each that a call returned
 unfoldable pub Throughout : (Pool → Type 0) → Pool → List Call → Type 0
