@@ -4,7 +4,7 @@ use mathlib.Core.Path.{_≡_, refl, sym, ap, _∙_}
 use mathlib.Core.Logic.{_≢_}
 use mathlib.Core.Bool.{Bool, true, false, true≢false}
 use mathlib.Core.List.{List}
-use Prim.Native.Nat.{ℕ, suc}
+use Prim.Native.Nat.{ℕ}
 use native.Mathlib.Omega.{arith}
 use lib.Dec.{eqb}
 use lib.ListN.{getD}
@@ -35,7 +35,7 @@ one-copy : (p : Pool) → Reached p → OneCopy p
 one-copy p r c d i j a b e =
     let u = r .mapping .grant-named c i a in
     let v = r .mapping .grant-named d j b in
-    same-frame p r (grantFrame p c i) (grantFrame p d j) (grantPage p d j) u v (r .mapping .grant-mapped c i u ∙ ap suc e) (r .mapping .grant-mapped d j v)
+    same-frame p r (grantFrame p c i) (grantFrame p d j) (grantPage p d j) u v (omega (arith, r .mapping .grant-mapped c i u)) (r .mapping .grant-mapped d j v)
 
 -- ---- a page with a grant stays
 

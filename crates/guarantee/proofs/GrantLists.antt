@@ -108,7 +108,7 @@ module _ (p : Pool) (r : Reached p) (c : ℕ) (here : c < clientCount p) (m : Mo
   opened f g h room =
       record {
         one-more = held-now ∙ h;
-        new = same-grant (page-open-new p c m (r .shape) here few _ f g h room) (frame-open-new p c m (r .shape) here few _ f g h room);
+        new = same-grant (page-open-new p c m (r .shape) here few _ f g h room) (omega (arith, frame-open-new p c m (r .shape) here few _ f g h room));
         others = λ i l. same-grant (page-open-old p c m (r .shape) here few _ f g h room i l) (frame-open-old p c m (r .shape) here few _ f g h room i l);
       }
 

@@ -34,7 +34,7 @@ use Rattle.invariant.proofs.Table.{suc-not, lookup-mapped}
 use Rattle.invariant.proofs.Sums.{sum-zero, sum-has, sum-some-test}
 use Rattle.invariant.proofs.Calls.{reached-after}
 use Rattle.guarantee.specs.Runs.{events, At}
-use Rattle.guarantee.specs.Claims.{GrantedWithin, Claim-limits}
+use Rattle.guarantee.specs.Claims.{GrantedWithin, WithinLimits, Claim-limits}
 use Rattle.guarantee.proofs.TurnedDown.{turned, one-move, turned-or-move}
 use Rattle.guarantee.proofs.AloneSteps.{AloneAt, StepIs, begun-is, begun-alone, answer-is, after-step, alone-next, move1, move1-found, move2, move3}
 use Rattle.guarantee.proofs.AloneSteps.{move4, move5, move6, move7, move8, move8-next, move9, move18}
@@ -239,17 +239,17 @@ module _ (p : Pool) (r : Reached p) (rest : (c : ℕ) → client p c .stage ≡ 
         sum-zero (λ c. one (filling (client p c .stage))) (clientCount p) (λ c _. ap (λ (x : ℕ). one (filling x)) (rest c)),
       )
 
-  limits-from : (n b g : ℕ) → p .size ≡ n → callOf p (Begin b g) .answer ≡ Done g
-      → (resident p g ≡ true → GrantedWithin (callOf p (Begin b g) .pool) b 3)
-      × (resident p g ≡ false → (i : ℕ) → i < p .size → slot p i ≡ none → GrantedWithin (callOf p (Begin b g) .pool) b (n + 7))
+  limits-from : (n b g : ℕ) → p .size ≡ n → callOf p (Begin b g) .answer ≡ Done g → WithinLimits p n b g
   unfolding apply pinsAfter freeAfter
   limits-from n b g sz a = (
     (λ e. let f = resident-found g e in
-        hit1 _ b g on (begun-is p b g a (λ q. lookup q g ≢ none) (rw (lookup-kept p b m tt g) (f .0)))
-        (begun-is p b g a (λ q. pins q (lookup q g) ≢ evicted) (rw (lookup-kept p b m tt g, pins-kept p b m refl (lookup p g)) (f .1)))),
-    (λ e i h s. admission1 _ b g n (begun-is p b g a (λ q. q .size ≡ n) sz) on
+        within-more _ b _ _ (omega arith)
+        (hit1 _ b g on (begun-is p b g a (λ q. lookup q g ≢ none) (rw (lookup-kept p b m tt g) (f .0)))
+        (begun-is p b g a (λ q. pins q (lookup q g) ≢ evicted) (rw (lookup-kept p b m tt g, pins-kept p b m refl (lookup p g)) (f .1))))),
+    (λ e i h s. within-more _ b _ _ (omega arith)
+        (admission1 _ b g n (begun-is p b g a (λ q. q .size ≡ n) sz) on
         (begun-is p b g a (λ q. lookup q g ≡ none) (lookup-kept p b m tt g ∙ absent-found g e))
-        (begun-is p b g a (λ q. q .free ≢ 0) (free-some i h s))),
+        (begun-is p b g a (λ q. q .free ≢ 0) (free-some i h s)))),
   )
     where
       m : Move

@@ -150,19 +150,19 @@ answers p calls r c n g = at-each (GrantedTo c) (AnswersTo c) (λ p x _ g. answe
 abbrev NoneBefore : (Event → Type 0) → List Event → ℕ → Type 0
 NoneBefore P es n = (m : ℕ) → m < n → At P es m → ⊥
 
--- one event more in front
+-- one event more in front: then none is among the first n + 1, or between any two events up to there, or between those that come later
 module _ (P : Event → Type 0) (e : Event) (es : List Event) where
   before-more : (n : ℕ) → (P e → ⊥) → NoneBefore P es n → NoneBefore P (e ∷ es) (suc n)
   unfolding At
   before-more n d h = λ m. elim m [ zero ↦ λ _. d | suc m ↦ λ l. h m (le-of-suc-le-suc l) ]
 
-  between-first : (n : ℕ) → NoneBefore P es n → NoneBetween P (along (e ∷ es)) 0 (suc n)
+  between-first : (n k l : ℕ) → l ≤ suc n → NoneBefore P es n → NoneBetween P (along (e ∷ es)) k l
   unfolding At
-  between-first n h = λ m. elim m [ zero ↦ λ l _ _. not-suc-le-zero l | suc m ↦ λ _ l. h m (le-of-suc-le-suc l) ]
+  between-first n k l up h = λ m. elim m [ zero ↦ λ a _ _. not-suc-le-zero a | suc m ↦ λ _ b. h m (omega arith) ]
 
-  between-later : {k n : ℕ} → NoneBetween P (along es) k n → NoneBetween P (along (e ∷ es)) (suc k) (suc n)
+  between-later : (j n k l : ℕ) → suc j ≤ k → l ≤ suc n → NoneBetween P (along es) j n → NoneBetween P (along (e ∷ es)) k l
   unfolding At
-  between-later h = λ m. elim m [ zero ↦ λ l _ _. not-suc-le-zero l | suc m ↦ λ a b. h m (le-of-suc-le-suc a) (le-of-suc-le-suc b) ]
+  between-later j n k l from up h = λ m. elim m [ zero ↦ λ a _ _. not-suc-le-zero a | suc m ↦ λ a b. h m (omega arith) (omega arith) ]
 
 -- From a pool where the client works, up to the grant, with no begin in between: the request takes effect once, and is not answered before.
 effects-from : (p : Pool) (calls : List Call) → Reached p → (c n : ℕ) → client p c .stage ≢ 0 → NoneBefore (Begins c) (events p calls) n
@@ -197,8 +197,8 @@ begun-later c e es n h =
       begin = suc (h .begin);
       earlier = omega (arith, h .earlier);
       begun = h .begun;
-      same-request = between-later _ e es (h .same-request);
-      no-other-answer = between-later _ e es (h .no-other-answer);
+      same-request = between-later _ e es _ _ _ _ (omega arith) (omega arith) (h .same-request);
+      no-other-answer = between-later _ e es _ _ _ _ (omega arith) (omega arith) (h .no-other-answer);
       once = (
         suc (w .0),
         omega (arith, w .1),
@@ -217,8 +217,8 @@ begun-now c e es n b nb h =
       begin = 0;
       earlier = omega arith;
       begun = b;
-      same-request = between-first _ e es n nb;
-      no-other-answer = between-first _ e es n (h .1);
+      same-request = between-first _ e es n _ _ (omega arith) nb;
+      no-other-answer = between-first _ e es n _ _ (omega arith) (h .1);
       once = (
         suc (w .0),
         omega arith,

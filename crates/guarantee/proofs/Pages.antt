@@ -2,9 +2,8 @@
 -- resident frame stands in a slot. Assumes nothing.
 use mathlib.Core.Path.{_≡_, refl, sym, ap, _∙_}
 use mathlib.Core.Logic.{_≢_}
-use mathlib.Core.Bool.{true, not}
 use Prim.Native.Nat.{ℕ, suc}
-use lib.Dec.{eqb}
+use native.Mathlib.Omega.{arith}
 use borrow.Author.Tests.{eqb-false, ne-eqb, not-true}
 use Rattle.pool.specs.State.{none, evicted, slot, pins}
 use Rattle.pool.specs.Table.{lookup, resident}
@@ -13,7 +12,7 @@ use Rattle.invariant.proofs.Reached.{Reached, mapped}
 use Rattle.invariant.proofs.Table.{suc-not, lookup-mapped, mapped-lookup}
 use Rattle.invariant.proofs.Searches.{pins-named}
 use Rattle.guarantee.specs.Sequential.{Sequential, Keeps}
-use Rattle.guarantee.specs.Claims.{SamePages}
+use Rattle.guarantee.specs.Claims.{ResidentIn, SamePages}
 use Rattle.guarantee.proofs.SimulationRelation.{viewFrame, view-mapped, ResidentFrame, view-resident, SimulationRelation}
 
 module _ {p : Pool} {q : Sequential} (r : Reached p) (related : SimulationRelation p q) where
@@ -31,15 +30,16 @@ module _ {p : Pool} {q : Sequential} (r : Reached p) (related : SimulationRelati
   unfolding resident
   same-pages g f = (to, back)
     where
-      to : Keeps q g f → (not (eqb (pins p (lookup p g)) evicted) ≡ true) × (lookup p g ≡ f)
+      to : Keeps q g f → ResidentIn p g f
       to h =
           let v = page-resident h in
           let s : ℕ = slot p (h .0) in
           let e : lookup p g ≡ s = mapped-lookup p (r .shape) (r .mapping .pages-distinct) s g (pins-named p (r .shape) s (v .not-evicted)) (v .entry) .1 in
-          (rw (e, ne-eqb (pins p s) evicted (v .not-evicted)) refl, e ∙ v .frame)
+          (rw (e, ne-eqb (pins p s) evicted (v .not-evicted)) refl, omega (arith, e, v .frame))
 
-      back : (not (eqb (pins p (lookup p g)) evicted) ≡ true) × (lookup p g ≡ f) → Keeps q g f
+      back : ResidentIn p g f → Keeps q g f
       back (h, e) =
           let live : pins p (lookup p g) ≢ evicted = eqb-false _ _ (not-true _ h) in
           let z = pins-named p (r .shape) (lookup p g) live in
-          rw e at (page-there z live (lookup-mapped p (r .shape) (r .mapping .entries-distinct) g z))
+          let same : lookup p g ≡ f = omega (arith, e) in
+          rw same at (page-there z live (lookup-mapped p (r .shape) (r .mapping .entries-distinct) g z))

@@ -177,4 +177,4 @@ sum-run {p} {q} (x ∷ calls) t r related e h =
     sum-run calls (tallied u t) (reached-call p x r) (f .related) (omega (arith, e, f .page-count, one-up .gains, one-up .loses)) h
 
 pub sum : Claim-sum
-sum p u calls low = sum-run calls zeroTally (first-reached u) (start-related u) (omega (arith, pageCount-none (p .size))) low
+sum p u calls low = omega (arith, sum-run calls zeroTally (first-reached u) (start-related u) (omega (arith, pageCount-none (p .size))) low)

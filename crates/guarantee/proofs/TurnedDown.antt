@@ -26,7 +26,7 @@ use Rattle.laws.specs.Scans.{both-true}
 use Rattle.invariant.proofs.StageTests.{differ}
 use Rattle.invariant.proofs.Allowed.{refusal-low}
 use Rattle.invariant.proofs.Calls.{outcomeOf}
-use Rattle.guarantee.specs.Claims.{Claim-turned-down, Claim-refused}
+use Rattle.guarantee.specs.Claims.{Claim-turned-down, RestsRefused, Claim-refused}
 use Rattle.laws.specs.StageAnswers.{StageAnswer, goes, grants, refuses, sticks, stage-answer}
 
 -- ---- answers and calls of different kinds
@@ -131,10 +131,7 @@ pub refused : Claim-refused
 unfolding refusalOf caller
 refused p x a = go (turned-or-move p x)
   where
-    Goal : Type 0
-    Goal = (c : ℕ) × (x ≡ Step c) × (let m = refused15 (client p c) in (callOf p x .pool ≡ apply p c m) × (callOf p x .counted ≡ m .counted))
-
-    go : TurnedOrMove p x (callOf p x) → Goal
+    go : TurnedOrMove p x (callOf p x) → RestsRefused p x
     go (turned m w e) = absurd (turned-down-not-15 p x m w (ap refusalOf (sym (same-answer e) ∙ a)))
     go (one-move _ _ e) =
         elim (refused-by p x 15 (sym (same-answer e) ∙ a)) [

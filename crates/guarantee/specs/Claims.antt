@@ -137,8 +137,12 @@ TakenOutOnce run = (f k i j m n : ℕ) → run (Evicts f) k → TakenOut run f k
 -- ---- d. "The plain pool's choices can be made so that all these rules are kept, every answer equals the real pool's .., and after every call the
 -- plain pool's pages with their frames are exactly the resident ones with theirs."
 
+-- page g is resident, in frame f
+abbrev pub ResidentIn : Pool → ℕ → ℕ → Type 0
+ResidentIn p g f = (resident p g ≡ true) × (lookup p g ≡ f)
+
 abbrev pub SamePages : Pool → Sequential → Type 0
-SamePages p q = (g f : ℕ) → Keeps q g f ↔ ((resident p g ≡ true) × (lookup p g ≡ f))
+SamePages p q = (g f : ℕ) → Keeps q g f ↔ ResidentIn p g f
 
 -- and its clients stand where the real ones stand
 abbrev pub SameStages : Pool → Sequential → Type 0
@@ -257,11 +261,13 @@ abbrev pub Claim-turned-down : Type 0
 Claim-turned-down =
     (p : Pool) (x : Call) (n : ℕ) → callOf p x .answer ≡ Refused n → n ≢ 15 → (callOf p x .pool ≡ p) × (callOf p x .counted ≡ Nothing)
 
--- "15 puts the bench to rest with its grants kept, forgets its frames, counts one refusal, and keeps earlier actions' effects.": nothing else changes
+-- Call x is a step whose client comes to rest by `refused15`: it keeps its grants, forgets its frames, and one refusal is counted. Nothing else changes.
+abbrev pub RestsRefused : Pool → Call → Type 0
+RestsRefused p x = (c : ℕ) × (x ≡ Step c) × (let m = refused15 (client p c) in (callOf p x .pool ≡ apply p c m) × (callOf p x .counted ≡ m .counted))
+
+-- refusal 15, of every pool, from wherever it was handed
 abbrev pub Claim-refused : Type 0
-Claim-refused =
-    (p : Pool) (x : Call) → callOf p x .answer ≡ Refused 15
-    → (c : ℕ) × (x ≡ Step c) × (let m = refused15 (client p c) in (callOf p x .pool ≡ apply p c m) × (callOf p x .counted ≡ m .counted))
+Claim-refused = (p : Pool) (x : Call) → callOf p x .answer ≡ Refused 15 → RestsRefused p x
 
 -- ---- the tally's sum
 
@@ -292,14 +298,18 @@ GrantedAtLast p c n = At (GrantedTo c) (events p (replicate (suc n) (Step c))) n
 abbrev pub GrantedWithin : Pool → ℕ → ℕ → Type 0
 GrantedWithin p c n = (i : ℕ) × (i < n) × GrantedAtLast p c i
 
+-- client b begins on page g in pool p, of s slots
+abbrev pub WithinLimits : Pool → ℕ → ℕ → ℕ → Type 0
+WithinLimits p s b g =
+    let q = callOf p (Begin b g) .pool in
+    (resident p g ≡ true → GrantedWithin q b 3)
+    × (resident p g ≡ false → (i : ℕ) → i < p .size → slot p i ≡ none → GrantedWithin q b (s + 7))
+
 abbrev pub Claim-limits : Type 0
 Claim-limits =
     (p : Pool) → SetUp p → (calls : List Call) (b g : ℕ)
     → let now = poolAfter p calls in
-    let q = callOf now (Begin b g) .pool in
-    ((d : ℕ) → client now d .stage ≡ 0) → callOf now (Begin b g) .answer ≡ Done g
-    → (resident now g ≡ true → GrantedWithin q b 3)
-    × (resident now g ≡ false → (i : ℕ) → i < now .size → slot now i ≡ none → GrantedWithin q b (p .size + 7))
+    ((d : ℕ) → client now d .stage ≡ 0) → callOf now (Begin b g) .answer ≡ Done g → WithinLimits now (p .size) b g
 
 -- ---- all of it
 
