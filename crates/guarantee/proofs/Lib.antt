@@ -4,7 +4,7 @@ pub mod Along
 -- of every pool, a handed one too: a call is turned down or is one move; the listed answers
 pub mod TurnedDown
 pub mod Listed
--- the clients' grants are those that the answers told them
+-- claim a, what its grants are: those that the answers told the clients
 pub mod GrantLists
 -- claim d: the simulation relation; the sequential pool's pages, its clients, its number of pages
 pub mod SimulationRelation
