@@ -37,7 +37,7 @@ use Rattle.invariant.proofs.Calls.{outcomeOf, never-stuck, call-moves, reached-
 use Rattle.guarantee.proofs.TurnedDown.{same-answer, same-pool, same-stage, other-answer, TurnedOrMove, turned, one-move, turned-or-move}
 
 -- a step of a working client is not turned down
-step-allowed : (p : Pool) (b : ℕ) → Reached p → b < clientCount p → client p b .stage ≢ 0 → refusal p (Step b) ≡ 0
+pub step-allowed : (p : Pool) (b : ℕ) → Reached p → b < clientCount p → client p b .stage ≢ 0 → refusal p (Step b) ≡ 0
 unfolding caller refusal refusalAt
 step-allowed p b r h z = chosen _ _ _ (valid-reached p r) ∙ (chosen _ _ _ (lt-ltb b (clientCount p) h) ∙ passed _ _ _ (ne-eqb _ 0 z))
 

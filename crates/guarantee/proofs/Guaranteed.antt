@@ -24,6 +24,7 @@ use Rattle.guarantee.proofs.Alone.{refused-alone}
 use Rattle.guarantee.proofs.Listed.{listed, listed-along}
 use Rattle.guarantee.proofs.GrantLists.{grant-lists}
 use Rattle.guarantee.proofs.TurnedDown.{same-stage, turned-down, refused}
+use Rattle.guarantee.proofs.BusySweep.{busy-sweep}
 use Rattle.guarantee.proofs.Limits.{limits}
 
 point3 : Claim-point3
@@ -61,6 +62,7 @@ guarantee =
       answers = answers;
       turned-down = turned-down;
       refused = refused;
+      busy-sweep = busy-sweep;
       sum = sum;
       limits = limits;
     }

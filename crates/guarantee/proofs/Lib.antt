@@ -33,6 +33,9 @@ pub mod Sweep
 pub mod SinceBegin
 pub mod RunAlone
 pub mod Alone
+-- refusal 15 in company: what each stage's move is to a sweep, and the busy visits before the answer
+pub mod SweepMoves
+pub mod BusySweep
 -- the premises of the claims can be met; all of it, as the record `Guarantee`
 pub mod Witness
 pub mod Guaranteed

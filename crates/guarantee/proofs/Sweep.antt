@@ -67,3 +67,27 @@ before-all i r s j h l e = go (ℕ-discrete j i) (decLt j i)
     go (yes q) _ = inl q
     go (no q) (yes d) = inr (inl (d, omega arith))
     go (no q) (no d) = inr (inr (omega arith, omega arith))
+
+-- the slot visited is not one of those before it, and with it they are those before the next
+pub before-self : (i r s : ℕ) → r < s → Before i r s i → ⊥
+before-self i r s h (inl b) = omega (arith, b)
+before-self i r s h (inr b) = omega (arith, b)
+
+pub before-more : (i r s j : ℕ) → i < s → j < s → (j ≡ i) ⊎ Before i r s j → Before (around s i) (r + 1) s j
+before-more i r s j h l b = go (around-is s i h) b (ℕ-discrete j i)
+  where
+    x : ℕ
+    x = around s i
+
+    go : ((suc i < s) × (x ≡ suc i)) ⊎ ((suc i ≡ s) × (x ≡ 0)) → (j ≡ i) ⊎ Before i r s j → Dec (j ≡ i) → Before x (r + 1) s j
+    go (inl n) b (yes e) = inl (omega (arith, n), omega (arith, n))
+    go (inr n) b (yes e) = inr (omega (arith, n), omega (arith, n))
+    go n (inl b) (no e) = absurd (e b)
+    go (inl n) (inr (inl b)) (no e) = inl (omega (arith, n, b), omega (arith, n, b))
+    go (inl n) (inr (inr b)) (no e) = inr (omega (arith, n, b), omega (arith, n, b))
+    go (inr n) (inr (inl b)) (no e) = inr (omega (arith, n, b), omega (arith, n, b))
+    go (inr n) (inr (inr b)) (no e) = inr (omega (arith, n, b), omega (arith, n, b))
+
+-- with as many as there are slots it is every slot
+pub before-full : (i r s j : ℕ) → i ≤ s → s ≤ r → Before i r s j
+before-full i r s j h e = elim (decLt j i) [ yes d ↦ inl (d, omega arith) | no d ↦ inr (omega arith, omega arith) ]

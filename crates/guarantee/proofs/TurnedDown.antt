@@ -96,10 +96,10 @@ pub done-or-stuck : (p : Pool) (c g : ℕ) → DoneOrStuck (client p c) g (moveO
 unfolding moveOf releaseMove
 done-or-stuck p c g = by-test (DoneOrStuck (client p c) g) (λ _. is-stuck refl) (λ _. is-done refl refl)
 
-abbrev RefusedBy : Pool → Call → ℕ → Type 0
+abbrev pub RefusedBy : Pool → Call → ℕ → Type 0
 RefusedBy p x n = (n ≡ 8) ⊎ ((c : ℕ) × (x ≡ Step c) × (moveOf p x ≡ refused15 (client p c)))
 
-refused-by : (p : Pool) (x : Call) (n : ℕ) → moveOf p x .answer ≡ Refused n → RefusedBy p x n
+pub refused-by : (p : Pool) (x : Call) (n : ℕ) → moveOf p x .answer ≡ Refused n → RefusedBy p x n
 unfolding moveOf refusalOf
 refused-by p (Begin c g) n a = other-answer a tt
 refused-by p (Step c) n a = go (stage-answer p (client p c))

@@ -25,6 +25,7 @@ use Rattle.pool.specs.declared.Answer.the-variants.{Done, Working, Granted, Ref
 use Rattle.pool.specs.declared.Counted.the-variants.{Nothing}
 use Rattle.guarantee.specs.Runs.{Event, events, At, Run, along, IsCall, NoneBetween, Throughout, StepAt, Begins, GrantedTo, Releases}
 use Rattle.guarantee.specs.Sequential.{Sequential, Keeps, seqClient, start, Rule, adding, admitting}
+use Rattle.guarantee.specs.BusySweep.{Claim-busy-sweep}
 
 -- ---- a. "any two grants of one page that were ever open together name the same frame"
 
@@ -319,5 +320,6 @@ pub record Guarantee : Type 0 where
   pub answers : Claim-answers
   pub turned-down : Claim-turned-down
   pub refused : Claim-refused
+  pub busy-sweep : Claim-busy-sweep
   pub sum : Claim-sum
   pub limits : Claim-limits

@@ -1,3 +1,4 @@
 pub mod Runs
 pub mod Sequential
+pub mod BusySweep
 pub mod Claims

@@ -1,0 +1,66 @@
+-- Refusal 15 in company: what a client has met when it is refused, whatever the others did meanwhile. Its last visits, as many as the pool has slots,
+-- were busy ones, each of another slot, and all of them came after its begin. `Claims.antt` takes the claim in. Statements only. Assumes nothing.
+use mathlib.Core.Path.{_≡_}
+use mathlib.Core.Logic.{_≢_, _⊎_}
+use mathlib.Core.List.{List}
+use Prim.Native.Nat.{ℕ, _≤_, _<_}
+use Rattle.pool.specs.State.{none, pinned, slot, pins, client}
+use Rattle.pool.specs.Calls.{setupOf}
+use Rattle.pool.specs.declared.Call.{Call}
+use Rattle.pool.specs.declared.Call.the-variants.{Step}
+use Rattle.pool.specs.declared.Answer.the-variants.{Done, Refused}
+use Rattle.guarantee.specs.Runs.{Event, events, Run, along, StepAt, Begins}
+
+-- ---- one event: a client visits a slot in one step or two, at 11 it looks at the slot, and at 12 it reads the pins of the frame that it saw there
+
+-- Client c meets slot i busy: at 11 the slot is empty, or at 12 the frame that it saw there, and that still stands there, has pins above 0.
+pub data MeetsBusy (c i : ℕ) (e : Event) : Type 0 where
+  finds-empty : StepAt c 11 e → client (e .before) c .place ≡ i → slot (e .before) i ≡ none → MeetsBusy c i e
+  finds-pinned : StepAt c 12 e → client (e .before) c .place ≡ i → client (e .before) c .victim ≡ slot (e .before) i
+      → pinned 0 < pins (e .before) (slot (e .before) i) → MeetsBusy c i e
+
+-- a busy visit of client c, to one of s slots
+abbrev pub BusyVisit : ℕ → ℕ → Event → Type 0
+BusyVisit s c e = (i : ℕ) × (i < s) × MeetsBusy c i e
+
+-- client c sees a frame in its slot, at 11: the visit is not over
+abbrev pub SeesFrame : ℕ → Event → Type 0
+SeesFrame c e = StepAt c 11 e × (slot (e .before) (client (e .before) c .place) ≢ none)
+
+abbrev pub Refused15 : ℕ → Event → Type 0
+Refused15 c e = (e .asked ≡ Step c) × (e .answer ≡ Refused 15)
+
+-- ---- along a run
+
+-- Client c's request that is begun at event k is open up to event n: no later begin of the client is done before n.
+abbrev pub SameRequest : Run → ℕ → ℕ → ℕ → Type 0
+SameRequest run c k n = (m : ℕ) → k < m → m < n → run (Begins c) m → ⊥
+
+-- exactly one of the events k + 1 to n has the property
+abbrev pub ExactlyOne : (Event → Type 0) → Run → ℕ → ℕ → Type 0
+ExactlyOne P run k n = (j : ℕ) × (k < j) × (j ≤ n) × run P j × ((i : ℕ) → k < i → i ≤ n → run P i → i ≡ j)
+
+-- After event k and up to event n client c meets each of s slots busy, one after the other: its steps there are busy visits, and the looks by which some
+-- of them start; the last is a busy visit; and each slot is met so once. So its last s visits are these.
+pub record MeetsAllBusy (s : ℕ) (run : Run) (c k n : ℕ) : Type 0 where
+  pub only-busy : (m : ℕ) → k < m → m ≤ n → run (λ e. e .asked ≡ Step c) m → run (λ e. SeesFrame c e ⊎ BusyVisit s c e) m
+  pub ends-busy : run (BusyVisit s c) n
+  pub each-once : (i : ℕ) → i < s → ExactlyOne (MeetsBusy c i) run k n
+
+-- so it is at every answer 15: of client c at event n, in a pool of s slots, the request begun at event `begin`
+pub record BusySince (s : ℕ) (run : Run) (c n : ℕ) : Type 0 where
+  pub begin : ℕ
+  pub begun : run (Begins c) begin
+  pub same-request : SameRequest run c begin n
+  pub since : ℕ
+  pub after-begin : begin < since
+  pub before-answer : since < n
+  pub meets-all : MeetsAllBusy s run c since n
+
+abbrev pub BusySweep : ℕ → Run → Type 0
+BusySweep s run = (c n : ℕ) → run (Refused15 c) n → BusySince s run c n
+
+abbrev pub Claim-busy-sweep : Type 0
+Claim-busy-sweep =
+    (s t c h : ℕ) → setupOf s t c h .answer ≡ Done s → (calls : List Call)
+    → let p = setupOf s t c h .pool in BusySweep (p .size) (along (events p calls))
