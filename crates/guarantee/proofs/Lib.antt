@@ -33,8 +33,9 @@ pub mod Sweep
 pub mod SinceBegin
 pub mod RunAlone
 pub mod Alone
--- refusal 15 in company: what each stage's move is to a sweep, and the busy visits before the answer
+-- refusal 15 in company: what each stage's move is to a sweep, the busy visits in a list of events, and those before the answer
 pub mod SweepMoves
+pub mod Meetings
 pub mod BusySweep
 -- the premises of the claims can be met; all of it, as the record `Guarantee`
 pub mod Witness

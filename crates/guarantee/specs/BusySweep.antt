@@ -11,9 +11,10 @@ use Rattle.pool.specs.declared.Call.the-variants.{Step}
 use Rattle.pool.specs.declared.Answer.the-variants.{Done, Refused}
 use Rattle.guarantee.specs.Runs.{Event, events, Run, along, StepAt, Begins}
 
--- ---- one event: a client visits a slot in one step or two, at 11 it looks at the slot, and at 12 it reads the pins of the frame that it saw there
+-- ---- one event
 
--- Client c meets slot i busy: at 11 the slot is empty, or at 12 the frame that it saw there, and that still stands there, has pins above 0.
+-- A client's sweep visits a slot, its `place`, in one step or in two: at 11 it looks at the slot, and if a frame stands there, then its `victim`, it
+-- reads the frame's pins at 12. Client c meets slot i busy: the slot is empty at 11, or at 12 the frame, which still stands there, has pins above 0.
 pub data MeetsBusy (c i : ℕ) (e : Event) : Type 0 where
   finds-empty : StepAt c 11 e → client (e .before) c .place ≡ i → slot (e .before) i ≡ none → MeetsBusy c i e
   finds-pinned : StepAt c 12 e → client (e .before) c .place ≡ i → client (e .before) c .victim ≡ slot (e .before) i
@@ -23,7 +24,7 @@ pub data MeetsBusy (c i : ℕ) (e : Event) : Type 0 where
 abbrev pub BusyVisit : ℕ → ℕ → Event → Type 0
 BusyVisit s c e = (i : ℕ) × (i < s) × MeetsBusy c i e
 
--- client c sees a frame in its slot, at 11: the visit is not over
+-- the slot is not empty at 11: the visit goes on at 12
 abbrev pub SeesFrame : ℕ → Event → Type 0
 SeesFrame c e = StepAt c 11 e × (slot (e .before) (client (e .before) c .place) ≢ none)
 
@@ -40,14 +41,15 @@ SameRequest run c k n = (m : ℕ) → k < m → m < n → run (Begins c) m → �
 abbrev pub ExactlyOne : (Event → Type 0) → Run → ℕ → ℕ → Type 0
 ExactlyOne P run k n = (j : ℕ) × (k < j) × (j ≤ n) × run P j × ((i : ℕ) → k < i → i ≤ n → run P i → i ≡ j)
 
--- After event k and up to event n client c meets each of s slots busy, one after the other: its steps there are busy visits, and the looks by which some
--- of them start; the last is a busy visit; and each slot is met so once. So its last s visits are these.
+-- After event k and up to event n client c meets each of s slots busy, one after the other. Its steps there are busy visits, and looks at 11 that see
+-- a frame; the last step, at n, is a busy visit; and each slot is met busy once. So these are its last s visits.
 pub record MeetsAllBusy (s : ℕ) (run : Run) (c k n : ℕ) : Type 0 where
   pub only-busy : (m : ℕ) → k < m → m ≤ n → run (λ e. e .asked ≡ Step c) m → run (λ e. SeesFrame c e ⊎ BusyVisit s c e) m
   pub ends-busy : run (BusyVisit s c) n
   pub each-once : (i : ℕ) → i < s → ExactlyOne (MeetsBusy c i) run k n
 
--- so it is at every answer 15: of client c at event n, in a pool of s slots, the request begun at event `begin`
+-- what is claimed of an answer 15 to client c at event n, in a pool of s slots: the request is begun at event `begin`, and after a later event, `since`,
+-- the client has met all slots busy
 pub record BusySince (s : ℕ) (run : Run) (c n : ℕ) : Type 0 where
   pub begin : ℕ
   pub begun : run (Begins c) begin
