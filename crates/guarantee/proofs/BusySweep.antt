@@ -22,13 +22,13 @@ use Rattle.invariant.proofs.Reached.{Reached}
 use Rattle.invariant.proofs.After.{client-here}
 use Rattle.invariant.proofs.StageTests.{T-not}
 use Rattle.invariant.proofs.NeverFails.{know}
+use Rattle.invariant.proofs.Setup.{first-rests, first-reached}
 use Rattle.invariant.proofs.Steps.{around-ok}
 use Rattle.invariant.proofs.Allowed.{Allowed, may-release}
 use Rattle.invariant.proofs.Calls.{call-moves, never-stuck, reached-call}
 use Rattle.guarantee.specs.Runs.{Event, eventOf, events, At, along, Begins}
 use Rattle.guarantee.specs.Claims.{AnswersTo, TurnedDown}
 use Rattle.guarantee.specs.BusySweep.{MeetsBusy, finds-empty, finds-pinned, BusyVisit, Refused15, MeetsAllBusy, BusySince, BusySweep, Claim-busy-sweep}
-use Rattle.guarantee.proofs.SetupDone.{setup-done}
 use Rattle.guarantee.proofs.Along.{at-each}
 use Rattle.guarantee.proofs.TurnedDown.{same-answer, same-pool, other-answer, other-call, turned, one-move, turned-or-move, refused-by}
 use Rattle.guarantee.proofs.TurnedDown.{is-done, is-stuck, done-or-stuck}
@@ -205,4 +205,4 @@ busy-sweep-from p calls r rests c n a =
     ]
 
 pub busy-sweep : Claim-busy-sweep
-busy-sweep s t c h e calls = let first = setup-done s t c h e in busy-sweep-from _ calls (first .reached) (first .rests)
+busy-sweep p u calls = busy-sweep-from p calls (first-reached u) (λ c. rw (first-rests u c) refl)

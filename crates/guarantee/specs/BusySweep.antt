@@ -5,11 +5,12 @@ use mathlib.Core.Logic.{_≢_, _⊎_}
 use mathlib.Core.List.{List}
 use Prim.Native.Nat.{ℕ, _≤_, _<_}
 use Rattle.pool.specs.State.{none, pinned, slot, pins, client}
-use Rattle.pool.specs.Calls.{setupOf}
+use Rattle.pool.specs.Calls.{SetUp}
+use Rattle.pool.specs.declared.Pool.{Pool}
 use Rattle.pool.specs.declared.Call.{Call}
 use Rattle.pool.specs.declared.Call.the-variants.{Step}
-use Rattle.pool.specs.declared.Answer.the-variants.{Done, Refused}
-use Rattle.guarantee.specs.Runs.{Event, events, Run, along, StepAt, Begins}
+use Rattle.pool.specs.declared.Answer.the-variants.{Refused}
+use Rattle.guarantee.specs.Runs.{Event, events, Run, along, StepAt, Begins, SameRequest, ExactlyOne}
 
 -- ---- one event
 
@@ -33,14 +34,6 @@ Refused15 c e = (e .asked ≡ Step c) × (e .answer ≡ Refused 15)
 
 -- ---- along a run
 
--- Client c's request that is begun at event k is open up to event n: no later begin of the client is done before n.
-abbrev pub SameRequest : Run → ℕ → ℕ → ℕ → Type 0
-SameRequest run c k n = (m : ℕ) → k < m → m < n → run (Begins c) m → ⊥
-
--- exactly one of the events k + 1 to n has the property
-abbrev pub ExactlyOne : (Event → Type 0) → Run → ℕ → ℕ → Type 0
-ExactlyOne P run k n = (j : ℕ) × (k < j) × (j ≤ n) × run P j × ((i : ℕ) → k < i → i ≤ n → run P i → i ≡ j)
-
 -- After event k and up to event n client c meets each of s slots busy, one after the other. Its steps there are busy visits, and looks at 11 that see
 -- a frame; the last step, at n, is a busy visit; and each slot is met busy once. So these are its last s visits.
 pub record MeetsAllBusy (s : ℕ) (run : Run) (c k n : ℕ) : Type 0 where
@@ -63,6 +56,4 @@ abbrev pub BusySweep : ℕ → Run → Type 0
 BusySweep s run = (c n : ℕ) → run (Refused15 c) n → BusySince s run c n
 
 abbrev pub Claim-busy-sweep : Type 0
-Claim-busy-sweep =
-    (s t c h : ℕ) → setupOf s t c h .answer ≡ Done s → (calls : List Call)
-    → let p = setupOf s t c h .pool in BusySweep (p .size) (along (events p calls))
+Claim-busy-sweep = (p : Pool) → SetUp p → (calls : List Call) → BusySweep (p .size) (along (events p calls))

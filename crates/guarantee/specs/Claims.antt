@@ -23,7 +23,7 @@ use Rattle.pool.specs.declared.Call.the-variants.{Begin, Step, Release}
 use Rattle.pool.specs.declared.Answer.{Answer}
 use Rattle.pool.specs.declared.Answer.the-variants.{Done, Working, Granted, Refused}
 use Rattle.pool.specs.declared.Counted.the-variants.{Nothing}
-use Rattle.guarantee.specs.Runs.{Event, events, At, Run, along, IsCall, NoneBetween, Throughout, StepAt, Begins, GrantedTo, Releases}
+use Rattle.guarantee.specs.Runs.{Event, events, At, Run, along, IsCall, NoneBetween, Throughout, StepAt, Begins, GrantedTo, Releases, ExactlyOne, SameRequest}
 use Rattle.guarantee.specs.Sequential.{Sequential, Keeps, seqClient, start, Rule, adding, admitting}
 use Rattle.guarantee.specs.BusySweep.{Claim-busy-sweep}
 
@@ -169,14 +169,6 @@ TakesEffect c e = (e .asked ≡ Step c) × T (takesEffect (client (e .before) c 
 -- the request of client c is answered
 abbrev pub AnswersTo : ℕ → Event → Type 0
 AnswersTo c e = (e .asked ≡ Step c) × (((f : ℕ) × (e .answer ≡ Granted f)) ⊎ (e .answer ≡ Refused 15))
-
--- Client c's request that is begun at event k is its last up to event n: no later begin of the client is done before n.
-abbrev pub SameRequest : Run → ℕ → ℕ → ℕ → Type 0
-SameRequest run c k n = NoneBetween (Begins c) run k n
-
--- exactly one of the events k + 1 to n has the property
-abbrev pub ExactlyOne : (Event → Type 0) → Run → ℕ → ℕ → Type 0
-ExactlyOne P run k n = (j : ℕ) × (k < j) × (j ≤ n) × run P j × ((i : ℕ) → k < i → i ≤ n → run P i → i ≡ j)
 
 -- The request of client c that event n answers, and its one effect. Its begin is the client's last that is done before n, and no answer of the client
 -- stands between the two: so event n answers this very request.

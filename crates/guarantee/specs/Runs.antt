@@ -1,7 +1,7 @@
 -- Runs: "every list of begins, steps and releases, refused ones included, in whatever order the benches make them". Assumes nothing.
 use mathlib.Core.Path.{_≡_}
 use mathlib.Core.List.{List, [], _∷_}
-use Prim.Native.Nat.{ℕ, zero, suc, _<_}
+use Prim.Native.Nat.{ℕ, zero, suc, _≤_, _<_}
 use Rattle.pool.specs.State.{client}
 use Rattle.pool.specs.Calls.{callOf}
 use Rattle.pool.specs.declared.Pool.{Pool}
@@ -67,3 +67,11 @@ GrantedTo c e = (f : ℕ) × (e .asked ≡ Step c) × (e .answer ≡ Granted f)
 
 abbrev pub Releases : ℕ → Event → Type 0
 Releases c e = (g : ℕ) × (e .asked ≡ Release c g) × (e .answer ≡ Done g)
+
+-- Client c's request that is begun at event k is its last up to event n: no later begin of the client is done before n.
+abbrev pub SameRequest : Run → ℕ → ℕ → ℕ → Type 0
+SameRequest run c k n = NoneBetween (Begins c) run k n
+
+-- exactly one of the events k + 1 to n has the property
+abbrev pub ExactlyOne : (Event → Type 0) → Run → ℕ → ℕ → Type 0
+ExactlyOne P run k n = (j : ℕ) × (k < j) × (j ≤ n) × run P j × ((i : ℕ) → k < i → i ≤ n → run P i → i ≡ j)
