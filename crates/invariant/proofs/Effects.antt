@@ -15,7 +15,7 @@ use Rattle.pool.specs.Frames.{referenced, freeFrame}
 use Rattle.pool.specs.Grants.{grantOf}
 use Rattle.pool.specs.Moves.{withOwn, works}
 use Rattle.pool.specs.Stages.{raised}
-use Rattle.pool.specs.Apply.{slotsAfter, pagesAfter, pinsAfter, countsAfter, entryPagesAfter, entryFramesAfter, freeAfter, lastAfter}
+use Rattle.pool.specs.Apply.{slotsAfter, pagesAfter, pinsAfter, countsAfter, entryPagesAfter, entryFramesAfter, freeAfter, lastAfter, apply}
 use Rattle.pool.specs.declared.Pool.{Pool}
 use Rattle.pool.specs.declared.Client.{Client}
 use Rattle.pool.specs.declared.Move.{Move}
@@ -122,6 +122,17 @@ module _ (p : Pool) (c : ℕ) (m : Move) where
     pub pages : PageOk
     pub write-ok : WriteOk p (m .write)
     pub not-stuck : NotStuck m
+
+-- the names by which the proofs about a move speak, opened in each: the pool is reached, the client is one of it, the client as it was, and the pool
+-- after the move
+pub record Scene (p : Pool) (c : ℕ) : Type 0 where
+  pub r : Reached p
+  pub here : c < clientCount p
+  pub k : Client
+  pub q : Pool
+
+abbrev pub scene : {p : Pool} {c : ℕ} {m : Move} → Effect p c m → Scene p c
+scene {p} {c} {m} x = record { r = x .reached; here = x .here; k = client p c; q = apply p c m }
 
 -- ---- a write of counters alone leaves the lists
 

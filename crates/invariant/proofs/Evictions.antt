@@ -4,7 +4,7 @@
 use mathlib.Core.Path.{_≡_, refl, sym, ap, subst, _∙_}
 use mathlib.Core.Logic.{_≢_, _⊎_, inl, inr}
 use mathlib.Core.Bool.{not}
-use Prim.Native.Nat.{ℕ, _+_, _<_}
+use Prim.Native.Nat.{ℕ, _+_}
 use native.Mathlib.Omega.{arith}
 use native.Mathlib.Decide.{ℕ-discrete}
 use lib.Dec.{T, eqb}
@@ -27,7 +27,7 @@ use Rattle.invariant.proofs.Facts.{own-not-evicted, own-not-victim}
 use Rattle.invariant.proofs.Edges.{Examines, Edge, moves-on, found1, found18, forgets2, forgets22, pins2, pins19, gets3, gets21, takes, fills, replaces}
 use Rattle.invariant.proofs.Edges.{refuses, drops, removes, admits, revives, evicts20, evicts23, begins, releases}
 use Rattle.invariant.proofs.Effects.{PinChange, adds, lowers, drops-victim, own-evicted, takes-one, PinsOk, pins-stay, pins-put, counters-untouched}
-use Rattle.invariant.proofs.Effects.{Effect}
+use Rattle.invariant.proofs.Effects.{Effect, Scene, scene}
 use Rattle.invariant.proofs.Next.{SlotNow, Replaced, slot-now, slot-or-replaced}
 use Rattle.invariant.proofs.Mapping.{new-entry}
 
@@ -47,17 +47,7 @@ record EvictionsCondition (p : Pool) (c : ℕ) (m : Move) : Type 0 where
 -- ---- a move that shows it keeps the layer
 
 module _ {p : Pool} {c : ℕ} {m : Move} (x : Effect p c m) (s : EvictionsCondition p c m) where
-  abbrev r : Reached p
-  r = x .reached
-
-  abbrev here : c < clientCount p
-  here = x .here
-
-  abbrev k : Client
-  k = client p c
-
-  abbrev q : Pool
-  q = apply p c m
+  open Scene (scene x) using (r, here, k, q)
 
   at-c : client q c ≡ m .next
   at-c = client-same p c m (r .shape) here

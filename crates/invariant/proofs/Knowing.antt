@@ -20,7 +20,7 @@ use Rattle.invariant.proofs.NeverFails.{know}
 use Rattle.invariant.proofs.Facts.{own-not-evicted}
 use Rattle.invariant.proofs.Edges.{CountersOnly, Edge, moves-on, found1, found18, forgets2, forgets22, pins2, pins19, gets3, gets21, takes, fills}
 use Rattle.invariant.proofs.Edges.{replaces, refuses, drops, removes, admits, revives, evicts20, evicts23, begins, releases}
-use Rattle.invariant.proofs.Effects.{counters-untouched, Effect}
+use Rattle.invariant.proofs.Effects.{counters-untouched, Effect, Scene, scene}
 use Rattle.invariant.proofs.Next.{evicted-next, in-slot-next, mapped-next, own-referenced, found-referenced, victim-referenced}
 
 -- ---- what a pool q keeps of a frame of p
@@ -84,11 +84,7 @@ module _ (p q : Pool) where
 -- ---- after a move
 
 module _ {p : Pool} {c : ℕ} {m : Move} (x : Effect p c m) where
-  abbrev r : Reached p
-  r = x .reached
-
-  abbrev q : Pool
-  q = apply p c m
+  open Scene (scene x) using (r, q)
 
   frame-stable : (f : ℕ) → f ≢ none → (referenced p f ≡ false → ⊥) → FrameStable p q f
   frame-stable f z n = record { stays-evicted = evicted-next x f z n; stays-mapped = mapped-next x f z; stays-in-slot = in-slot-next x f z }

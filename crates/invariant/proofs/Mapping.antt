@@ -9,7 +9,7 @@ use Prim.Native.Nat.{ℕ, suc, _<_}
 use native.Mathlib.Omega.{arith}
 use native.Mathlib.Decide.{ℕ-discrete}
 use lib.Dec.{T}
-use Rattle.pool.specs.State.{none, evicted, clientCount, total, page, pins, entryPage, entryFrame, client, grantPage, grantFrame}
+use Rattle.pool.specs.State.{none, evicted, total, page, pins, entryPage, entryFrame, client, grantPage, grantFrame}
 use Rattle.pool.specs.Frames.{referenced}
 use Rattle.pool.specs.Apply.{pagesAfter, pinsAfter, apply}
 use Rattle.pool.specs.declared.Pool.{Pool}
@@ -27,7 +27,7 @@ use Rattle.invariant.proofs.Facts.{grant-pinned}
 use Rattle.invariant.proofs.StageTests.{never, imp-mp}
 use Rattle.invariant.proofs.Edges.{Edge, moves-on, found1, found18, forgets2, forgets22, pins2, pins19, gets3, gets21, takes, fills, replaces, refuses}
 use Rattle.invariant.proofs.Edges.{drops, removes, admits, revives, evicts20, evicts23, begins, releases}
-use Rattle.invariant.proofs.Effects.{OwnOk, own-forgotten, own-stays, own-taken, Opened, of-found, of-own, EntryOk, entries-stay, maps, unmaps, Effect}
+use Rattle.invariant.proofs.Effects.{OwnOk, own-forgotten, own-stays, own-taken, Opened, of-found, of-own, EntryOk, entries-stay, maps, unmaps, Effect, Scene, scene}
 use Rattle.invariant.proofs.Next.{evicted-next, in-slot-next, mapped-next, page-next, own-referenced, mapped-referenced, all-grants}
 use Rattle.invariant.proofs.PinCounts.{orphan-stays, refused-orphan}
 use Rattle.invariant.proofs.Knowing.{knows-next, learns}
@@ -50,17 +50,7 @@ record MappingCondition (p : Pool) (c : ℕ) (m : Move) : Type 0 where
 -- ---- the table after a move
 
 module _ {p : Pool} {c : ℕ} {m : Move} (x : Effect p c m) where
-  abbrev r : Reached p
-  r = x .reached
-
-  abbrev here : c < clientCount p
-  here = x .here
-
-  abbrev k : Client
-  k = client p c
-
-  abbrev q : Pool
-  q = apply p c m
+  open Scene (scene x) using (r, here, k, q)
 
   -- the own frame is in no entry, so no two have it where one gets it
   own-only : k .own ≢ none → (i : ℕ) → entryFrame p i ≢ k .own

@@ -8,33 +8,23 @@ use native.Mathlib.Omega.{arith}
 use native.Mathlib.Decide.{ℕ-discrete}
 use lib.Dec.{T}
 use Rattle.pool.specs.Limits.{maxHeld}
-use Rattle.pool.specs.State.{none, evicted, clientCount, slot, page, pins, entryFrame, client, grantPage, grantFrame}
+use Rattle.pool.specs.State.{none, evicted, slot, page, pins, entryFrame, client, grantPage, grantFrame}
 use Rattle.pool.specs.Frames.{referenced}
-use Rattle.pool.specs.Apply.{slotsAfter, apply}
+use Rattle.pool.specs.Apply.{slotsAfter}
 use Rattle.pool.specs.declared.Pool.{Pool}
 use Rattle.pool.specs.declared.Client.{Client}
 use Rattle.pool.specs.declared.Move.{Move}
 use Rattle.pool.specs.declared.GrantChange.the-variants.{Open}
-use Rattle.invariant.proofs.Reached.{Reached, mapped, InSlot, unplaced, unmapping}
+use Rattle.invariant.proofs.Reached.{mapped, InSlot, unplaced, unmapping}
 use Rattle.invariant.proofs.After.{client-same, client-other, slot-kept, slot-here, slot-else, pins-kept, pins-here, pins-else, page-kept, page-else}
 use Rattle.invariant.proofs.Searches.{unreferenced-means}
 use Rattle.invariant.proofs.Table.{suc-not, mapped-entry, mapped-kept, put-other, put-unmapped}
 use Rattle.invariant.proofs.Grants.{grantPage-other, grantFrame-other, GrantFrom, old, new, past, grant-from}
 use Rattle.invariant.proofs.Effects.{Vacant, SlotOk, slots-stay, slot-put, PinChange, adds, lowers, drops-victim, own-evicted, takes-one, PinsOk}
-use Rattle.invariant.proofs.Effects.{pins-stay, pins-put, EntryOk, entries-stay, maps, unmaps, PageOk, pages-stay, page-put, Effect}
+use Rattle.invariant.proofs.Effects.{pins-stay, pins-put, EntryOk, entries-stay, maps, unmaps, PageOk, pages-stay, page-put, Effect, Scene, scene}
 
 module _ {p : Pool} {c : ℕ} {m : Move} (x : Effect p c m) where
-  abbrev r : Reached p
-  r = x .reached
-
-  abbrev here : c < clientCount p
-  here = x .here
-
-  abbrev k : Client
-  k = client p c
-
-  abbrev q : Pool
-  q = apply p c m
+  open Scene (scene x) using (r, here, k, q)
 
   -- ---- slots
 

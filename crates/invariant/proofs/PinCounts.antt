@@ -30,7 +30,7 @@ use Rattle.invariant.proofs.Facts.{none-own, foreign-claims, orphan-cla
 use Rattle.invariant.proofs.StageTests.{T-false, never, differ, imp-mp}
 use Rattle.invariant.proofs.Edges.{Edge, moves-on, found1, found18, forgets2, forgets22, pins2, pins19, gets3, gets21, takes, fills, replaces, refuses}
 use Rattle.invariant.proofs.Edges.{drops, removes, admits, revives, evicts20, evicts23, begins, releases}
-use Rattle.invariant.proofs.Effects.{no-open, counters-untouched, Effect}
+use Rattle.invariant.proofs.Effects.{no-open, counters-untouched, Effect, Scene, scene}
 use Rattle.invariant.proofs.Next.{slot-now, all-grants}
 use Rattle.invariant.proofs.Private.{PrivateFrame, private-unmapped, private-unfound, private-ungranted}
 
@@ -61,17 +61,7 @@ balance-next p q f a b v w s t e (orphan o) (evict x y z) n l j = elim (j o) [ i
 balance-next p q f a b v w s t e (orphan o) (taken-now x y z) n l j = counted (omega arith)
 
 module _ {p : Pool} {c : ℕ} {m : Move} (x : Effect p c m) where
-  abbrev r : Reached p
-  r = x .reached
-
-  abbrev here : c < clientCount p
-  here = x .here
-
-  abbrev k : Client
-  k = client p c
-
-  abbrev q : Pool
-  q = apply p c m
+  open Scene (scene x) using (r, here, k, q)
 
   few : (d : ℕ) → client p d .held ≤ maxHeld
   few = r .ranges .held-ok

@@ -2,33 +2,23 @@
 -- frame, keeps it, or takes one that nobody names; and only an own frame without a slot is put into one. Assumes nothing.
 use mathlib.Core.Path.{_≡_, refl, sym, ap, _∙_}
 use mathlib.Core.Logic.{_≢_, inl, inr}
-use Prim.Native.Nat.{ℕ, _<_}
+use Prim.Native.Nat.{ℕ}
 use lib.Dec.{T}
-use Rattle.pool.specs.State.{none, clientCount, slot, client}
-use Rattle.pool.specs.Apply.{slotsAfter, apply}
+use Rattle.pool.specs.State.{none, slot, client}
+use Rattle.pool.specs.Apply.{slotsAfter}
 use Rattle.pool.specs.declared.Pool.{Pool}
 use Rattle.pool.specs.declared.Client.{Client}
 use Rattle.pool.specs.declared.Move.{Move}
-use Rattle.invariant.proofs.Reached.{Reached, Distinct, Places, unplaced}
+use Rattle.invariant.proofs.Reached.{Distinct, Places, unplaced}
 use Rattle.invariant.proofs.After.{client-same, client-other, all-clients, slot-kept, slot-here, slot-else}
 use Rattle.invariant.proofs.Distinct.{distinct-put, distinct-same}
 use Rattle.invariant.proofs.Searches.{unreferenced-means}
 use Rattle.invariant.proofs.StageTests.{T-not, imp-mp}
-use Rattle.invariant.proofs.Effects.{OwnOk, own-forgotten, own-stays, own-taken, SlotOk, slots-stay, slot-put, Effect}
+use Rattle.invariant.proofs.Effects.{OwnOk, own-forgotten, own-stays, own-taken, SlotOk, slots-stay, slot-put, Effect, Scene, scene}
 use Rattle.invariant.proofs.Next.{SlotNow, slot-now}
 
 module _ {p : Pool} {c : ℕ} {m : Move} (x : Effect p c m) where
-  abbrev r : Reached p
-  r = x .reached
-
-  abbrev here : c < clientCount p
-  here = x .here
-
-  abbrev k : Client
-  k = client p c
-
-  abbrev q : Pool
-  q = apply p c m
+  open Scene (scene x) using (r, here, k, q)
 
   -- the new own frame is nobody else's
   own-new : (d : ℕ) → d ≢ c → m .next .own ≢ none → client p d .own ≢ m .next .own

@@ -2,18 +2,17 @@
 -- an own frame gets one only where its client forgets it. Assumes nothing.
 use mathlib.Core.Path.{_≡_, sym, ap, _∙_}
 use mathlib.Core.Logic.{_≢_}
-use Prim.Native.Nat.{ℕ, _<_}
-use Rattle.pool.specs.State.{none, clientCount, client, grantFrame}
-use Rattle.pool.specs.Apply.{apply}
+use Prim.Native.Nat.{ℕ}
+use Rattle.pool.specs.State.{none, client, grantFrame}
 use Rattle.pool.specs.declared.Pool.{Pool}
 use Rattle.pool.specs.declared.Client.{Client}
 use Rattle.pool.specs.declared.Move.{Move}
-use Rattle.invariant.proofs.Reached.{Reached, Private, mapped}
+use Rattle.invariant.proofs.Reached.{Private, mapped}
 use Rattle.invariant.proofs.After.{all-clients}
 use Rattle.invariant.proofs.Searches.{unreferenced-means, grant-in}
 use Rattle.invariant.proofs.Table.{mapped-zero}
 use Rattle.invariant.proofs.Effects.{OwnOk, own-forgotten, own-stays, own-taken, FoundOk, found-stays, found-forgotten, found-looked-up, Opened}
-use Rattle.invariant.proofs.Effects.{of-found, of-own, Effect}
+use Rattle.invariant.proofs.Effects.{of-found, of-own, Effect, Scene, scene}
 use Rattle.invariant.proofs.Next.{unmapped-next, all-grants}
 
 -- no entry, no found frame and no grant names it, and it is not the own frame that the mover, whose next record is n, gives away
@@ -24,14 +23,7 @@ pub record PrivateFrame (p : Pool) (c : ℕ) (n : Client) (f : ℕ) : Type 0 whe
   pub not-forgotten : n .own ≡ none → client p c .own ≢ f
 
 module _ {p : Pool} {c : ℕ} {m : Move} (x : Effect p c m) where
-  abbrev r : Reached p
-  r = x .reached
-
-  abbrev here : c < clientCount p
-  here = x .here
-
-  abbrev q : Pool
-  q = apply p c m
+  open Scene (scene x) using (r, here, q)
 
   -- such a frame stays so
   module _ (f : ℕ) (z : f ≢ none) (s : PrivateFrame p c (m .next) f) where

@@ -8,7 +8,7 @@ use native.Mathlib.Decide.{ℕ-discrete, decLt}
 use lib.Dec.{T, eqb, leb}
 use mathlib.Core.Bool.{not}
 use Rattle.pool.specs.Limits.{maxHeld, maxPins}
-use Rattle.pool.specs.State.{none, pinned, clientCount, total, slot, pins, count, entryFrame, client, grantFrame}
+use Rattle.pool.specs.State.{none, pinned, total, slot, pins, count, entryFrame, client, grantFrame}
 use Rattle.pool.specs.Apply.{apply}
 use Rattle.pool.specs.declared.Pool.{Pool}
 use Rattle.pool.specs.declared.Client.{Client}
@@ -23,7 +23,7 @@ use Rattle.invariant.proofs.Edges.{Edge, moves-on, found1, found18, for
 use Rattle.invariant.proofs.Edges.{drops, removes, admits, revives, evicts20, evicts23, begins, releases}
 use Rattle.invariant.proofs.Effects.{CountOk, counts-stay, counts-put, OwnOk, own-forgotten, own-stays, own-taken, PinChange, adds, lowers, drops-victim}
 use Rattle.invariant.proofs.Effects.{own-evicted, takes-one, PinsOk, pins-stay, pins-put, FoundOk, found-stays, found-forgotten, found-looked-up, Opened}
-use Rattle.invariant.proofs.Effects.{of-found, of-own, EntryOk, entries-stay, maps, unmaps, Effect}
+use Rattle.invariant.proofs.Effects.{of-found, of-own, EntryOk, entries-stay, maps, unmaps, Effect, Scene, scene}
 use Rattle.invariant.proofs.Next.{SlotNow, slot-now, all-grants}
 
 -- ---- what a move has to show of the next record
@@ -128,14 +128,7 @@ module _ (p : Pool) (c : ℕ) (r : Reached p) where
 -- ---- the layer is kept
 
 module _ {p : Pool} {c : ℕ} {m : Move} (e : Edge p c m) (x : Effect p c m) where
-  abbrev r : Reached p
-  r = x .reached
-
-  abbrev here : c < clientCount p
-  here = x .here
-
-  abbrev q : Pool
-  q = apply p c m
+  open Scene (scene x) using (r, here, q)
 
   all : (P : Client → Type 0) → ((d : ℕ) → P (client p d)) → P (m .next) → (d : ℕ) → P (client q d)
   all P old new = all-clients p c m (r .shape) (λ _ n. P n) here (λ d _. old d) new
