@@ -40,7 +40,6 @@ use Rattle.invariant.proofs.Calls.{outcomeOf, call-moves, call-turned-down}
 use Rattle.guarantee.specs.Sequential.{SeqClient, Sequential, seqClient, member, without, seqRefusal, Rule, turns-down, begins, releases, steps}
 use Rattle.guarantee.proofs.TurnedDown.{moved}
 use Rattle.guarantee.proofs.SimulationRelation.{times, not-member, is-member, without-times, without-length, SimulationRelation, open-many, open-grants}
-use Rattle.guarantee.proofs.PageCount.{PageCountChange}
 use Rattle.guarantee.proofs.ViewAfter.{counters-view, pins-view}
 use Rattle.guarantee.proofs.Simulate.{Acting, same-slots}
 use Rattle.guarantee.proofs.SeqClients.{related-resting}
@@ -50,7 +49,6 @@ use Rattle.guarantee.proofs.SimulateMoves.{simulated}
 pub record Followed (q : Sequential) (x : Call) (o : Outcome) : Type 0 where
   pub state : Sequential
   pub rule : Rule q x (o .answer) state
-  pub page-count : PageCountChange (o .counted) (q .slots) (state .slots)
   pub related : SimulationRelation (o .pool) state
 
 choose-alike : {A : Type 0} (t : Bool) {x y v w : A} → (t ≡ true → x ≡ v) → (t ≡ false → y ≡ w) → choose t x y ≡ choose t v w
@@ -100,7 +98,7 @@ module _ {p : Pool} {q : Sequential} (r : Reached p) (related : SimulationRelati
           ∙ sym (chosen _ _ _ (is-member g _ (λ w. omega (arith, open-grants (related .clients c) (rw s refl) g, some-grant c g z))))
 
   turned-follows : (x : Call) (n : ℕ) → seqRefusal q x ≡ n → n ≢ 0 → Followed q x (turnedDown n p)
-  turned-follows x n e z = record { state = q; rule = turns-down e z; page-count = refl; related = related }
+  turned-follows x n e z = record { state = q; rule = turns-down e z; related = related }
 
   -- ---- and make the same moves
 
@@ -123,7 +121,6 @@ module _ {p : Pool} {q : Sequential} (r : Reached p) (related : SimulationRelati
         record {
           state = _;
           rule = begins e;
-          page-count = refl;
           related =
               same-slots acting m _ (grants-stay refl refl)
               (record {
@@ -139,7 +136,7 @@ module _ {p : Pool} {q : Sequential} (r : Reached p) (related : SimulationRelati
 
     stepped : seqRefusal q (Step c) ≡ 0 → k .stage ≢ 0 → Edge p c (moveOf p (Step c)) → Followed q (Step c) (moved p (Step c))
     unfolding caller
-    stepped e busy w = let s = simulated acting busy w in record { state = _; rule = steps e (s .rule); page-count = s .page-count; related = s .related }
+    stepped e busy w = let s = simulated acting busy w in record { state = _; rule = steps e (s .rule); related = s .related }
 
     -- the last grant goes to the place of the one that ends
     released : (g : ℕ) → seqRefusal q (Release c g) ≡ 0 → k .stage ≡ 0 → grantOf p c g ≢ none → Followed q (Release c g) (moved p (Release c g))
@@ -180,7 +177,6 @@ module _ {p : Pool} {q : Sequential} (r : Reached p) (related : SimulationRelati
             record {
               state = _;
               rule = releases e;
-              page-count = refl;
               related =
                   same-slots acting m _ (grant-ends i refl refl (found .0))
                   (related-resting s (omega (arith, without-length g (t .grants) some, open-many (related .clients c) (rw s refl))) fewer)

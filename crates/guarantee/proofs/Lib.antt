@@ -6,20 +6,20 @@ pub mod TurnedDown
 pub mod Listed
 -- claim a, what its grants are: those that the answers told the clients
 pub mod GrantLists
--- claim d: the simulation relation; the sequential pool's pages, its clients, its number of pages
+-- claim d: the simulation relation; the sequential pool's pages, its clients
 pub mod SimulationRelation
 pub mod Frames
 pub mod Pages
 pub mod SeqClients
-pub mod PageCount
 -- the view after each write; each move is a step of the sequential pool; so each call and each list of calls
 pub mod ViewAfter
 pub mod Simulate
 pub mod SimulateMoves
 pub mod Follow
 pub mod Sequence
--- from the sequential pool: claims a and b, and the tally's sum
+-- from the sequential pool: claims a and b
 pub mod Copies
+-- the tally's sum, over the edges
 pub mod Sum
 -- claim c: between two replacements of a frame it is taken anew
 pub mod Once

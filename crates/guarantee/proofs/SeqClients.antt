@@ -1,4 +1,4 @@
--- The acting client of the sequential pool after a move. Of the move only what can be observed matters: answer, count, change of grants, stage, page and
+-- The acting client of the sequential pool after a move. Of the move only what can be observed matters: answer, change of grants, stage, page and
 -- number of grants. The sequential client has its page among its grants from the step that pins it on, so an answer at 3 or 21 adds nothing there, and
 -- one at 18 or 22 does. Assumes nothing.
 use mathlib.Core.Path.{_≡_, refl, sym, _∙_}
@@ -13,8 +13,6 @@ use Rattle.pool.specs.declared.Client.{Client}
 use Rattle.pool.specs.declared.Move.{Move}
 use Rattle.pool.specs.declared.Answer.{Answer}
 use Rattle.pool.specs.declared.Answer.the-variants.{Working, Granted, Refused}
-use Rattle.pool.specs.declared.Counted.{Counted}
-use Rattle.pool.specs.declared.Counted.the-variants.{Refusal}
 use Rattle.pool.specs.declared.GrantChange.{GrantChange}
 use Rattle.pool.specs.declared.GrantChange.the-variants.{Same, Open}
 use Rattle.invariant.proofs.Reached.{one, pinsFound}
@@ -27,24 +25,23 @@ use Rattle.guarantee.proofs.SimulationRelation.{times, ClientRelation, 
 
 pub record Observable : Type 0 where
   pub answer : Answer
-  pub counted : Counted
   pub grants : GrantChange
   pub stage : ℕ
   pub page : ℕ
   pub held : ℕ
 
 abbrev pub observable : Move → Observable
-observable m = record { answer = m .answer; counted = m .counted; grants = m .grants; stage = m .next .stage; page = m .next .page; held = m .next .held }
+observable m = record { answer = m .answer; grants = m .grants; stage = m .next .stage; page = m .next .page; held = m .next .held }
 
 -- the client goes on to stage j; it is granted frame f; it is refused
-abbrev pub workingMove : Client → ℕ → Counted → Observable
-workingMove k j u = record { answer = Working j; counted = u; grants = Same; stage = j; page = k .page; held = k .held }
+abbrev pub workingMove : Client → ℕ → Observable
+workingMove k j = record { answer = Working j; grants = Same; stage = j; page = k .page; held = k .held }
 
-abbrev pub grantedMove : Client → ℕ → Counted → Observable
-grantedMove k f u = record { answer = Granted f; counted = u; grants = Open (k .held) (k .page) f; stage = 0; page = 0; held = k .held + 1 }
+abbrev pub grantedMove : Client → ℕ → Observable
+grantedMove k f = record { answer = Granted f; grants = Open (k .held) (k .page) f; stage = 0; page = 0; held = k .held + 1 }
 
 abbrev pub refusedMove : Client → Observable
-refusedMove k = record { answer = Refused 15; counted = Refusal; grants = Same; stage = 0; page = 0; held = k .held }
+refusedMove k = record { answer = Refused 15; grants = Same; stage = 0; page = 0; held = k .held }
 
 -- ---- the steps that move no page and add no grant
 

@@ -52,7 +52,7 @@ abbrev started : Pool → Sequential
 started p = start (p .size) (clientCount p)
 
 -- a pool that was set up is related to the sequential pool that has just started
-pub start-related : {p : Pool} → SetUp p → SimulationRelation p (started p)
+start-related : {p : Pool} → SetUp p → SimulationRelation p (started p)
 start-related =
     of-fresh (λ p. SimulationRelation p (started p))
     (λ s t c h ok. rw (view-start s t c h ok) at (view-related (fresh s t c h) (reached-setup s t c h ok .shape)))

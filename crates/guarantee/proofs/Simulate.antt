@@ -3,7 +3,7 @@
 -- invariant: the wanted page is there because its frame is not evicted, absent because the look-up finds none or an evicted frame, and a dropped page
 -- has no grants because its frame has no pins. Assumes nothing.
 use mathlib.Core.Path.{_≡_, refl, sym, ap, _∙_}
-use mathlib.Core.Logic.{_≢_, _⊎_, inl, inr}
+use mathlib.Core.Logic.{_≢_, inl}
 use mathlib.Core.Bool.{Bool, true, false, _&&_}
 use mathlib.Core.List.{List, [], _∷_}
 use Prim.Native.Nat.{ℕ, suc, _+_, _≤_, _<_}
@@ -19,15 +19,13 @@ use Rattle.pool.specs.Apply.{apply}
 use Rattle.pool.specs.declared.Pool.{Pool}
 use Rattle.pool.specs.declared.Client.{Client}
 use Rattle.pool.specs.declared.Move.{Move}
-use Rattle.pool.specs.declared.Counted.{Counted}
-use Rattle.pool.specs.declared.Counted.the-variants.{Nothing, Drop}
 use Rattle.pool.specs.declared.GrantChange.the-variants.{Same}
 use Rattle.pool.specs.declared.Write.the-variants.{PutPins, PutEntry}
-use Rattle.invariant.proofs.Reached.{Reached, one, mapped, pinsFound, InSlot, FoundMapped, Placed, Orphan}
+use Rattle.invariant.proofs.Reached.{Reached, one, mapped, pinsFound, InSlot, FoundMapped, Placed}
 use Rattle.invariant.proofs.After.{client-same, client-other, pins-in}
 use Rattle.invariant.proofs.Writes.{countersOnly}
 use Rattle.invariant.proofs.Sums.{sum-zero}
-use Rattle.invariant.proofs.Facts.{own-pins, grant-pinned}
+use Rattle.invariant.proofs.Facts.{own-pins, grant-pinned, unpinned-mapped}
 use Rattle.invariant.proofs.Grants.{grantsOf, GrantsOk, grants-stay, grant-opens, grantsOf-other, grantsOf-keeps, grantsOf-opens}
 use Rattle.invariant.proofs.Table.{suc-not, some-suc}
 use Rattle.invariant.proofs.Searches.{pins-named}
@@ -39,7 +37,6 @@ use Rattle.guarantee.proofs.SeqClients.{Observable, observable, working
 use Rattle.guarantee.proofs.SeqClients.{related-working, related-pinned, related-answered, related-admitted}
 use Rattle.guarantee.proofs.Frames.{same-frame, found-mapped, found-has-pin}
 use Rattle.guarantee.proofs.Pages.{page-there, page-resident}
-use Rattle.guarantee.proofs.PageCount.{occupancy, pageCount-set, gained, lost, PageCountChange}
 use Rattle.guarantee.proofs.ViewAfter.{SameView, ViewChanged, counters-view, pins-view, evict-view, map-view}
 
 -- the move is a step of the sequential pool, and the two pools after it are related again
@@ -47,7 +44,6 @@ pub record Simulates (p : Pool) (c : ℕ) (q : Sequential) (m : Move) : Type 0 w
   pub slots : List SeqSlot
   pub next : SeqClient
   pub rule : StepRule q (seqClient q c) (m .answer) slots next
-  pub page-count : PageCountChange (m .counted) (q .slots) slots
   pub related : SimulationRelation (apply p c m) (record { slots = slots; clients = set (q .clients) c next })
 
 -- ---- the two pools after a move
@@ -112,7 +108,7 @@ module _ {p : Pool} {c : ℕ} {q : Sequential} (acting : Acting p c q) where
   few : (d : ℕ) → client p d .held ≤ maxHeld
   few = r .ranges .held-ok
 
-  module _ (m : Move) (j : ℕ) (u : Counted) (o : observable m ≡ workingMove k j u) where
+  module _ (m : Move) (j : ℕ) (o : observable m ≡ workingMove k j) where
     same-held : m .next .held ≡ k .held
     same-held = ap (λ (x : Observable). x .held) o
 
@@ -129,7 +125,7 @@ module _ {p : Pool} {c : ℕ} {q : Sequential} (acting : Acting p c q) where
           same-grants = grantsOf-keeps p c m (r .shape) here few (ap (λ (x : Observable). x .grants) o) same-held;
         }
 
-  module _ (m : Move) (f : ℕ) (u : Counted) (o : observable m ≡ grantedMove k f u) (room : k .held < maxHeld) where
+  module _ (m : Move) (f : ℕ) (o : observable m ≡ grantedMove k f) (room : k .held < maxHeld) where
     more-held : m .next .held ≡ k .held + 1
     more-held = ap (λ (x : Observable). x .held) o
 
@@ -147,18 +143,17 @@ module _ {p : Pool} {c : ℕ} {q : Sequential} (acting : Acting p c q) where
   -- ---- the six kinds of move
 
   module _ (busy : k .stage ≢ 0) where
-    pub continues-one : (i j : ℕ) → k .stage ≡ i → {m : Move} → observable m ≡ workingMove k j Nothing → Continuing i j → SameView p c m → Simulates p c q m
+    pub continues-one : (i j : ℕ) → k .stage ≡ i → {m : Move} → observable m ≡ workingMove k j → Continuing i j → SameView p c m → Simulates p c q m
     continues-one i j e {m} o w same =
         record {
           slots = q .slots;
           next = record { stage = j; wants = t .wants; grants = t .grants };
           rule = rw (ap (λ (x : Observable). x .answer) o) (continues {j = j} (rw (client-related .stage ∙ e) (w .plain-step)) (w .low) (w .high));
-          page-count = rw (ap (λ (x : Observable). x .counted) o) refl;
-          related = same-slots m _ (keeping m j Nothing o) (related-working client-related (works-on m j Nothing o busy) (rw e (w .pins-alike))) same;
+          related = same-slots m _ (keeping m j o) (related-working client-related (works-on m j o busy) (rw e (w .pins-alike))) same;
         }
 
     pub adds-one : (i j : ℕ) → k .stage ≡ i → T (adding i j) → pinsFound i ≡ false → pinsFound j ≡ true → FoundMapped p k → pins p (k .found) ≢ evicted
-        → {m : Move} → observable m ≡ workingMove k j Nothing → m .write ≡ PutPins (k .found) (pins p (k .found) + 1) → Simulates p c q m
+        → {m : Move} → observable m ≡ workingMove k j → m .write ≡ PutPins (k .found) (pins p (k .found) + 1) → Simulates p c q m
     adds-one i j e h pi pj know live {m} o w =
         let n : ℕ = pins p (k .found) in
         record {
@@ -168,15 +163,14 @@ module _ {p : Pool} {c : ℕ} {q : Sequential} (acting : Acting p c q) where
               rw (ap (λ (x : Observable). x .answer) o)
               (adds {j = j} {f = k .found} (rw (client-related .stage ∙ e) h)
               (rw (client-related .wants busy) (page-there r related (know .0) live (know .1 live))));
-          page-count = rw (ap (λ (x : Observable). x .counted) o) refl;
           related =
-              same-slots m _ (keeping m j Nothing o) (related-pinned client-related (works-on m j Nothing o busy) pj (rw e pi))
+              same-slots m _ (keeping m j o) (related-pinned client-related (works-on m j o busy) pj (rw e pi))
               (pins-view p c m r (k .found) (n + 1) w (pins-in p (k .found) live) (inl (ne-eqb (n + 1) 0 (λ z. omega arith) ∙ sym (ne-eqb n 0 live))));
         }
 
-    pub answers-one : (i : ℕ) (u : Counted) → k .stage ≡ i → T (answering i) → pinsFound i ≡ true → gained u ≡ 0 → lost u ≡ 0 → FoundMapped p k → k .held < maxHeld
-        → {m : Move} → observable m ≡ grantedMove k (k .found) u → T (countersOnly (m .write)) → Simulates p c q m
-    answers-one i u e h pi no-gain no-loss know room {m} o s =
+    pub answers-one : (i : ℕ) → k .stage ≡ i → T (answering i) → pinsFound i ≡ true → FoundMapped p k → k .held < maxHeld
+        → {m : Move} → observable m ≡ grantedMove k (k .found) → T (countersOnly (m .write)) → Simulates p c q m
+    answers-one i e h pi know room {m} o s =
         let live : pins p (k .found) ≢ evicted = λ z. omega (arith, found-has-pin p r c (rw e pi)) in
         record {
           slots = q .slots;
@@ -185,23 +179,21 @@ module _ {p : Pool} {c : ℕ} {q : Sequential} (acting : Acting p c q) where
               rw (ap (λ (x : Observable). x .answer) o)
               (answers {f = k .found} (rw (client-related .stage ∙ e) h)
               (rw (client-related .wants busy) (page-there r related (know .0) live (know .1 live))));
-          page-count = rw (ap (λ (x : Observable). x .counted) o, no-gain, no-loss) refl;
           related =
-              same-slots m _ (opening m (k .found) u o room)
-              (related-answered client-related (is-granted m (k .found) u o room) (rw e pi)) (counters-view p c m r s);
+              same-slots m _ (opening m (k .found) o room)
+              (related-answered client-related (is-granted m (k .found) o room) (rw e pi)) (counters-view p c m r s);
         }
 
     -- the wanted page's frames are evicted, and so is the frame of the entry that the own frame gets
-    pub admits-one : (i : ℕ) (u : Counted) → k .stage ≡ i → T (admitting i) → pinsFound i ≡ false → gained u ≡ 1 → lost u ≡ 0 → Placed p k → k .held < maxHeld
+    pub admits-one : (i : ℕ) → k .stage ≡ i → T (admitting i) → pinsFound i ≡ false → Placed p k → k .held < maxHeld
         → ((f : ℕ) → f ≢ none → mapped p f ≡ suc (k .page) → pins p f ≡ evicted) → (j : ℕ) → j < total p → pins p (entryFrame p j) ≡ evicted
-        → {m : Move} → observable m ≡ grantedMove k (k .own) u → m .write ≡ PutEntry j (k .page) (k .own) → Simulates p c q m
-    admits-one i u e h pi gain no-loss own room gone j low out {m} o w =
+        → {m : Move} → observable m ≡ grantedMove k (k .own) → m .write ≡ PutEntry j (k .page) (k .own) → Simulates p c q m
+    admits-one i e h pi own room gone j low out {m} o w =
         record {
           slots = set (q .slots) s x;
           next = seqResting (t .wants ∷ t .grants);
           rule = rw (ap (λ (x : Observable). x .answer) o) (admits (rw (client-related .stage ∙ e) h) absent unused s inside vacant);
-          page-count = rw (ap (λ (x : Observable). x .counted) o, gain, no-loss) (omega (arith, pageCount-set (q .slots) s x inside, ap occupancy vacant));
-          related = one-slot m _ (opening m (k .own) u o room) (related-admitted client-related (is-granted m (k .own) u o room) busy (rw e pi)) changed;
+          related = one-slot m _ (opening m (k .own) o room) (related-admitted client-related (is-granted m (k .own) o room) busy (rw e pi)) changed;
         }
       where
         s : ℕ
@@ -238,7 +230,6 @@ module _ {p : Pool} {c : ℕ} {q : Sequential} (acting : Acting p c q) where
           slots = q .slots;
           next = seqResting (t .grants);
           rule = rw (ap (λ (x : Observable). x .answer) o) refuses;
-          page-count = rw (ap (λ (x : Observable). x .counted) o) refl;
           related =
               same-slots m _ (grants-stay grants held)
               (related-resting (ap (λ (x : Observable). x .stage) o) (open-many client-related pk ∙ sym held)
@@ -279,37 +270,28 @@ module _ {p : Pool} {c : ℕ} {q : Sequential} (acting : Acting p c q) where
             ap one (ne-eqb _ _ (λ w. only (client p d .found) (know .0) two (know .1 (λ x. omega arith) ∙ ap suc w)))
 
     pub drops-one : k .stage ≡ 14 → k .victim ≢ none → pins p (k .victim) ≡ pinned 0 → InSlot p (k .victim)
-        → {m : Move} → observable m ≡ workingMove k 15 Drop → m .write ≡ PutPins (k .victim) evicted → Simulates p c q m
-    drops-one e z unpinned in-slot {m} o w = by-owner (r .mapping .mapped-or-owned f z live)
+        → {m : Move} → observable m ≡ workingMove k 15 → m .write ≡ PutPins (k .victim) evicted → Simulates p c q m
+    drops-one e z unpinned in-slot {m} o w =
+        record {
+          slots = set (q .slots) s empty;
+          next = record { stage = 15; wants = t .wants; grants = t .grants };
+          rule = rw (ap (λ (x : Observable). x .answer) o) (drops {j = 15} (rw (client-related .stage ∙ e) tt) s holding (unheld f (g .0) z unpinned (g .1)));
+          related =
+              one-slot m _ (keeping m 15 o) (related-working client-related (works-on m 15 o busy) (rw e refl))
+              (evict-view p c m r f evicted w refl (pins-in p f live) z s (in-slot .1));
+        }
       where
         f : ℕ
         f = k .victim
 
-        live : pins p f ≢ evicted
-        live n = omega arith
-
         s : ℕ
         s = in-slot .0
 
-        changed : ViewChanged p c m s empty
-        changed = evict-view p c m r f evicted w refl (pins-in p f live) z s (in-slot .1)
+        live : pins p f ≢ evicted
+        live n = omega arith
 
-        drop : (g : ℕ) → mapped p f ≡ suc g → Simulates p c q m
-        drop g n =
-            let holding : seqSlot q s ≡ stores g f = related .slots s ∙ (ap (viewFrame p) (in-slot .1) ∙ view-mapped p f live n) in
-            record {
-              slots = set (q .slots) s empty;
-              next = record { stage = 15; wants = t .wants; grants = t .grants };
-              rule = rw (ap (λ (x : Observable). x .answer) o) (drops {j = 15} (rw (client-related .stage ∙ e) tt) s holding (unheld f g z unpinned n));
-              page-count =
-                  rw (ap (λ (x : Observable). x .counted) o)
-                  (omega (arith, pageCount-set (q .slots) s empty (omega (arith, related .size, changed .inside)), ap occupancy holding));
-              related = one-slot m _ (keeping m 15 Drop o) (related-working client-related (works-on m 15 Drop o busy) (rw e refl)) changed;
-            }
+        g : (g : ℕ) × (mapped p f ≡ suc g)
+        g = some-suc (mapped p f) (unpinned-mapped p r f z unpinned in-slot)
 
-        by-owner : (mapped p f ≢ 0) ⊎ (((d : ℕ) × (client p d .own ≡ f)) ⊎ Orphan p f) → Simulates p c q m
-        by-owner (inl n) = let g = some-suc (mapped p f) n in drop (g .0) (g .1)
-        by-owner (inr (inl d)) =
-            let two : pins p f ≡ pinned 1 = rw (d .1) at (own-pins p r (d .0) (λ n. z (sym (d .1) ∙ n))) in
-            absurd (omega arith)
-        by-owner (inr (inr lone)) = absurd (lone .no-slot s (in-slot .1))
+        holding : seqSlot q s ≡ stores (g .0) f
+        holding = related .slots s ∙ (ap (viewFrame p) (in-slot .1) ∙ view-mapped p f live (g .1))

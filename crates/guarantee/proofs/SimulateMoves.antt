@@ -15,7 +15,6 @@ use Rattle.pool.specs.declared.Pool.{Pool}
 use Rattle.pool.specs.declared.Client.{Client}
 use Rattle.pool.specs.declared.Move.{Move}
 use Rattle.pool.specs.declared.Answer.the-variants.{Working}
-use Rattle.pool.specs.declared.Counted.the-variants.{Nothing, Hit, Join, Admitted, Revived}
 use Rattle.pool.specs.declared.GrantChange.the-variants.{Same}
 use Rattle.pool.specs.declared.Write.the-variants.{PutPins}
 use Rattle.invariant.proofs.Reached.{Reached, Knows}
@@ -43,7 +42,7 @@ module _ {p : Pool} {c : ℕ} {q : Sequential} (acting : Acting p c q) (busy : c
   room : k .held < maxHeld
   room = omega (arith, r .ranges .working-held c busy)
 
-  continues-at : (i j : ℕ) → k .stage ≡ i → {m : Move} → observable m ≡ workingMove k j Nothing → T (continuing i j) → SameView p c m → Simulates p c q m
+  continues-at : (i j : ℕ) → k .stage ≡ i → {m : Move} → observable m ≡ workingMove k j → T (continuing i j) → SameView p c m → Simulates p c q m
   continues-at i j e o t = continues-one acting busy i j e o (continuing-means i j t)
 
   -- the own frame is in no entry
@@ -53,7 +52,7 @@ module _ {p : Pool} {c : ℕ} {q : Sequential} (acting : Acting p c q) (busy : c
   pub simulated : {m : Move} → Edge p c m → Simulates p c q m
   simulated {m} (moves-on n j w h) =
       continues-one acting busy (k .stage) j refl
-      (λ i. record { answer = Working j; counted = Nothing; grants = Same; stage = j; page = h .same .page i; held = h .same .held i })
+      (λ i. record { answer = Working j; grants = Same; stage = j; page = h .same .page i; held = h .same .held i })
       (onward-continuing (h .stages)) (counters-view p c m r (counters-test (h .counters-only)))
   simulated {m} (found1 e _) = continues-at 1 2 e refl tt (counters-view p c m r tt)
   simulated {m} (found18 e _) = continues-at 18 19 e refl tt (counters-view p c m r tt)
@@ -61,8 +60,8 @@ module _ {p : Pool} {c : ℕ} {q : Sequential} (acting : Acting p c q) (busy : c
   simulated {m} (forgets22 e _) = continues-at 22 23 e refl tt (counters-view p c m r tt)
   simulated (pins2 e l) = adds-one acting busy 2 3 e tt refl refl (known 2 e) l refl refl
   simulated (pins19 e l) = adds-one acting busy 19 20 e tt refl refl (known 19 e .1) l refl refl
-  simulated (gets3 e) = answers-one acting busy 3 Hit e tt refl refl refl (known 3 e) room refl tt
-  simulated (gets21 e) = answers-one acting busy 21 Join e tt refl refl refl (known 21 e) room refl tt
+  simulated (gets3 e) = answers-one acting busy 3 e tt refl (known 3 e) room refl tt
+  simulated (gets21 e) = answers-one acting busy 21 e tt refl (known 21 e) room refl tt
   simulated (takes e z) =
       continues-at 4 5 e refl tt
       (take-view p c _ r (freeFrame p) (k .page) (pinned 1) 1 refl (unreferenced-means p (freeFrame p) z (free-found p (r .shape) z .1) .no-slot))
@@ -80,12 +79,12 @@ module _ {p : Pool} {c : ℕ} {q : Sequential} (acting : Acting p c q) (busy : c
       continues-at 17 18 e refl tt (remove-view p c _ r (entryOf p g) g none refl (f .inside) (ap (pins p) (f .entry-frame ∙ h) ∙ known 17 e .1 .1) refl)
   simulated (admits e l u) =
       let free = unused-found p (r .shape) u in
-      admits-one acting busy 18 Admitted e tt refl refl refl (known 18 e) room
+      admits-one acting busy 18 e tt refl (known 18 e) room
       (λ f z n. absurd (z (sym (mapped-lookup p (r .shape) (r .mapping .pages-distinct) f (k .page) z n .1) ∙ l)))
       (unusedEntry p) (free .0) (ap (pins p) (free .1) ∙ none-evicted p (r .shape)) refl refl
   simulated (revives e l) =
       let f = lookup-found p (r .shape) (k .page) (λ z. known 22 e .1 .0 (sym l ∙ z)) in
-      admits-one acting busy 22 Revived e tt refl refl refl (known 22 e .0) room
+      admits-one acting busy 22 e tt refl (known 22 e .0) room
       (λ f z n. ap (pins p) (sym (mapped-lookup p (r .shape) (r .mapping .pages-distinct) f (k .page) z n .1) ∙ l) ∙ known 22 e .1 .1)
       (entryOf p (k .page)) (f .inside) (ap (pins p) (f .entry-frame ∙ l) ∙ known 22 e .1 .1) refl refl
   simulated (evicts20 e) = evicts 20 21 e tt (known 20 e .0 .0)

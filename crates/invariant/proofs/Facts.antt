@@ -163,6 +163,15 @@ module _ (p : Pool) (r : Reached p) where
 
   -- ---- victims
 
+  -- a frame that stands in a slot and has no pins has an entry: it is no own frame, which is pinned, and no orphan, which has no slot
+  pub unpinned-mapped : (f : ℕ) → f ≢ none → pins p f ≡ pinned 0 → InSlot p f → mapped p f ≢ 0
+  unpinned-mapped f z e s = go (r .mapping .mapped-or-owned f z (λ n. omega arith))
+    where
+      go : (mapped p f ≢ 0) ⊎ (((d : ℕ) × (client p d .own ≡ f)) ⊎ Orphan p f) → mapped p f ≢ 0
+      go (inl n) = n
+      go (inr (inl d)) = absurd (omega (arith, ap (pins p) (d .1), own-pins (d .0) (λ n. z (sym (d .1) ∙ n))))
+      go (inr (inr o)) = absurd (o .no-slot (s .0) (s .1))
+
   -- an entry that stage 17 does not find is gone
   pub lookup-unmapped : (v : ℕ) → v ≢ none → lookup p (page p v) ≢ v → mapped p v ≡ 0
   lookup-unmapped v z n =

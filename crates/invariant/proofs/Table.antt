@@ -50,7 +50,7 @@ module _ (p : Pool) (f : ℕ) where
   pub mapped-zero : ((i : ℕ) → entryFrame p i ≢ f) → mapped p f ≡ 0
   mapped-zero h = elim (ℕ-discrete (mapped p f) 0) [ yes e ↦ e | no n ↦ (let r = mapped-entry n in absurd (h (r .0) (r .1))) ]
 
-  pub mapped-is : Distinct (entryFrame p) none → f ≢ none → (i : ℕ) → entryFrame p i ≡ f → mapped p f ≡ suc (entryPage p i)
+  mapped-is : Distinct (entryFrame p) none → f ≢ none → (i : ℕ) → entryFrame p i ≡ f → mapped p f ≡ suc (entryPage p i)
   unfolding mapped
   mapped-is apart z i e =
       scan-only (λ i. eqb (entryFrame p i) f) (λ i. suc (entryPage p i)) 0 0 (total p) i (omega arith)
