@@ -13,9 +13,9 @@ use Rattle.pool.specs.Answers.{refusalOf}
 use Rattle.pool.specs.State.{none, evicted, pinned, clientCount, slot, page, pins, count, client}
 use Rattle.pool.specs.Table.{lookup, entryOf, unusedEntry}
 use Rattle.pool.specs.Frames.{freeFrame}
-use Rattle.pool.specs.Moves.{withOwn, withFound, withVictim, withSeen, withPlace, sweeping, works, worksAs, stuck, granted, refused15}
+use Rattle.pool.specs.Moves.{withOwn, withFound, withVictim, withSeen, withPlace, sweeping, works, stuck, granted, refused15}
 use Rattle.pool.specs.Apply.{apply}
-use Rattle.pool.specs.Stages.{around, advanced, raised, nextSlot, busyVisit, noStage, stages, stageMove, stage1, stage2, stage3, stage4, stage5, stage6}
+use Rattle.pool.specs.Stages.{around, advanced, growth, raised, nextSlot, busyVisit, noStage, stages, stageMove, stage1, stage2, stage3, stage4, stage5, stage6}
 use Rattle.pool.specs.Stages.{stage7, stage8, stage9, stage10, stage11, stage12, stage13, stage14, stage15, stage16, stage17, stage18}
 use Rattle.pool.specs.Calls.{caller, refusalAt, refusal, beginMove, moveOf, callOf}
 use Rattle.pool.specs.declared.Pool.{Pool}
@@ -24,7 +24,7 @@ use Rattle.pool.specs.declared.Move.{Move}
 use Rattle.pool.specs.declared.Call.the-variants.{Begin, Step}
 use Rattle.pool.specs.declared.Answer.the-variants.{Done}
 use Rattle.pool.specs.declared.Counted.{Counted}
-use Rattle.pool.specs.declared.Counted.the-variants.{Hit, Admitted, Drop}
+use Rattle.pool.specs.declared.Counted.the-variants.{Nothing}
 use Rattle.pool.specs.declared.Write.{Write}
 use Rattle.pool.specs.declared.Write.the-variants.{Keep, PutSlot, PutPins, PutCount, TakeFrame, PutEntry, PutHand, PutFree}
 use Rattle.laws.specs.Choices.{chosen, passed}
@@ -51,9 +51,13 @@ pub record AloneAt (p : Pool) (b g i : ℕ) : Type 0 where
   pub stage : client p b .stage ≡ i
   pub page : client p b .page ≡ g
 
--- its step is the move m
+-- its step is the move m, but for what that counts
 pub record StepIs (p : Pool) (b : ℕ) (m : Move) : Type 0 where
-  pub is : callOf p (Step b) ≡ outcomeOf p b m
+  pub answer-is : callOf p (Step b) .answer ≡ m .answer
+  pub pool-is : callOf p (Step b) .pool ≡ apply p b m
+
+abbrev pub uncounted : Move → Move
+uncounted m = record { next = m .next; grants = m .grants; write = m .write; answer = m .answer; counted = Nothing }
 
 module _ {p : Pool} {b g i : ℕ} (on : AloneAt p b g (suc i)) where
   stage-is : stageMove p (client p b) ≡ getD stages (suc i) noStage p (client p b)
@@ -64,10 +68,9 @@ module _ {p : Pool} {b g i : ℕ} (on : AloneAt p b g (suc i)) where
   allows = step-allowed p b (on .reached) (on .here) (λ z. let q : suc i ≡ 0 = sym (on .stage) ∙ z in omega arith)
 
   -- where the stage comes to m, the step is m
-  step-is : {m : Move} → getD stages (suc i) noStage p (client p b) ≡ m → StepIs p b m
-  unfolding moveOf caller
-  step-is {m} e =
-      record { is = call-moves p (Step b) (on .reached) allows ∙ ap (outcomeOf p b) (stage-is ∙ e) }
+  step-is : {m : Move} → getD stages (suc i) noStage p (client p b) ≡ m → StepIs p b (uncounted m)
+  unfolding moveOf caller apply
+  step-is e = let w = call-moves p (Step b) (on .reached) allows ∙ ap (outcomeOf p b) (stage-is ∙ e) in record { answer-is = same-answer w; pool-is = same-pool w }
 
   -- a stuck branch is not taken
   not-stuck : (n v : ℕ) {m : Move} → getD stages (suc i) noStage p (client p b) ≡ choose (eqb n v) (stuck (client p b)) m
@@ -81,14 +84,11 @@ module _ {p : Pool} {b g i : ℕ} (on : AloneAt p b g (suc i)) where
 -- ---- the pool after the step
 
 module _ {p : Pool} {b : ℕ} {m : Move} (w : StepIs p b m) where
-  pub answer-is : callOf p (Step b) .answer ≡ m .answer
-  answer-is = same-answer (w .is)
-
   -- what holds of the move's pool and its client holds after the step
   pub after-step : Reached p → b < clientCount p → (P : Pool → Client → Type 0) → P (apply p b m) (m .next)
       → P (callOf p (Step b) .pool) (client (callOf p (Step b) .pool) b)
   after-step r h P x =
-      subst (λ (q : Pool). P q (client q b)) (sym (same-pool (w .is)))
+      subst (λ (q : Pool). P q (client q b)) (sym (w .pool-is))
       (subst (P (apply p b m)) (sym (client-same p b m (r .shape) h)) x)
 
   pub alone-next : {g i : ℕ} (j : ℕ) → AloneAt p b g i → m .next .stage ≡ j → m .next .page ≡ client p b .page → AloneAt (callOf p (Step b) .pool) b g j
@@ -171,7 +171,7 @@ module _ (p : Pool) (b g : ℕ) where
   unfolding stage2
   move2 on z = step-is on (passed _ _ _ (ne-eqb _ evicted z))
 
-  pub move3 : AloneAt p b g 3 → StepIs p b (grants k f (PutCount f (raised (p .cap) (count p f))) Hit)
+  pub move3 : AloneAt p b g 3 → StepIs p b (grants k f (PutCount f (raised (p .cap) (count p f))) Nothing)
   unfolding stage3
   move3 on = step-is on (granted-is on _ _ _)
 
@@ -233,7 +233,7 @@ module _ (p : Pool) (b g : ℕ) where
   unfolding busyVisit
   move12-busy on h z = step-is on (visit on h ∙ passed _ _ _ (ne-eqb _ (p .size) z))
 
-  pub move12-refused : AloneAt p b g 12 → pinned 1 ≤ pins p v → k .busy + 1 ≡ p .size → StepIs p b (refused15 k)
+  pub move12-refused : AloneAt p b g 12 → pinned 1 ≤ pins p v → k .busy + 1 ≡ p .size → StepIs p b (uncounted (refused15 k))
   unfolding busyVisit
   move12-refused on h e = step-is on (visit on h ∙ chosen _ _ _ (eq-eqb _ (p .size) e))
 
@@ -245,7 +245,7 @@ module _ (p : Pool) (b g : ℕ) where
   unfolding stage13
   move13-more on z = step-is on (passed _ _ _ (ne-eqb _ 0 z))
 
-  pub move14 : AloneAt p b g 14 → pins p v ≡ pinned 0 → StepIs p b (worksAs k Drop 15 (PutPins v evicted))
+  pub move14 : AloneAt p b g 14 → pins p v ≡ pinned 0 → StepIs p b (works k 15 (PutPins v evicted))
   unfolding stage14
   move14 on e = step-is on (chosen _ _ _ (eq-eqb _ (pinned 0) e))
 
@@ -253,7 +253,8 @@ module _ (p : Pool) (b g : ℕ) where
   unfolding stage15
   move15 on e = step-is on (chosen _ _ _ (eq-eqb _ v e))
 
-  pub move16 : AloneAt p b g 16 → StepIs p b (stage16 k (p .hand) (p .size))
+  pub move16 : AloneAt p b g 16 → StepIs p b (works k 17 (PutHand (advanced (p .hand) (growth (p .size) (k .place) (k .start % p .size)))))
+  unfolding stage16
   move16 on = step-is on refl
 
   pub move17-removes : AloneAt p b g 17 → lookup p (page p v) ≡ v → StepIs p b (works (withVictim k none) 18 (PutEntry (entryOf p (page p v)) (page p v) none))
@@ -264,6 +265,6 @@ module _ (p : Pool) (b g : ℕ) where
   unfolding stage17
   move17-keeps on z = step-is on (passed _ _ _ (ne-eqb _ v z))
 
-  pub move18 : AloneAt p b g 18 → lookup p g ≡ none → StepIs p b (grants k (k .own) (PutEntry (unusedEntry p) (k .page) (k .own)) Admitted)
+  pub move18 : AloneAt p b g 18 → lookup p g ≡ none → StepIs p b (grants k (k .own) (PutEntry (unusedEntry p) (k .page) (k .own)) Nothing)
   unfolding stage18
   move18 on a = step-is on (not-stuck on (unusedEntry p) none (chosen _ _ _ (eq-eqb _ none (ap (lookup p) (on .page) ∙ a))) ∙ granted-is on _ _ _)

@@ -36,7 +36,7 @@ use Rattle.invariant.proofs.Calls.{reached-after}
 use Rattle.guarantee.specs.Runs.{events, At}
 use Rattle.guarantee.specs.Claims.{GrantedWithin, WithinLimits, Claim-limits}
 use Rattle.guarantee.proofs.TurnedDown.{turned, one-move, turned-or-move}
-use Rattle.guarantee.proofs.AloneSteps.{AloneAt, StepIs, begun-is, begun-alone, answer-is, after-step, alone-next, move1, move1-found, move2, move3}
+use Rattle.guarantee.proofs.AloneSteps.{AloneAt, StepIs, begun-is, begun-alone, after-step, alone-next, move1, move1-found, move2, move3}
 use Rattle.guarantee.proofs.AloneSteps.{move4, move5, move6, move7, move8, move8-next, move9, move18}
 
 -- ---- the pool after a step
@@ -65,7 +65,7 @@ module _ (p : Pool) (b n : ℕ) where
 -- ---- a hit
 
 hit3 : (p : Pool) (b g : ℕ) → AloneAt p b g 3 → GrantedWithin p b 1
-hit3 p b g on = within-now p b 0 (client p b .found) (answer-is (move3 p b g on))
+hit3 p b g on = within-now p b 0 (client p b .found) (move3 p b g on .answer-is)
 
 hit2 : (p : Pool) (b g : ℕ) → AloneAt p b g 2 → pins p (client p b .found) ≢ evicted → GrantedWithin p b 2
 hit2 p b g on z = within-next p b 1 (hit3 _ b g (alone-next (move2 p b g on z) 3 on refl refl))
@@ -80,7 +80,7 @@ hit1 p b g on n z =
 -- ---- an admission to an empty slot
 
 admission18 : (p : Pool) (b g : ℕ) → AloneAt p b g 18 → lookup p g ≡ none → GrantedWithin p b 1
-admission18 p b g on a = within-now p b 0 (client p b .own) (answer-is (move18 p b g on a))
+admission18 p b g on a = within-now p b 0 (client p b .own) (move18 p b g on a .answer-is)
 
 admission9 : (p : Pool) (b g : ℕ) → AloneAt p b g 9 → lookup p g ≡ none → GrantedWithin p b 2
 admission9 p b g on a = let w = move9 p b g on in within-next p b 1 (admission18 _ b g (alone-next w 18 on refl refl) (absent-next on w tt a))

@@ -17,7 +17,6 @@ use Rattle.pool.specs.Table.{lookup, resident}
 use Rattle.pool.specs.Frames.{freeFrame}
 use Rattle.pool.specs.Moves.{withOwn, works}
 use Rattle.pool.specs.Apply.{slotsAfter, pinsAfter, freeAfter, entryPagesAfter, entryFramesAfter, apply}
-use Rattle.pool.specs.Stages.{stage16}
 use Rattle.pool.specs.Calls.{callOf}
 use Rattle.pool.specs.declared.Pool.{Pool}
 use Rattle.pool.specs.declared.Client.{Client}
@@ -35,7 +34,7 @@ use Rattle.invariant.proofs.NeverFails.{finds-some}
 use Rattle.invariant.proofs.StageTests.{T-false}
 use Rattle.invariant.proofs.Steps.{around-ok}
 use Rattle.guarantee.specs.Claims.{AllHeld}
-use Rattle.guarantee.proofs.AloneSteps.{AloneAt, StepIs, answer-is, alone-next, move1, move1-found, move2, move3, move4, move5, move5-none, move6, move7}
+use Rattle.guarantee.proofs.AloneSteps.{AloneAt, StepIs, alone-next, move1, move1-found, move2, move3, move4, move5, move5-none, move6, move7}
 use Rattle.guarantee.proofs.AloneSteps.{move8, move8-next, move9, move10, move11, move12-evicted, move12-unpinned, move12-busy, move12-refused}
 use Rattle.guarantee.proofs.AloneSteps.{move13-zero, move13-more, move14, move15, move16, move17-removes, move17-keeps, move18}
 use Rattle.guarantee.proofs.SinceBegin.{SameAsBegin, counters-slot, counters-pins, same-as-begin-next, absent-removed}
@@ -130,22 +129,22 @@ module _ (p₀ : Pool) (b g : ℕ) (reached : Reached p₀) (rest : (c : ℕ) �
         elim (ℕ-discrete (lookup p g) none) [
           | yes e ↦
               let w = move1 p b g o e in
-              goes-on 4 (answer-is w) (at4 (still-undecided 4 (record { alone-at = o; since-begin = h; absent = e }) w refl refl tt))
+              goes-on 4 (w .answer-is) (at4 (still-undecided 4 (record { alone-at = o; since-begin = h; absent = e }) w refl refl tt))
           | no z ↦
               let w = move1-found p b g o z in
               let live = found-not-evicted p₀ reached rest g (λ e. z (h .lookup ∙ e)) in
               let found : pins p (lookup p (k .page)) ≡ pins p₀ (lookup p₀ g) =
               ap (λ (x : ℕ). pins p (lookup p x)) (o .page) ∙ (same (lookup p g) ∙ ap (pins p₀) (h .lookup)) in
-              goes-on 2 (answer-is w) (at2 (alone-next w 2 o refl refl)
+              goes-on 2 (w .answer-is) (at2 (alone-next w 2 o refl refl)
               (next-is o w (λ q x. pins q (x .found) ≢ evicted) (λ e. live (sym found ∙ (sym (counters-pins p b _ (o .reached) tt _) ∙ e))))
               (λ f. true≢false (sym (ap not (ne-eqb _ evicted live)) ∙ f .0)))
         ]
 
     result2 : AloneAt p b g 2 → pins p (k .found) ≢ evicted → MustGrant → StepResult (callOf p (Step b))
-    result2 o z n = let w = move2 p b g o z in goes-on 3 (answer-is w) (at3 (alone-next w 3 o refl refl) n)
+    result2 o z n = let w = move2 p b g o z in goes-on 3 (w .answer-is) (at3 (alone-next w 3 o refl refl) n)
 
     result3 : AloneAt p b g 3 → MustGrant → StepResult (callOf p (Step b))
-    result3 o n = let w = move3 p b g o in granted (k .found) (answer-is w) (next-is o w (λ _ x. x .stage ≡ 0) refl) n
+    result3 o n = let w = move3 p b g o in granted (k .found) (w .answer-is) (next-is o w (λ _ x. x .stage ≡ 0) refl) n
 
     -- 4 takes a frame that stands in no slot
     result4 : Undecided p 4 → StepResult (callOf p (Step b))
@@ -156,7 +155,7 @@ module _ (p₀ : Pool) (b g : ℕ) (reached : Reached p₀) (rest : (c : ℕ) �
         let m : Move = works (withOwn k (freeFrame p)) 5 (TakeFrame (freeFrame p) (k .page) (pinned 1) 1) in
         let z : freeFrame p ≢ none = finds-some p (o .reached) b (o .here) (o .stage) in
         let fresh : Unreferenced p (freeFrame p) = unreferenced-means p (freeFrame p) z (free-found p (o .reached .shape) z .1) in
-        goes-on 5 (answer-is w) (at5 (record {
+        goes-on 5 (w .answer-is) (at5 (record {
           alone-at = alone-next w 5 o refl refl;
           since-begin = next-is o w (λ q _. SameAsBegin p₀ q g) (record {
             slots = λ i. slot-kept p b m refl i ∙ e .since-begin .slots i;
@@ -173,11 +172,11 @@ module _ (p₀ : Pool) (b g : ℕ) (reached : Reached p₀) (rest : (c : ℕ) �
     result5 e =
         let o = e .alone-at in
         elim (ℕ-discrete (p .free) 0) [
-          | yes f ↦ (let w = move5-none p b g o f in goes-on 10 (answer-is w) (at10 (still-undecided 10 e w refl refl tt) (next-is o w (λ q _. q .free ≡ 0) f)))
+          | yes f ↦ (let w = move5-none p b g o f in goes-on 10 (w .answer-is) (at10 (still-undecided 10 e w refl refl tt) (next-is o w (λ q _. q .free ≡ 0) f)))
           | no f ↦
               let w = move5 p b g o f in
               let i = some-empty p (λ q. f (omega (arith, o .reached .evictions .empties))) in
-              goes-on 6 (answer-is w) (at6
+              goes-on 6 (w .answer-is) (at6
               (decide 6 o (e .absent)
               (λ h. h .1 (i .0) (omega (arith, i .1, e .since-begin .size)) .0 (sym (e .since-begin .slots (i .0)) ∙ i .2)) w refl refl tt)
               (next-is o w (λ q x. q .free ≡ x .seen) refl))
@@ -186,39 +185,38 @@ module _ (p₀ : Pool) (b g : ℕ) (reached : Reached p₀) (rest : (c : ℕ) �
     -- ---- the stages after which the request is granted
 
     result6 : Decided p 6 → p .free ≡ k .seen → StepResult (callOf p (Step b))
-    result6 e f = let w = move6 p b g (e .alone-at) f in goes-on 7 (answer-is w) (at7 (still-decided 7 e w refl refl tt))
+    result6 e f = let w = move6 p b g (e .alone-at) f in goes-on 7 (w .answer-is) (at7 (still-decided 7 e w refl refl tt))
 
     result7 : Decided p 7 → StepResult (callOf p (Step b))
-    result7 e = let w = move7 p b g (e .alone-at) in goes-on 8 (answer-is w) (at8 (still-decided 8 e w refl refl tt))
+    result7 e = let w = move7 p b g (e .alone-at) in goes-on 8 (w .answer-is) (at8 (still-decided 8 e w refl refl tt))
 
     result8 : Decided p 8 → StepResult (callOf p (Step b))
     result8 e =
         elim (ℕ-discrete (slot p (k .place)) none) [
-          | yes q ↦ (let w = move8 p b g (e .alone-at) q in goes-on 9 (answer-is w) (at9 (still-decided 9 e w refl refl tt)))
-          | no q ↦ (let w = move8-next p b g (e .alone-at) q in goes-on 8 (answer-is w) (at8 (still-decided 8 e w refl refl tt)))
+          | yes q ↦ (let w = move8 p b g (e .alone-at) q in goes-on 9 (w .answer-is) (at9 (still-decided 9 e w refl refl tt)))
+          | no q ↦ (let w = move8-next p b g (e .alone-at) q in goes-on 8 (w .answer-is) (at8 (still-decided 8 e w refl refl tt)))
         ]
 
     result9 : Decided p 9 → StepResult (callOf p (Step b))
-    result9 e = let w = move9 p b g (e .alone-at) in goes-on 18 (answer-is w) (at18 (still-decided 18 e w refl refl tt))
+    result9 e = let w = move9 p b g (e .alone-at) in goes-on 18 (w .answer-is) (at18 (still-decided 18 e w refl refl tt))
 
     result14 : Decided p 14 → VictimAtPlace p → pins p (k .victim) ≡ pinned 0 → StepResult (callOf p (Step b))
     unfolding slotsAfter
     result14 e v h =
         let w = move14 p b g (e .alone-at) h in
-        goes-on 15 (answer-is w) (at15 (still-decided 15 e w refl refl tt)
+        goes-on 15 (w .answer-is) (at15 (still-decided 15 e w refl refl tt)
         (next-is (e .alone-at) w (λ q x. slot q (x .place) ≡ x .victim) (slot-kept p b _ refl _ ∙ v)))
 
     result15 : Decided p 15 → VictimAtPlace p → StepResult (callOf p (Step b))
-    result15 e v = let w = move15 p b g (e .alone-at) v in goes-on 16 (answer-is w) (at16 (still-decided 16 e w refl refl tt))
+    result15 e v = let w = move15 p b g (e .alone-at) v in goes-on 16 (w .answer-is) (at16 (still-decided 16 e w refl refl tt))
 
     result16 : Decided p 16 → StepResult (callOf p (Step b))
-    unfolding stage16
-    result16 e = let w = move16 p b g (e .alone-at) in goes-on 17 (answer-is w) (at17 (still-decided 17 e w refl refl tt))
+    result16 e = let w = move16 p b g (e .alone-at) in goes-on 17 (w .answer-is) (at17 (still-decided 17 e w refl refl tt))
 
     result18 : Decided p 18 → StepResult (callOf p (Step b))
     result18 e =
         let w = move18 p b g (e .alone-at) (e .absent) in
-        granted (k .own) (answer-is w) (next-is (e .alone-at) w (λ _ x. x .stage ≡ 0) refl) (e .must-grant)
+        granted (k .own) (w .answer-is) (next-is (e .alone-at) w (λ _ x. x .stage ≡ 0) refl) (e .must-grant)
 
     -- 17 may empty an entry of the table
     result17 : Decided p 17 → StepResult (callOf p (Step b))
@@ -226,10 +224,10 @@ module _ (p₀ : Pool) (b g : ℕ) (reached : Reached p₀) (rest : (c : ℕ) �
     result17 e =
         let o = e .alone-at in
         elim (ℕ-discrete (lookup p (page p (k .victim))) (k .victim)) [
-          | no z ↦ (let w = move17-keeps p b g o z in goes-on 18 (answer-is w) (at18 (still-decided 18 e w refl refl tt)))
+          | no z ↦ (let w = move17-keeps p b g o z in goes-on 18 (w .answer-is) (at18 (still-decided 18 e w refl refl tt)))
           | yes q ↦
               let w = move17-removes p b g o q in
-              goes-on 18 (answer-is w) (at18 (record {
+              goes-on 18 (w .answer-is) (at18 (record {
                 alone-at = alone-next w 18 o refl refl;
                 absent = next-is o w (λ x _. lookup x g ≡ none) (absent-removed p b _ _ _ refl (o .reached) g (e .absent));
                 must-grant = e .must-grant;
@@ -276,14 +274,14 @@ module _ (p₀ : Pool) (b g : ℕ) (reached : Reached p₀) (rest : (c : ℕ) �
     unfolding freeAfter
     result10 e f =
         let w = move10 p b g (e .alone-at) in
-        goes-on 11 (answer-is w) (at11 (still-undecided 11 e w refl refl tt)
+        goes-on 11 (w .answer-is) (at11 (still-undecided 11 e w refl refl tt)
         (sweeps (e .alone-at) w tt f (mod-lt (p .hand) (e .alone-at .reached .shape .size-low)) (λ j l x. absurd (before-none _ (p .size) j l x))))
 
     result11 : Undecided p 11 → Swept p → StepResult (callOf p (Step b))
     unfolding freeAfter
     result11 e s =
         let w = move11 p b g (e .alone-at) (no-empty (e .alone-at) tt (s .none-free) (k .place) (s .inside)) in
-        goes-on 12 (answer-is w) (at12 (still-undecided 12 e w refl refl tt) (sweeps (e .alone-at) w tt (s .none-free) (s .inside) (s .run))
+        goes-on 12 (w .answer-is) (at12 (still-undecided 12 e w refl refl tt) (sweeps (e .alone-at) w tt (s .none-free) (s .inside) (s .run))
         (next-is (e .alone-at) w (λ q x. slot q (x .place) ≡ x .victim) (counters-slot p b _ (e .alone-at .reached) tt _)))
 
     -- the busy run grows by the slot visited
@@ -320,24 +318,24 @@ module _ (p₀ : Pool) (b g : ℕ) (reached : Reached p₀) (rest : (c : ℕ) �
         go : Dec (pins p (k .victim) ≡ evicted) → Dec (pins p (k .victim) ≡ pinned 0) → Dec (k .busy + 1 ≡ p .size) → StepResult (callOf p (Step b))
         go (yes d) _ _ =
             let w = move12-evicted p b g o d in
-            goes-on 15 (answer-is w) (at15 (decide 15 o (e .absent) (not-held (e .since-begin) (k .place) (s .inside) (omega (arith, there))) w refl refl tt)
+            goes-on 15 (w .answer-is) (at15 (decide 15 o (e .absent) (not-held (e .since-begin) (k .place) (s .inside) (omega (arith, there))) w refl refl tt)
             (next-is o w (λ q x. slot q (x .place) ≡ x .victim) (counters-slot p b _ (o .reached) tt _ ∙ v)))
         go (no _) (yes d) _ =
             let w = move12-unpinned p b g o d in
-            goes-on 13 (answer-is w) (at13 (still-undecided 13 e w refl refl tt) (sweeps o w tt (s .none-free) (s .inside) (s .run))
+            goes-on 13 (w .answer-is) (at13 (still-undecided 13 e w refl refl tt) (sweeps o w tt (s .none-free) (s .inside) (s .run))
             (next-is o w (λ q x. slot q (x .place) ≡ x .victim) (counters-slot p b _ (o .reached) tt _ ∙ v))
             (next-is o w (λ q x. pins q (x .victim) ≡ pinned 0) (counters-pins p b _ (o .reached) tt _ ∙ d))
             (not-held (e .since-begin) (k .place) (s .inside) (omega (arith, there))))
         go (no x) (no y) (no z) =
             let h : pinned 1 ≤ pins p (k .victim) = omega arith in
             let w = move12-busy p b g o h z in
-            goes-on 11 (answer-is w) (at11 (still-undecided 11 e w refl refl tt)
+            goes-on 11 (w .answer-is) (at11 (still-undecided 11 e w refl refl tt)
             (sweeps o w tt (s .none-free) (around-ok (p .size) (k .place) (o .reached .shape .size-low))
             (λ j l x. grown s (omega (arith, there)) j l (before-next (k .place) (k .busy) (p .size) j (s .inside) l x))))
         go (no x) (no y) (yes z) =
             let h : pinned 1 ≤ pins p (k .victim) = omega arith in
             let w = move12-refused p b g o h z in
-            refused (answer-is w) (next-is o w (λ _ x. x .stage ≡ 0) refl) (absent₀ e, all-held e s (omega arith) (omega (arith, there)))
+            refused (w .answer-is) (next-is o w (λ _ x. x .stage ≡ 0) refl) (absent₀ e, all-held e s (omega arith) (omega (arith, there)))
 
     result13 : Undecided p 13 → Swept p → VictimAtPlace p → pins p (k .victim) ≡ pinned 0 → MustGrant → StepResult (callOf p (Step b))
     unfolding freeAfter
@@ -346,12 +344,12 @@ module _ (p₀ : Pool) (b g : ℕ) (reached : Reached p₀) (rest : (c : ℕ) �
         elim (ℕ-discrete (count p (k .victim) - 1) 0) [
           | yes c ↦
               let w = move13-zero p b g o c in
-              goes-on 14 (answer-is w) (at14 (decide 14 o (e .absent) n w refl refl tt)
+              goes-on 14 (w .answer-is) (at14 (decide 14 o (e .absent) n w refl refl tt)
               (next-is o w (λ q x. slot q (x .place) ≡ x .victim) (counters-slot p b _ (o .reached) tt _ ∙ v))
               (next-is o w (λ q x. pins q (x .victim) ≡ pinned 0) (counters-pins p b _ (o .reached) tt _ ∙ h)))
           | no c ↦
               let w = move13-more p b g o c in
-              goes-on 11 (answer-is w) (at11 (still-undecided 11 e w refl refl tt)
+              goes-on 11 (w .answer-is) (at11 (still-undecided 11 e w refl refl tt)
               (sweeps o w tt (s .none-free) (around-ok (p .size) (k .place) (o .reached .shape .size-low)) (λ j l x. absurd (before-none _ (p .size) j l x))))
         ]
 
