@@ -9,6 +9,7 @@ use native.Mathlib.Omega.{arith}
 use lib.Dec.{eqb}
 use lib.ListN.{getD}
 use lib.Seq.{getD-set-other}
+use Rattle.pool.specs.Choose.{member}
 use Rattle.pool.specs.State.{none, evicted, slot, pins, client, grantPage, grantFrame}
 use Rattle.pool.specs.Grants.{held}
 use Rattle.pool.specs.Calls.{callOf}
@@ -22,7 +23,7 @@ use Rattle.invariant.proofs.Grants.{grantsOf}
 use Rattle.invariant.proofs.Calls.{reached-call}
 use Rattle.guarantee.specs.Runs.{eventOf, events, along, Throughout}
 use Rattle.guarantee.specs.Sequential as Plain
-use Rattle.guarantee.specs.Sequential.{SeqSlot, SeqClient, Sequential, seqClient, member, Keeps, StepRule, adds, admits, drops, answers, continues}
+use Rattle.guarantee.specs.Sequential.{SeqSlot, SeqClient, Sequential, seqClient, Keeps, StepRule, adds, admits, drops, answers, continues}
 use Rattle.guarantee.specs.Sequential.{refuses, Rule, turns-down, begins, releases, steps}
 use Rattle.guarantee.specs.Claims.{OneCopy, BecomesEvicted, HeldPinned, NoHeldEvicted}
 use Rattle.guarantee.proofs.Along.{throughout, at-each}
@@ -89,7 +90,7 @@ not-evicted p x f r h out = v .not-evicted (ap (pins (callOf p x .pool)) (v .fra
     granted : member g (seqClient (view p) c .grants) ≡ true
     granted =
         let n = sum-has (λ j. one (eqb (grantPage p c j) g)) (client p c .held) i (grant .inside) in
-        is-member g _ (λ z. omega (arith, related .clients c .grants g, one-is g))
+        is-member g (seqClient (view p) c .grants) (λ z. omega (arith, related .clients c .grants g, one-is g))
 
     after : Followed (view p) x (callOf p x)
     after = followed r related x

@@ -10,7 +10,7 @@ use lib.Dec.{eqb, ltb}
 use lib.ListN.{length}
 use borrow.Author.Tests.{eqb-true, eq-eqb, ne-eqb}
 use Rattle.pool.specs.Limits.{maxHeld}
-use Rattle.pool.specs.Choose.{choose}
+use Rattle.pool.specs.Choose.{choose, member}
 use Rattle.pool.specs.State.{none, evicted, pinned, clientCount, pins, client, grantPage, grantFrame}
 use Rattle.pool.specs.Grants.{grantOf}
 use Rattle.pool.specs.Moves.{holding, completes}
@@ -37,7 +37,7 @@ use Rattle.invariant.proofs.Allowed.{Allowed, allowed, may-begin, may-step, may
 use Rattle.invariant.proofs.Edges.{Edge}
 use Rattle.invariant.proofs.Steps.{call-edge}
 use Rattle.invariant.proofs.Calls.{outcomeOf, call-moves, call-turned-down}
-use Rattle.guarantee.specs.Sequential.{SeqClient, Sequential, seqClient, member, without, seqRefusal, Rule, turns-down, begins, releases, steps}
+use Rattle.guarantee.specs.Sequential.{SeqClient, Sequential, seqClient, without, seqRefusal, Rule, turns-down, begins, releases, steps}
 use Rattle.guarantee.proofs.TurnedDown.{moved}
 use Rattle.guarantee.proofs.SimulationRelation.{times, not-member, is-member, without-times, without-length, SimulationRelation, open-many, open-grants}
 use Rattle.guarantee.proofs.ViewAfter.{counters-view, pins-view}
@@ -95,7 +95,7 @@ module _ {p : Pool} {q : Sequential} (r : Reached p) (related : SimulationRelati
       asked s (yes e) = chosen _ _ _ (eq-eqb _ _ e) ∙ sym (passed _ _ _ (no-grant c g s e))
       asked s (no z) =
           passed _ _ _ (ne-eqb _ _ z)
-          ∙ sym (chosen _ _ _ (is-member g _ (λ w. omega (arith, open-grants (related .clients c) (rw s refl) g, some-grant c g z))))
+          ∙ sym (chosen _ _ _ (is-member g (seqClient q c .grants) (λ w. omega (arith, open-grants (related .clients c) (rw s refl) g, some-grant c g z))))
 
   turned-follows : (x : Call) (n : ℕ) → seqRefusal q x ≡ n → n ≢ 0 → Followed q x (turnedDown n p)
   turned-follows x n e z = record { state = q; rule = turns-down e z; related = related }

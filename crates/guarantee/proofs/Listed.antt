@@ -7,7 +7,7 @@ use mathlib.Core.List.{List}
 use Prim.Native.Nat.{ℕ, _<_}
 use native.Mathlib.Decide.{ℕ-discrete}
 use lib.Dec.{T, leb, leb→le}
-use Rattle.pool.specs.Choose.{choose}
+use Rattle.pool.specs.Choose.{choose, member}
 use Rattle.pool.specs.Answers.{refusalOf}
 use Rattle.pool.specs.State.{total, client}
 use Rattle.pool.specs.Valid.{usesOwn, usesFound}
@@ -29,7 +29,7 @@ use Rattle.invariant.proofs.Calls.{never-stuck, call-moves, call-turned-down, r
 use Rattle.guarantee.specs.Runs.{Event, events, At}
 use Rattle.guarantee.specs.Claims.{Listed, Claim-listed}
 use Rattle.guarantee.proofs.Along.{at-some}
-use Rattle.laws.specs.StageAnswers.{granting, among, given, on-successors, on-grants, goes, grants, refuses, sticks, stage-answer}
+use Rattle.laws.specs.StageAnswers.{granting, given, on-successors, on-grants, goes, grants, refuses, sticks, stage-answer}
 use Rattle.guarantee.proofs.TurnedDown.{same-answer, TurnedOrMove, turned, one-move, turned-or-move, is-done, is-stuck, done-or-stuck}
 
 abbrev ListedOr8 : Pool → Call → Answer → Type 0
@@ -59,7 +59,7 @@ numbered p (Step c) = fork _ (fork _ (fork _ (by (inr (inr (inr (inl refl))))) n
 numbered p (Release c g) = fork _ (fork _ (fork _ (fork _ (by (inr (inr (inr refl)))) no-number) (by (inr (inr (inl refl))))) (by (inr (inl refl)))) eight
 
 -- A granted frame is one of the pool's: check 8 looks at the frame that the stage uses.
-given-in : (p : Pool) (c : ℕ) → ClientRanged p c → T (among (client p c .stage) granting) → given (client p c .stage) (client p c) < total p
+given-in : (p : Pool) (c : ℕ) → ClientRanged p c → T (member (client p c .stage) granting) → given (client p c .stage) (client p c) < total p
 given-in p c r h =
     on-grants (λ i. Names (usesOwn i) (total p) (k .own) → Names (usesFound i) (total p) (k .found) → given i k < total p)
     (λ _ f. f .there refl) (λ o _. o .there refl) (λ _ f. f .there refl) (λ o _. o .there refl) (k .stage) h (r .own) (r .found)

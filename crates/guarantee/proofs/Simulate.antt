@@ -14,6 +14,7 @@ use lib.ListN.{length, getD, set, length-set}
 use lib.Seq.{getD-set-same, getD-set-other}
 use borrow.Author.Tests.{ne-eqb}
 use Rattle.pool.specs.Limits.{maxHeld}
+use Rattle.pool.specs.Choose.{member}
 use Rattle.pool.specs.State.{none, evicted, pinned, clientCount, total, slot, pins, entryFrame, client, grantPage, grantFrame}
 use Rattle.pool.specs.Apply.{apply}
 use Rattle.pool.specs.declared.Pool.{Pool}
@@ -29,7 +30,7 @@ use Rattle.invariant.proofs.Facts.{own-pins, grant-pinned, unpinned-mapped}
 use Rattle.invariant.proofs.Grants.{grantsOf, GrantsOk, grants-stay, grant-opens, grantsOf-other, grantsOf-keeps, grantsOf-opens}
 use Rattle.invariant.proofs.Table.{suc-not, some-suc}
 use Rattle.invariant.proofs.Searches.{pins-named}
-use Rattle.guarantee.specs.Sequential.{SeqSlot, empty, stores, SeqClient, Sequential, seqSlot, seqResting, seqClient, member, Absent, Unused, adding}
+use Rattle.guarantee.specs.Sequential.{SeqSlot, empty, stores, SeqClient, Sequential, seqSlot, seqResting, seqClient, Absent, Unused, adding}
 use Rattle.guarantee.specs.Sequential.{admitting, answering, StepRule, adds, admits, drops, answers, continues, refuses}
 use Rattle.guarantee.proofs.SimulationRelation.{viewFrame, view-unmapped, view-mapped, not-member, ClientRelation, open-many, open-grants}
 use Rattle.guarantee.proofs.SimulationRelation.{client-relation-as, SimulationRelation}

@@ -14,7 +14,7 @@ use native.Mathlib.Omega.{arith}
 use lib.Dec.{eqb}
 use lib.ListN.{length, getD, List·getD-eq-default}
 use borrow.Author.Tests.{eqb-true, eqb-false, eq-eqb, ne-eqb}
-use Rattle.pool.specs.Choose.{choose}
+use Rattle.pool.specs.Choose.{choose, member}
 use Rattle.pool.specs.State.{none, evicted, clientCount, slot, pins, client, grantPage}
 use Rattle.pool.specs.declared.Pool.{Pool}
 use Rattle.pool.specs.declared.Client.{Client}
@@ -23,7 +23,7 @@ use Rattle.invariant.proofs.Reached.{one, sumTo, mapped, pinsFound, Shape}
 use Rattle.invariant.proofs.After.{slot-past, client-past}
 use Rattle.invariant.proofs.Searches.{none-evicted}
 use Rattle.invariant.proofs.Grants.{grantsOf}
-use Rattle.guarantee.specs.Sequential.{SeqSlot, empty, stores, SeqClient, Sequential, seqSlot, seqResting, seqClient, member, without}
+use Rattle.guarantee.specs.Sequential.{SeqSlot, empty, stores, SeqClient, Sequential, seqSlot, seqResting, seqClient, without}
 
 -- ---- slots
 
@@ -76,7 +76,7 @@ times g [] = 0
 times g (x ∷ xs) = times g xs + one (eqb x g)
 
 pub not-member : (g : ℕ) (l : List ℕ) → times g l ≡ 0 → member g l ≡ false
-unfolding times member
+unfolding times
 not-member g [] e = refl
 not-member g (x ∷ xs) e = go (eqb x g) e (not-member g xs)
   where
@@ -85,7 +85,7 @@ not-member g (x ∷ xs) e = go (eqb x g) e (not-member g xs)
     go false h ih = ih (omega arith)
 
 pub is-member : (g : ℕ) (l : List ℕ) → times g l ≢ 0 → member g l ≡ true
-unfolding times member
+unfolding times
 is-member g [] z = absurd (z refl)
 is-member g (x ∷ xs) z = go (eqb x g) z (is-member g xs)
   where

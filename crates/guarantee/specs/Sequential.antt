@@ -8,7 +8,7 @@ use Prim.Native.Nat.{ℕ, _≤_, _<_}
 use lib.Dec.{T, eqb, ltb}
 use lib.ListN.{length, getD, set, replicate}
 use Rattle.pool.specs.Limits.{maxHeld}
-use Rattle.pool.specs.Choose.{choose}
+use Rattle.pool.specs.Choose.{choose, member}
 use Rattle.pool.specs.declared.Call.{Call}
 use Rattle.pool.specs.declared.Call.the-variants.{Begin, Step, Release}
 use Rattle.pool.specs.declared.Answer.{Answer}
@@ -58,10 +58,6 @@ abbrev pub Unused : Sequential → ℕ → Type 0
 Unused q f = (g : ℕ) → Keeps q g f → ⊥
 
 -- ---- "It turns a call down by 9 to 13 from this state alone; nothing changes."
-
-unfoldable pub member : ℕ → List ℕ → Bool
-member g [] = false
-member g (x ∷ xs) = eqb x g || member g xs
 
 -- the list without its first g
 unfoldable pub without : ℕ → List ℕ → List ℕ

@@ -8,7 +8,7 @@ use Prim.Native.Nat.{ℕ, suc}
 use lib.Dec.{T, eqb}
 use lib.ListN.{getD}
 use borrow.Author.Tests.{eqb-true}
-use Rattle.pool.specs.Choose.{choose}
+use Rattle.pool.specs.Choose.{choose, member}
 use Rattle.pool.specs.Moves.{stuck, granted, refused15}
 use Rattle.pool.specs.Stages.{busyVisit, evictOwn, Stage, noStage, stages, stageMove, stage1, stage2, stage3, stage4, stage5, stage6, stage7, stage8, stage9}
 use Rattle.pool.specs.Stages.{stage10, stage11, stage12, stage13, stage14, stage15, stage16, stage17, stage18, stage19, stage20, stage21, stage22, stage23}
@@ -35,12 +35,8 @@ successors =
 abbrev pub granting : List ℕ
 granting = 3 ∷ 18 ∷ 21 ∷ 22 ∷ []
 
-abbrev pub among : ℕ → List ℕ → Bool
-among j [] = false
-among j (x ∷ xs) = cond (eqb j x) true (among j xs)
-
 abbrev pub leads : ℕ → ℕ → Bool
-leads i j = among j (getD successors i [])
+leads i j = member j (getD successors i [])
 
 -- "Granted at 3 or 21 answers the wanted page's frame", the one found; at 18 or 22 the own frame
 abbrev pub given : ℕ → Client → ℕ
@@ -52,16 +48,16 @@ abbrev AllOf : (ℕ → Type 0) → List ℕ → Type 0
 AllOf P [] = Unit {0}
 AllOf P (x ∷ xs) = P x × AllOf P xs
 
-among-all : (P : ℕ → Type 0) (l : List ℕ) → AllOf P l → (j : ℕ) → T (among j l) → P j
-among-all P [] a j h = absurd h
-among-all P (x ∷ xs) a j h = go (eqb j x) refl h (among-all P xs (a .1) j)
+all-members : (P : ℕ → Type 0) (l : List ℕ) → AllOf P l → (j : ℕ) → T (member j l) → P j
+all-members P [] a j h = absurd h
+all-members P (x ∷ xs) a j h = go (eqb x j) refl h (all-members P xs (a .1) j)
   where
-    go : (b : Bool) → eqb j x ≡ b → T (cond b true (among j xs)) → (T (among j xs) → P j) → P j
-    go true e r ih = rw (eqb-true j x e) (a .0)
+    go : (b : Bool) → eqb x j ≡ b → T (b || member j xs) → (T (member j xs) → P j) → P j
+    go true e r ih = rw (eqb-true x j e) at (a .0)
     go false e r ih = ih r
 
-pub on-grants : (P : ℕ → Type 0) → P 3 → P 18 → P 21 → P 22 → (i : ℕ) → T (among i granting) → P i
-on-grants P a b c d i h = among-all P granting (a, (b, (c, (d, tt)))) i h
+pub on-grants : (P : ℕ → Type 0) → P 3 → P 18 → P 21 → P 22 → (i : ℕ) → T (member i granting) → P i
+on-grants P a b c d i h = all-members P granting (a, (b, (c, (d, tt)))) i h
 
 abbrev forAll : (ℕ → Bool) → List ℕ → Bool
 forAll t [] = true
@@ -83,14 +79,14 @@ successors-from t (l ∷ ls) i a =
 
 pub on-successors : (t : ℕ → ℕ → Bool) → T (forSuccessors t 0 successors) → (i j : ℕ) → T (leads i j) → T (t i j)
 on-successors t a i j h =
-    among-all (λ x. T (t i x)) (getD successors i [])
+    all-members (λ x. T (t i x)) (getD successors i [])
     (each-at (λ i l. AllOf (λ x. T (t i x)) l) [] (λ _. tt) successors (successors-from t successors 0 a) i) j h
 
 -- ---- the stages
 
 pub data StageAnswer (k : Client) (m : Move) : Type 0 where
   goes : (j : ℕ) → T (leads (k .stage) j) → m .answer ≡ Working j → m .next .stage ≡ j → StageAnswer k m
-  grants : (f : ℕ) → T (among (k .stage) granting) → f ≡ given (k .stage) k → m .answer ≡ Granted f → m .next .stage ≡ 0 → StageAnswer k m
+  grants : (f : ℕ) → T (member (k .stage) granting) → f ≡ given (k .stage) k → m .answer ≡ Granted f → m .next .stage ≡ 0 → StageAnswer k m
   refuses : m ≡ refused15 k → StageAnswer k m
   sticks : m ≡ stuck k → StageAnswer k m
 
@@ -102,7 +98,7 @@ module _ {k : Client} {i : ℕ} (e : k .stage ≡ i) where
   to : {m : Move} (j : ℕ) → T (leads i j) → m .answer ≡ Working j → m .next .stage ≡ j → StageAnswer k m
   to j h a n = goes j (rw e h) a n
 
-  gives : (f : ℕ) (w : Write) (u : Counted) → T (among i granting) → f ≡ given i k → StageAnswer k (granted k f w u)
+  gives : (f : ℕ) (w : Write) (u : Counted) → T (member i granting) → f ≡ given i k → StageAnswer k (granted k f w u)
   unfolding granted
   gives f w u h g = by-test (StageAnswer k) (λ _. grants f (rw e h) (rw e g) refl refl) (λ _. sticks refl)
 

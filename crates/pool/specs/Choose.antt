@@ -1,6 +1,8 @@
--- Choices by a test, and searches that go up through the numbers and stop at the first that passes. Assumes nothing.
-use mathlib.Core.Bool.{Bool, true, false, not}
+-- Choices by a test, searches that go up through the numbers and stop at the first that passes, and whether a list has a number. Assumes nothing.
+use mathlib.Core.Bool.{Bool, true, false, not, _||_}
+use mathlib.Core.List.{List, [], _∷_}
 use Prim.Native.Nat.{ℕ, zero, suc, _+_}
+use lib.Dec.{eqb}
 
 -- Its own function and no abbreviation, so that a proof finds the two branches by their test.
 unfoldable pub choose : {A : Type 0} → Bool → A → A → A
@@ -29,3 +31,8 @@ every test n = scan (λ i. not (test i)) (λ _. false) true 0 n
 unfoldable pub howMany : (ℕ → Bool) → ℕ → ℕ
 howMany test zero = 0
 howMany test (suc n) = let rest = howMany test n in choose (test n) (rest + 1) rest
+
+-- whether n stands in the list
+abbrev pub member : ℕ → List ℕ → Bool
+member n [] = false
+member n (x ∷ xs) = eqb x n || member n xs
