@@ -21,10 +21,10 @@ use Rattle.guarantee.proofs.Sum.{sum}
 use Rattle.guarantee.proofs.Once.{taken-out-once}
 use Rattle.guarantee.proofs.OneEffect.{one-effect}
 use Rattle.guarantee.proofs.Alone.{refused-alone}
+use Rattle.guarantee.proofs.BusySweep.{busy-sweep}
 use Rattle.guarantee.proofs.Listed.{listed, listed-along}
 use Rattle.guarantee.proofs.GrantLists.{grant-lists}
 use Rattle.guarantee.proofs.TurnedDown.{same-stage, turned-down, refused}
-use Rattle.guarantee.proofs.BusySweep.{busy-sweep}
 use Rattle.guarantee.proofs.Limits.{limits}
 
 point3 : Claim-point3

@@ -39,4 +39,5 @@ pub mod Meetings
 pub mod BusySweep
 -- the premises of the claims can be met; all of it, as the record `Guarantee`
 pub mod Witness
+pub mod CompanyWitness
 pub mod Guaranteed

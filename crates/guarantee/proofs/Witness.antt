@@ -1,7 +1,7 @@
 -- The claims are not empty: in one run a grant is told and released, an eviction at 14 is taken out of its slot, and a request takes effect and is
--- granted; in another a request alone is refused by 15. Both are short runs from an accepted setup of one slot and one client, and are computed. In a third, of
--- two slots and two clients, a request is refused by 15 while the other client works. Assumes nothing.
-use mathlib.Core.Path.{_≡_, refl, sym, ap, subst, _∙_}
+-- granted; in another a request alone is refused by 15. Both are short runs from an accepted setup of one slot and one client, and are computed. Assumes
+-- nothing.
+use mathlib.Core.Path.{_≡_, refl, sym, ap, subst}
 use mathlib.Core.Logic.{_⊎_, inl, inr}
 use mathlib.Core.List.{List, _∷_, _++_}
 use Prim.Native.Nat.{ℕ, zero, suc, _-_, _<_}
@@ -9,7 +9,7 @@ use native.Mathlib.Nat.{not-suc-le-zero, le-of-suc-le-suc}
 use native.Mathlib.Omega.{arith}
 use Rattle.pool.specs.Choose.{choose, both, either, scan, howMany}
 use Rattle.pool.specs.Answers.{refusalOf}
-use Rattle.pool.specs.State.{pinned, within, slot, page, pins, count, entryPage, entryFrame, client, ofClient, grantPage, grantFrame}
+use Rattle.pool.specs.State.{within, slot, page, pins, count, entryPage, entryFrame, client, ofClient, grantPage, grantFrame}
 use Rattle.pool.specs.Table.{maps, entryOf, lookup, unusedEntry}
 use Rattle.pool.specs.Grants.{grantOf, holds, held}
 use Rattle.pool.specs.Frames.{names, referenced, firstTried, freeFrame}
@@ -29,11 +29,10 @@ use Rattle.laws.specs.Setups.{set-up}
 use Rattle.invariant.proofs.After.{client-past}
 use Rattle.guarantee.specs.Runs.{Event, events, At, along, Begins, GrantedTo, Releases}
 use Rattle.guarantee.specs.Claims.{Evicts, TakenOut, takesEffect, TakesEffect, TurnedDown, Alone}
-use Rattle.guarantee.specs.BusySweep.{MeetsBusy, finds-empty, finds-pinned, Refused15}
 use Rattle.guarantee.proofs.TurnedDown.{other-call}
 
 -- all that a run computes
-unfoldable computing : ℕ
+unfoldable pub computing : ℕ
 unfolding choose both either scan howMany refusalOf within slot page pins count entryPage entryFrame client ofClient grantPage grantFrame
     maps entryOf lookup unusedEntry grantOf holds held names referenced firstTried freeFrame granted
     stored slotsAfter pagesAfter pinsAfter countsAfter entryPagesAfter entryFramesAfter handAfter freeAfter lastAfter grantPagesAfter
@@ -124,31 +123,3 @@ alone-holds =
   where
     ten-is : (m : ℕ) → 9 < m → ten (m - 10) ≡ m
     ten-is m a = omega arith
-
--- Page 9 is held in slot 0, and client 0 stands at 8, about to fill slot 1, when client 1 begins on page 7. It meets slot 1 empty at event 20, client 0
--- fills the slot at event 21, and client 1 meets slot 0 pinned and is refused by 15 at event 23.
-abbrev pub company-run : List Event
-company-run = events (setupOf 2 2 3 0 .pool) (admit 9 ++ Begin 0 5 ∷ steps 0 5 ++ Begin 1 7 ∷ steps 1 5 ++ Step 0 ∷ steps 1 2)
-
-pub empty-met : At (MeetsBusy 1 1) company-run 20
-unfolding computing
-empty-met = finds-empty (refl, refl) refl refl
-
-pub filled : At (λ e. (e .asked ≡ Step 0) × (slot (e .next) 1 ≡ 1)) company-run 21
-unfolding computing
-filled = (refl, refl)
-
--- both are number f; it is the pins of one grant
-both-are : (f : ℕ) {a b : ℕ} → a ≡ f → b ≡ f → a ≡ b
-both-are f x y = x ∙ sym y
-
-one-pin : {n : ℕ} → n ≡ pinned 1 → pinned 0 < n
-one-pin e = omega arith
-
-pub pinned-met : At (MeetsBusy 1 0) company-run 23
-unfolding computing
-pinned-met = finds-pinned (refl, refl) refl (both-are 0 refl refl) (one-pin refl)
-
-pub refused-in-company : At (Refused15 1) company-run 23
-unfolding computing
-refused-in-company = (refl, refl)
