@@ -1,111 +1,114 @@
--- Each call of the code is the definition's, and a begin or a release counts nothing, so that leaving the tally alone is tallying it. The rest
--- is one recursion over the list, and the guarantee of the pools so made. Assumes nothing.
-use mathlib.Core.Path.{_≡_, refl, sym, ap, _∙_}
-use mathlib.Core.List.{List, [], _∷_, map}
+-- Each contract says that the call is the definition's, and a begin or a release counts nothing, so that leaving the tally alone is tallying it. A
+-- list is a recursion over that, and what the guarantee claims of the definition's pools and events it claims of the code's. Assumes nothing.
+use mathlib.Core.Path.{_≡_, refl, sym, ap, subst, _∙_}
+use mathlib.Core.List.{List, [], _∷_}
 use Prim.Native.Nat.{ℕ}
 use Rattle.pool.specs.Calls.{setupOf, moveOf, releaseMove, finished, callOf, poolAfter}
-use Rattle.pool.specs.Tallies.{tallied, zeroTally}
+use Rattle.pool.specs.Tallies.{zeroTally, tallied}
 use Rattle.pool.specs.declared.Pool.{Pool}
 use Rattle.pool.specs.declared.Tally.{Tally}
 use Rattle.pool.specs.declared.Move.{Move}
 use Rattle.pool.specs.declared.Outcome.{Outcome}
 use Rattle.pool.specs.declared.Call.{Call}
 use Rattle.pool.specs.declared.Call.the-variants.{Begin, Step, Release}
-use Rattle.pool.specs.declared.Counted.{Counted}
+use Rattle.pool.specs.declared.Answer.{Answer}
 use Rattle.pool.specs.declared.Answer.the-variants.{Done}
+use Rattle.pool.specs.declared.Counted.{Counted}
 use Rattle.pool.specs.declared.Counted.the-variants.{Nothing}
 use Rattle.laws.specs.Choices.{by-test}
+use Rattle.calls.specs.Refusals.{setup-refusals, begin-refusals, step-refusals, release-refusals}
+use Rattle.calls.specs.Tallied.{steppedOf}
 use Rattle.calls.specs.declared.Stepped.{Stepped}
-use Rattle.guarantee.specs.Runs.{Event, events}
+use Rattle.guarantee.specs.Runs.{events}
 use Rattle.guarantee.specs.Claims.{tallyOf}
 use Rattle.guarantee.proofs.Guaranteed.{guarantee}
-use Rattle.tie.specs.Ties.{Code, Promised, Fits, AllFit, made, played, Claim-tied, Claim-any-tally, Claim-code, Claim-lent, Tied}
+use Rattle.tie.specs.Ties.{Makes, begin, release, step-tallied, step-of, step, Plays, at-end, at-call, Accepted}
+use Rattle.tie.specs.Ties.{Claim-setup, Claim-call, Claim-list, Answerable, Claim-any-tally, Claim-point3, Claim-sum, Tied}
+use Rattle.tie.proofs.Kept.{unasked, kept}
 
--- a call whose move counts nothing counts nothing
-uncounted : (p : Pool) (x : Call) → moveOf p x .counted ≡ Nothing → callOf p x .counted ≡ Nothing
-unfolding callOf finished
-uncounted p x e =
-    by-test (λ (o : Outcome). o .counted ≡ Nothing) (λ _. by-test (λ (o : Outcome). o .counted ≡ Nothing) (λ _. e) (λ _. refl)) (λ _. refl)
+-- ---- a call
 
-begin-uncounted : (p : Pool) (c g : ℕ) → callOf p (Begin c g) .counted ≡ Nothing
+-- an outcome that leaves the tally alone: bringing it up to date changes nothing
+abbrev Quiet : Tally → Outcome → Type 0
+Quiet t o = t ≡ tallied (o .counted) t
+
+-- such is a call whose move counts nothing
+quiet : (p : Pool) (x : Call) (t : Tally) → moveOf p x .counted ≡ Nothing → Quiet t (callOf p x)
+unfolding callOf finished tallied
+quiet p x t e = by-test (Quiet t) (λ _. by-test (Quiet t) (λ _. rw e refl) (λ _. refl)) (λ _. refl)
+
+begin-quiet : (p : Pool) (c g : ℕ) (t : Tally) → Quiet t (callOf p (Begin c g))
 unfolding moveOf
-begin-uncounted p c g = uncounted p (Begin c g) refl
+begin-quiet p c g t = quiet p (Begin c g) t refl
 
-release-uncounted : (p : Pool) (c g : ℕ) → callOf p (Release c g) .counted ≡ Nothing
+release-quiet : (p : Pool) (c g : ℕ) (t : Tally) → Quiet t (callOf p (Release c g))
 unfolding moveOf releaseMove
-release-uncounted p c g = uncounted p (Release c g) (by-test (λ (m : Move). m .counted ≡ Nothing) (λ _. refl) (λ _. refl))
+release-quiet p c g t = quiet p (Release c g) t (by-test (λ (m : Move). m .counted ≡ Nothing) (λ _. refl) (λ _. refl))
 
--- what a call leaves, with a tally that it is counted in, and with one that it leaves alone
-abbrev left : Outcome → Tally → Stepped
-left o t = record { answer = o .answer; tally = tallied (o .counted) t; pool = o .pool }
-
-abbrev kept : Outcome → Tally → Stepped
-kept o t = record { answer = o .answer; tally = t; pool = o .pool }
-
--- they are the same where the call counts nothing
-quiet : (o : Outcome) (t : Tally) → o .counted ≡ Nothing → kept o t ≡ left o t
-unfolding tallied
-quiet o t e = ap (λ (n : Counted). record { answer = o .answer; tally = tallied n t; pool = o .pool }) (sym e)
-
-module _ (code : Code) (keeps : Promised code) where
-  -- what a call leaves is the definition's, and of its type
-  pub record Makes (x : Call) (p : Pool) (t : Tally) : Type 0 where
-    pub is : made code x p t ≡ left (callOf p x) t
-    pub value : code .Value (callOf p x .pool)
-    pub counts : code .Counts (tallied (callOf p x .counted) t)
-
-  -- a begin or a release, as `made` has it
-  made-quiet : (x : Call) (p : Pool) (t : Tally) (o : Outcome) → made code x p t ≡ kept o t → o ≡ callOf p x → callOf p x .counted ≡ Nothing
-      → code .Value (o .pool) → code .Counts t → Makes x p t
-  unfolding tallied
-  made-quiet x p t o m e n v w =
-      record {
-        is = m ∙ ap (λ (r : Outcome). kept r t) e ∙ quiet (callOf p x) t n;
-        value = rw e at v;
-        counts = rw n w;
-      }
-
-  makes : (x : Call) (p : Pool) (t : Tally) → code .Value p → code .Counts t → Fits x → Makes x p t
-  unfolding made Fits
-  makes (Begin c g) p t v w h =
-      let r = keeps .begin p c g v (h .0) (h .1) in
-      made-quiet (Begin c g) p t (code .begin p c g) refl (r .0) (begin-uncounted p c g) (r .1) w
-  makes (Step c) p t v w h =
-      let r = keeps .step p c t v h w in
-      record { is = r .0; value = rw (r .0) at (r .1); counts = rw (r .0) at (r .2) }
-  makes (Release c g) p t v w h =
-      let r = keeps .release p c g v (h .0) (h .1) in
-      made-quiet (Release c g) p t (code .release p c g) refl (r .0) (release-uncounted p c g) (r .1) w
-
-  played-is : (p : Pool) (t : Tally) (calls : List Call) → code .Value p → code .Counts t → AllFit calls
-      → played code p t calls ≡ record { answers = map (λ (e : Event). e .answer) (events p calls); pool = poolAfter p calls; tally = tallyOf t (events p calls) }
-  unfolding played events poolAfter tallyOf AllFit
-  played-is p t [] v w h = refl
-  played-is p t (x ∷ calls) v w h =
-      let m = makes x p t v w (h .0) in
-      rw (m .is, played-is (callOf p x .pool) (tallied (callOf p x .counted) t) calls (m .value) (m .counts) (h .1)) refl
-
-tied : Claim-tied
-tied code keeps p t calls v w h = played-is code keeps p t calls v w h
+call : Claim-call
+call p q t u x a (begin {c} {g} r l) = rw (l .0) (refl, refl, begin-quiet p c g t)
+call p q t u x a (release {c} {g} r l) = rw (l .0) (refl, refl, release-quiet p c g t)
+call p q t u x a (step-tallied r l) = rw (l .0) (refl, refl, refl)
+call p q t u x a (step-of r l) = rw (l .0) (refl, refl, refl)
+call p q t u x a (step r l) = rw (l .0) (refl, refl, l .1)
 
 any-tally : Claim-any-tally
-any-tally code keeps p t u x v w w′ h =
-    let a = makes code keeps x p t v w h .is in
-    let b = makes code keeps x p u v w′ h .is in
-    (ap (λ (r : Stepped). r .answer) a ∙ sym (ap (λ (r : Stepped). r .answer) b), ap (λ (r : Stepped). r .pool) a ∙ sym (ap (λ (r : Stepped). r .pool) b))
+any-tally p q q′ t t′ u u′ x a a′ m n =
+    let e = call p q t u x a m in
+    let e′ = call p q′ t′ u′ x a′ n in
+    (e .0 ∙ sym (e′ .0), e .1 ∙ sym (e′ .1))
 
-code-point3 : Claim-code
-code-point3 code keeps s t c h bs bt bc wh e calls _ =
-    let first = keeps .setup s t c h bs bt bc wh .0 in
-    let done : setupOf s t c h .answer ≡ Done s = rw first at e in
-    rw first (guarantee .point3 s t c h done calls)
+-- ---- a list of calls
 
-lent : Claim-lent
-lent code keeps s t c h bs bt bc wh e calls fits =
-    let set = keeps .setup s t c h bs bt bc wh in
-    let done : setupOf s t c h .answer ≡ Done s = rw (set .0) at e in
-    rw (set .0, played-is code keeps (setupOf s t c h .pool) zeroTally calls (rw (set .0) at (set .1)) (keeps .zero) fits)
-    (guarantee .sum s t c h done calls)
+list : Claim-list
+unfolding events poolAfter tallyOf
+list p q t u calls answers at-end = (refl, refl, refl)
+list p q t u calls answers (at-call {q = p′} {u = t′} {x = x} {a = a} {calls = rest} {answers = others} m n) =
+    let e = call p p′ t t′ x a m in
+    let f = list p′ q t′ u rest others n in
+    rw (e .0, ← e .1, ← e .2, f .0) (refl, f .1, f .2)
+
+-- each contract allows what the definition does
+makes : (p : Pool) (t : Tally) (x : Call) → Makes p t x (callOf p x .answer) (callOf p x .pool) (tallied (callOf p x .counted) t)
+makes p t (Begin c g) = rw (← begin-quiet p c g t) (begin (callOf p (Begin c g)) (refl, begin-refusals p c g))
+makes p t (Step c) = step-tallied (steppedOf p c t) (refl, step-refusals p c)
+makes p t (Release c g) = rw (← release-quiet p c g t) (release (callOf p (Release c g)) (refl, release-refusals p c g))
+
+plays : (p : Pool) (t : Tally) (calls : List Call) → (answers : List Answer) × (q : Pool) × (u : Tally) × Plays p t calls answers q u
+plays p t [] = ([], p, t, at-end)
+plays p t (x ∷ calls) = let rest = plays (callOf p x .pool) (tallied (callOf p x .counted) t) calls in
+    (callOf p x .answer ∷ rest .0, rest .1, rest .2, at-call (makes p t x) (rest .3))
+
+answerable : Answerable
+answerable = record { setup = λ s t c h. (setupOf s t c h, (refl, setup-refusals s t c h)); list = plays }
+
+-- ---- the guarantee
+
+setup : Claim-setup
+setup s t c h r says = says .0
+
+-- an accepted setup is accepted by the definition
+done : (s t c h : ℕ) (r : Outcome) → Accepted s t c h r → setupOf s t c h .answer ≡ Done s
+done s t c h r first = rw (← setup s t c h r (first .says)) (first .done)
+
+point3 : Claim-point3
+point3 s t c h r first calls = rw (setup s t c h r (first .says)) (guarantee .point3 s t c h (done s t c h r first) calls)
+
+sum : Claim-sum
+sum s t c h r first calls answers q u m =
+    let e = list (r .pool) q zeroTally u calls answers m in
+    rw (e .1, e .2, setup s t c h r (first .says)) (guarantee .sum s t c h (done s t c h r first) calls)
 
 pub all-tied : Tied
-all-tied = record { tied = tied; any-tally = any-tally; code = code-point3; lent = lent }
+all-tied =
+    record {
+      unasked = unasked;
+      kept = kept;
+      setup = setup;
+      call = call;
+      list = list;
+      answerable = answerable;
+      any-tally = any-tally;
+      point3 = point3;
+      sum = sum;
+    }

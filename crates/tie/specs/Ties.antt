@@ -1,12 +1,12 @@
--- The tie between the code and the guarantee: whatever keeps the promises of the calls, as crate `calls` states them, on the values that their
--- types have, goes through the very pools and answers that the guarantee speaks of. "Setup gives the first pool, each later call gets the pool
--- the last one returned, any tally may be lent, and nobody else changes the pool meanwhile." Statements only. Assumes nothing.
+-- The tie between the code and the guarantee: whatever the contracts of the calls allow goes through the very pools, answers and tallies that the
+-- guarantee speaks of. Setup gives the first pool, each later call gets the pool that the last one left, any tally may be lent, and nobody else
+-- changes the pool meanwhile. Statements only. Assumes nothing.
 use mathlib.Core.Path.{_≡_}
 use mathlib.Core.List.{List, [], _∷_, map}
-use Prim.Native.Nat.{ℕ, _+_, _<_}
+use Prim.Native.Nat.{ℕ, _+_}
 use Rattle.pool.specs.Table.{residents}
 use Rattle.pool.specs.Calls.{setupOf, callOf, poolAfter}
-use Rattle.pool.specs.Tallies.{zeroTally}
+use Rattle.pool.specs.Tallies.{zeroTally, tallied}
 use Rattle.pool.specs.declared.Pool.{Pool}
 use Rattle.pool.specs.declared.Tally.{Tally}
 use Rattle.pool.specs.declared.Outcome.{Outcome}
@@ -14,102 +14,81 @@ use Rattle.pool.specs.declared.Call.{Call}
 use Rattle.pool.specs.declared.Call.the-variants.{Begin, Step, Release}
 use Rattle.pool.specs.declared.Answer.{Answer}
 use Rattle.pool.specs.declared.Answer.the-variants.{Done}
-use Rattle.calls.specs.Tallied.{steppedOf}
 use Rattle.calls.specs.declared.Stepped.{Stepped}
+use Rattle.step.specs.declared.Answered.{Answered}
 use Rattle.guarantee.specs.Runs.{Event, events}
 use Rattle.guarantee.specs.Sequential.{start}
 use Rattle.guarantee.specs.Claims.{Point3, tallyOf, BelowLargest}
+use Rattle.tie.specs.Contracts.{SetupSays, BeginSays, ReleaseSays, StepTalliedSays, StepOfSays, StepSays, Unasked, Kept}
 
--- numbers that a u8 and a u32 can be
-abbrev pub Byte : ℕ → Type 0
-Byte n = n < 256
+-- ---- what the contracts allow
 
-abbrev pub Word : ℕ → Type 0
-Word n = n < 4294967296
+-- One call on a pool and a tally, with an answer, a pool and a tally after it that the contract of the function allows. Only a step is lent the
+-- tally, and three functions make one.
+pub data Makes (p : Pool) (t : Tally) : Call → Answer → Pool → Tally → Type 0 where
+  begin : {c g : ℕ} (r : Outcome) → BeginSays p c g r → Makes p t (Begin c g) (r .answer) (r .pool) t
+  release : {c g : ℕ} (r : Outcome) → ReleaseSays p c g r → Makes p t (Release c g) (r .answer) (r .pool) t
+  step-tallied : {c : ℕ} (r : Stepped) → StepTalliedSays p c t r → Makes p t (Step c) (r .answer) (r .pool) (r .tally)
+  step-of : {c : ℕ} (r : Stepped) → StepOfSays p c t r → Makes p t (Step c) (r .answer) (r .pool) (r .tally)
+  step : {c : ℕ} (r : Answered) {u : Tally} → StepSays p c t r u → Makes p t (Step c) (r .answer) (r .pool) u
 
--- what four functions return, and what a value of the type `Pool`, and of the type `Tally`, is: how long its arrays are, and how wide its numbers
-pub record Code : Type 1 where
-  pub Value : Pool → Type 0
-  pub Counts : Tally → Type 0
-  pub setup : (size clients cap hand : ℕ) → Outcome
-  pub begin : (pool : Pool) (client page : ℕ) → Outcome
-  pub step : (pool : Pool) (client : ℕ) (tally : Tally) → Stepped
-  pub release : (pool : Pool) (client page : ℕ) → Outcome
+-- a list of calls, each on the pool and the tally that the last one left; the answers, and the pool and the tally after the last
+pub data Plays : Pool → Tally → List Call → List Answer → Pool → Tally → Type 0 where
+  at-end : {p : Pool} {t : Tally} → Plays p t [] [] p t
+  at-call : {p q r : Pool} {t u v : Tally} {x : Call} {a : Answer} {calls : List Call} {answers : List Answer}
+      → Makes p t x a q u → Plays q u calls answers r v → Plays p t (x ∷ calls) (a ∷ answers) r v
 
--- The promises of `setup`, `begin`, `step_tallied` and `release` in crate `calls`, on values of their parameters' types; what they return is a
--- value of its type too. `step_of` in crate `step` has the promise of `step_tallied`, and `step` there the same of a tally that is lent.
-pub record Promised (code : Code) : Type 0 where
-  pub zero : code .Counts zeroTally
-  pub setup : (size clients cap hand : ℕ) → Byte size → Byte clients → Byte cap → Word hand
-      → (code .setup size clients cap hand ≡ setupOf size clients cap hand) × code .Value (code .setup size clients cap hand .pool)
-  pub begin : (pool : Pool) (client page : ℕ) → code .Value pool → Byte client → Word page
-      → (code .begin pool client page ≡ callOf pool (Begin client page)) × code .Value (code .begin pool client page .pool)
-  pub step : (pool : Pool) (client : ℕ) (tally : Tally) → code .Value pool → Byte client → code .Counts tally
-      → (code .step pool client tally ≡ steppedOf pool client tally)
-      × code .Value (code .step pool client tally .pool)
-      × code .Counts (code .step pool client tally .tally)
-  pub release : (pool : Pool) (client page : ℕ) → code .Value pool → Byte client → Word page
-      → (code .release pool client page ≡ callOf pool (Release client page)) × code .Value (code .release pool client page .pool)
+-- a setup that is accepted, and what it left
+pub record Accepted (s t c h : ℕ) (r : Outcome) : Type 0 where
+  pub says : SetupSays s t c h r
+  pub done : r .answer ≡ Done s
 
--- the numbers of a call, and of each call of a list, are values of their types
-unfoldable pub Fits : Call → Type 0
-Fits (Begin c g) = Byte c × Word g
-Fits (Step c) = Byte c
-Fits (Release c g) = Byte c × Word g
+-- ---- the claims
 
-unfoldable pub AllFit : List Call → Type 0
-AllFit [] = Unit {0}
-AllFit (x ∷ calls) = Fits x × AllFit calls
+-- a setup is the definition's, and so is a call, whichever function makes it
+abbrev pub Claim-setup : Type 0
+Claim-setup = (s t c h : ℕ) (r : Outcome) → SetupSays s t c h r → r ≡ setupOf s t c h
 
--- one call made by the code, on the pool and the tally that the last one left; only a step is lent the tally
-unfoldable pub made : Code → Call → Pool → Tally → Stepped
-made code (Begin c g) p t = let o = code .begin p c g in record { answer = o .answer; tally = t; pool = o .pool }
-made code (Step c) p t = code .step p c t
-made code (Release c g) p t = let o = code .release p c g in record { answer = o .answer; tally = t; pool = o .pool }
+abbrev pub Claim-call : Type 0
+Claim-call =
+    (p q : Pool) (t u : Tally) (x : Call) (a : Answer) → Makes p t x a q u
+    → (a ≡ callOf p x .answer) × (q ≡ callOf p x .pool) × (u ≡ tallied (callOf p x .counted) t)
 
--- a list of calls made by the code: the answers, and the pool and the tally after the last
-pub record Played : Type 0 where
-  pub answers : List Answer
-  pub pool : Pool
-  pub tally : Tally
+-- the answers, the pool and the tally of a list of calls are those of the guarantee's events
+abbrev pub Claim-list : Type 0
+Claim-list =
+    (p q : Pool) (t u : Tally) (calls : List Call) (answers : List Answer) → Plays p t calls answers q u
+    → (answers ≡ map (λ (e : Event). e .answer) (events p calls)) × (q ≡ poolAfter p calls) × (u ≡ tallyOf t (events p calls))
 
-unfoldable pub played : Code → Pool → Tally → List Call → Played
-played code p t [] = record { answers = []; pool = p; tally = t }
-played code p t (x ∷ calls) =
-    let o = made code x p t in
-    let rest = played code (o .pool) (o .tally) calls in
-    record { answers = o .answer ∷ rest .answers; pool = rest .pool; tally = rest .tally }
+-- and there are such: every setup and every list of calls can be answered
+pub record Answerable : Type 0 where
+  pub setup : (s t c h : ℕ) → (r : Outcome) × SetupSays s t c h r
+  pub list : (p : Pool) (t : Tally) (calls : List Call) → (answers : List Answer) × (q : Pool) × (u : Tally) × Plays p t calls answers q u
 
--- the code's answers, pool and tally are those of the guarantee's events
-abbrev pub Claim-tied : Type 1
-Claim-tied =
-    (code : Code) → Promised code → (p : Pool) (t : Tally) (calls : List Call) → code .Value p → code .Counts t → AllFit calls
-    → played code p t calls
-    ≡ record { answers = map (λ (e : Event). e .answer) (events p calls); pool = poolAfter p calls; tally = tallyOf t (events p calls) }
-
--- "any tally may be lent": it changes neither the answer nor the pool
-abbrev pub Claim-any-tally : Type 1
+-- any tally may be lent: it changes neither the answer nor the pool
+abbrev pub Claim-any-tally : Type 0
 Claim-any-tally =
-    (code : Code) → Promised code → (p : Pool) (t u : Tally) (x : Call) → code .Value p → code .Counts t → code .Counts u → Fits x
-    → (made code x p t .answer ≡ made code x p u .answer) × (made code x p t .pool ≡ made code x p u .pool)
+    (p q q′ : Pool) (t t′ u u′ : Tally) (x : Call) (a a′ : Answer) → Makes p t x a q u → Makes p t′ x a′ q′ u′ → (a ≡ a′) × (q ≡ q′)
 
--- point 3 of the list of calls from the pool that the code set up; by `Claim-tied` its events are what the code does
-abbrev pub Claim-code : Type 1
-Claim-code =
-    (code : Code) → Promised code → (s t c h : ℕ) → Byte s → Byte t → Byte c → Word h → code .setup s t c h .answer ≡ Done s
-    → (calls : List Call) → AllFit calls → Point3 (code .setup s t c h .pool) (start s t) calls
+-- point 3, of every list of calls from the pool that an accepted setup left; by `Claim-list` its events are what the code does
+abbrev pub Claim-point3 : Type 0
+Claim-point3 = (s t c h : ℕ) (r : Outcome) → Accepted s t c h r → (calls : List Call) → Point3 (r .pool) (start s t) calls
 
--- "Where one tally, all zero at setup, is lent throughout, each time as the last call left it, and none of its counts is at that value, resident
--- pages = admitted + revived - drops.": of the tally that the code's steps were lent
-abbrev pub Claim-lent : Type 1
-Claim-lent =
-    (code : Code) → Promised code → (s t c h : ℕ) → Byte s → Byte t → Byte c → Word h → code .setup s t c h .answer ≡ Done s
-    → (calls : List Call) → AllFit calls
-    → let end = played code (code .setup s t c h .pool) zeroTally calls in
-    BelowLargest (end .tally) → residents (end .pool) + end .tally .drops ≡ end .tally .admitted + end .tally .revived
+-- the tally's sum: where one tally, all zero at setup, is lent throughout, each time as the last call left it, and none of its counts is at its
+-- largest value, the resident pages are those admitted and revived less those dropped
+abbrev pub Claim-sum : Type 0
+Claim-sum =
+    (s t c h : ℕ) (r : Outcome) → Accepted s t c h r
+    → (calls : List Call) (answers : List Answer) (q : Pool) (u : Tally) → Plays (r .pool) zeroTally calls answers q u
+    → BelowLargest u → residents q + u .drops ≡ u .admitted + u .revived
 
-pub record Tied : Type 1 where
-  pub tied : Claim-tied
+pub record Tied : Type 2 where
+  pub unasked : Unasked
+  pub kept : Kept
+  pub setup : Claim-setup
+  pub call : Claim-call
+  pub list : Claim-list
+  pub answerable : Answerable
   pub any-tally : Claim-any-tally
-  pub code : Claim-code
-  pub lent : Claim-lent
+  pub point3 : Claim-point3
+  pub sum : Claim-sum

@@ -1,0 +1,96 @@
+-- What the contracts of the public calls say. They are named and not restated: of each contract that stands in the code the toolchain makes
+-- `Asked`, what a caller has to show, and `Learnt`, what it learns of the result. A contract that says less makes these say less, and the proofs of
+-- what `Ties.antt` claims fail. A function over a lent record is proved by hand and has no such reading; the one that makes a step has its
+-- contract named as a whole, and what is read off it is claimed beside it. Statements only. Assumes nothing.
+use mathlib.Core.Path.{_≡_}
+use mathlib.Core.List.{List}
+use Prim.Native.Nat.{ℕ}
+use base.Logic.{emp}
+use prog.Routine.{Env, Name, Routine}
+use contract.Lifetimes.{Lfts}
+use contract.Monad.{fact}
+use contract.Running.{givenOf}
+use denote.Ref.{RefT, now}
+use denote.Triple.Both.{Both}
+use borrow.Fn.Kinds.{PK, RK, In, Out}
+use borrow.Fn.World.{World}
+use borrow.Fn.Plain.{Known}
+use borrow.Fn.Run.{Over}
+use Rattle.pool.specs.Tallies.{tallyAfter}
+use Rattle.pool.specs.declared.Pool.{Pool}
+use Rattle.pool.specs.declared.Tally.{Tally}
+use Rattle.pool.specs.declared.Outcome.{Outcome}
+use Rattle.calls.specs.declared.Stepped.{Stepped}
+use Rattle.step.specs.Answers.{answeredOf}
+use Rattle.step.specs.declared.Answered.{Answered}
+use Rattle.calls.proofs.setup.Reads as setup
+use Rattle.calls.proofs.setup.Kinds as setup-kinds
+use Rattle.calls.proofs.setup.Symbol as setup-code
+use Rattle.calls.proofs.begin.Reads as begin
+use Rattle.calls.proofs.begin.Kinds as begin-kinds
+use Rattle.calls.proofs.begin.Symbol as begin-code
+use Rattle.calls.proofs.release.Reads as release
+use Rattle.calls.proofs.release.Kinds as release-kinds
+use Rattle.calls.proofs.release.Symbol as release-code
+use Rattle.calls.proofs.step_tallied.Reads as step-tallied
+use Rattle.calls.proofs.step_tallied.Kinds as step-tallied-kinds
+use Rattle.calls.proofs.step_tallied.Symbol as step-tallied-code
+use Rattle.step.proofs.step_of.Reads as step-of
+use Rattle.step.proofs.step_of.Kinds as step-of-kinds
+use Rattle.step.proofs.step_of.Symbol as step-of-code
+use Rattle.step.proofs.step as step
+use Rattle.step.proofs.step.Statement as step-stated
+
+-- ---- what each says of its arguments and a result
+
+abbrev pub SetupSays : (size clients cap hand : ℕ) → Outcome → Type 0
+SetupSays s t c h r = setup.Learnt tt (s, (t, (c, (h, tt)))) r (s, (t, (c, (h, tt))))
+
+abbrev pub BeginSays : Pool → (client page : ℕ) → Outcome → Type 0
+BeginSays p c g r = begin.Learnt tt (p, (c, (g, tt))) r (p, (c, (g, tt)))
+
+abbrev pub ReleaseSays : Pool → (client page : ℕ) → Outcome → Type 0
+ReleaseSays p c g r = release.Learnt tt (p, (c, (g, tt))) r (p, (c, (g, tt)))
+
+-- the step by value: `step_tallied` of crate `calls`, and `step_of` of crate `step`
+abbrev pub StepTalliedSays : Pool → (client : ℕ) → Tally → Stepped → Type 0
+StepTalliedSays p c t r = step-tallied.Learnt tt (p, (c, (t, tt))) r (p, (c, (t, tt)))
+
+abbrev pub StepOfSays : Pool → (client : ℕ) → Tally → Stepped → Type 0
+StepOfSays p c t r = step-of.Learnt tt (p, (c, (t, tt))) r (p, (c, (t, tt)))
+
+-- the step over a lent tally, `step` of crate `step`: of the tally as it was lent, the result, and the tally as it was left
+abbrev pub StepSays : Pool → (client : ℕ) → Tally → Answered → Tally → Type 0
+StepSays p c t r u = (r ≡ answeredOf p c) × (u ≡ tallyAfter p c t)
+
+-- ---- no call asks anything of its caller
+
+pub record Unasked : Type 2 where
+  pub setup : (s t c h : ℕ) → setup.Asked tt (s, (t, (c, (h, tt))))
+  pub begin : (p : Pool) (c g : ℕ) → begin.Asked tt (p, (c, (g, tt)))
+  pub release : (p : Pool) (c g : ℕ) → release.Asked tt (p, (c, (g, tt)))
+  pub step-tallied : (p : Pool) (c : ℕ) (t : Tally) → step-tallied.Asked tt (p, (c, (t, tt)))
+  pub step-of : (p : Pool) (c : ℕ) (t : Tally) → step-of.Asked tt (p, (c, (t, tt)))
+  pub step : (w : World) (κs : Lfts 1) (p : Pool) (c : ℕ) (tally : RefT Tally)
+      → step.spec (w .𝓤) (w .H) (w .𝓖 .A) (w .𝓜 .mem) (w .𝓡 .run) κs (p, (c, (tally, tt))) .requires tt ≡ emp (w .𝓤)
+
+-- ---- the code keeps its contracts
+
+-- whoever calls the routine, by whatever name, and has shown what is asked, learns what is said of the result
+abbrev pub Teaches : (n : ℕ) (ps : List (PK n)) (r : RK n) → In n ps → Out n ps r → Routine → Type 2
+Teaches n ps r asked learnt routine =
+    (w : World) (names : Env) (k : Name) → names k ≡ routine
+    → Known (w .𝓤) (w .H) (w .𝓖 .A) (givenOf (w .𝓤) (w .H) (w .𝓜) (w .𝓖)) (Over (w .𝓤) (w .H) (w .𝓜) (w .𝓖) (w .𝓡) names) n ps r asked learnt k
+
+pub record Kept : Type 2 where
+  pub setup : Teaches 0 setup-kinds.ps setup-kinds.r setup.Asked setup.Learnt setup-code.routine
+  pub begin : Teaches 0 begin-kinds.ps begin-kinds.r begin.Asked begin.Learnt begin-code.routine
+  pub release : Teaches 0 release-kinds.ps release-kinds.r release.Asked release.Learnt release-code.routine
+  pub step-tallied : Teaches 0 step-tallied-kinds.ps step-tallied-kinds.r step-tallied.Asked step-tallied.Learnt step-tallied-code.routine
+  pub step-of : Teaches 0 step-of-kinds.ps step-of-kinds.r step-of.Asked step-of.Learnt step-of-code.routine
+  -- the lent step: the first clause of its contract says `StepSays`, of the tally at entry and at exit; and it meets its contract
+  pub step-says : (w : World) (κs : Lfts 1) (p : Pool) (c : ℕ) (ref : RefT Tally) (pool : Both Pool Pool) (client : Both ℕ ℕ)
+      (tally : Both (RefT Tally) (RefT Tally)) (r : Answered)
+      → step.ensures-1 (w .𝓤) (w .H) κs (w .𝓖 .A) (w .𝓜 .mem) (w .𝓡 .run) p c ref pool client tally r
+      ≡ fact (w .𝓤) (StepSays p c (now (tally .entry)) r (now (tally .exit)))
+  pub step : {M : Type 1} → step-stated.statement M
