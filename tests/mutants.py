@@ -1,22 +1,27 @@
-"""Wrong definitions that the proofs must refuse.
+"""Wrong definitions and promises that the proofs must refuse.
 
 usage: python3 tests/mutants.py [NAME ..]
 
-Each file tests/mutants/NAME.edit changes one definition in a copy of the
-project. The toolchain's own must-fail edits are tried on one crate alone;
-these are tried on the crates above it, so that the proof of the claims about
-whole runs is seen to stop. The worked cases, which would refuse most of them
-first, are left out of the copy. A file has these lines, besides comments:
+Each file tests/mutants/NAME.edit changes a definition, or what a function
+promises, in a copy of the project. The toolchain's own must-fail edits are
+tried on one crate alone; these are tried on the crates above it, so that the
+proof of the claims about whole runs, or of the tie between them and the
+calls, is seen to stop. A file has these lines, besides comments:
 
     file: crates/pool/specs/Stages.antt     the file to change
     old: the text to replace, which must stand there once
     new: what to put in its place
     refused by: CRATE                       the crate that must not be proved
 
-Every crate below that one must still be proved, and the first error, which is
-printed, must not stand in the changed file itself, so that the edit is well
-formed. Exit status 0 if all are refused, 1 if one is not, 2 if none can be
-tried.
+The first three may come again, for a change that takes several: a promise
+that says less, and the proof that its function keeps it.
+
+Every crate below the named one must still be proved, and the first error,
+which is printed, must not stand in a changed file itself, so that the edit is
+well formed. What the project's target/ has proved is not proved again, as far
+as an edit does not reach it. An edit of crate `pool` reaches everything; it is
+tried without the worked cases, which would refuse most of them first. Exit
+status 0 if all are refused, 1 if one is not, 2 if none can be tried.
 """
 
 import concurrent.futures
@@ -34,26 +39,49 @@ EDITS = TOP / "tests" / "mutants"
 CASES = "crates/pool/proofs/Table.antt"  # the proof of the worked cases
 
 
-def read_edit(path):
-    """The fields of an edit file, by name."""
-    fields = {}
-    for line in path.read_text().splitlines():
-        name, colon, value = line.partition(": ")
-        if colon and name in ("file", "old", "new", "refused by"):
-            fields[name] = value
-    missing = {"file", "old", "new", "refused by"} - fields.keys()
-    if missing:
-        sys.exit(f"{path.name}: no line for {', '.join(sorted(missing))}")
-    return fields
+class Edit:
+    """The changes of an edit file, and the crate that must refuse them."""
+
+    def __init__(self, path):
+        self.name, self.changes, self.refused_by = path.stem, [], None
+        for line in path.read_text().splitlines():
+            name, colon, value = line.partition(": ")
+            if colon and name == "file":
+                self.changes.append({"file": value})
+            elif colon and name in ("old", "new") and self.changes:
+                self.changes[-1][name] = value
+            elif colon and name == "refused by":
+                self.refused_by = value
+        if not self.changes or not self.refused_by or any(len(change) != 3 for change in self.changes):
+            sys.exit(f"{path.name}: a line 'file', 'old', 'new' or 'refused by' is missing")
+
+    def files(self):
+        return [change["file"] for change in self.changes]
+
+    def apply(self, folder):
+        """Makes the changes in a copy; what is wrong with one of them, or None."""
+        for change in self.changes:
+            target = folder / change["file"]
+            text = target.read_text()
+            times = text.count(change["old"])
+            if times != 1:
+                return f"the text stands {times} times in {change['file']}"
+            target.write_text(text.replace(change["old"], change["new"]))
+        return None
 
 
-def copy_project(folder):
-    """The project without what was built, and without the worked cases."""
+def copy_project(folder, edit):
+    """The project for an edit: without the worked cases, or with what was proved."""
     shutil.copytree(TOP / "crates", folder / "crates")
     shutil.copy(TOP / "crates.txt", folder)
-    (folder / CASES).unlink()
-    lib = folder / "crates/pool/proofs/Lib.antt"
-    lib.write_text(lib.read_text().replace("pub mod Table\n", ""))
+    if any(name.startswith("crates/pool/") for name in edit.files()):
+        (folder / CASES).unlink()
+        lib = folder / "crates/pool/proofs/Lib.antt"
+        lib.write_text(lib.read_text().replace("pub mod Table\n", ""))
+    else:
+        for built in ("rlib", "stamp"):
+            if (TOP / "target" / built).exists():
+                shutil.copytree(TOP / "target" / built, folder / "target" / built)
 
 
 def proved(folder, crate):
@@ -75,32 +103,30 @@ def first_error(output):
     return f"{found.group(1)}: {found.group(2)[:160]}" if found else "?"
 
 
-def verdict(fields, well, output):
+def verdict(edit, well, output):
     """What became of an edit, in words, and whether it was refused."""
     if well:
         return "NOT REFUSED", False
     where, error = failed_crate(output), first_error(output)
-    if where != fields["refused by"]:
-        return f"refused by {where} and not by {fields['refused by']}\n  {error}", False
-    if error.startswith(fields["file"] + ":"):
+    if where != edit.refused_by:
+        return f"refused by {where} and not by {edit.refused_by}\n  {error}", False
+    if any(error.startswith(name + ":") for name in edit.files()):
         return f"BAD EDIT: what it puts there is refused itself\n  {error}", False
     return f"refused by {where}, as it must be\n  {error}", True
 
 
 def try_edit(path):
     """A line that says how it went, and whether the edit was refused."""
-    fields = read_edit(path)
+    edit = Edit(path)
     started = time.time()
     with tempfile.TemporaryDirectory() as name:
         folder = pathlib.Path(name)
-        copy_project(folder)
-        target = folder / fields["file"]
-        text = target.read_text()
-        if text.count(fields["old"]) != 1:
-            return f"{path.stem}: BAD EDIT: the text stands {text.count(fields['old'])} times in {fields['file']}", False
-        target.write_text(text.replace(fields["old"], fields["new"]))
-        said, refused = verdict(fields, *proved(folder, fields["refused by"]))
-    return f"{path.stem} ({time.time() - started:.0f} s): {said}", refused
+        copy_project(folder, edit)
+        wrong = edit.apply(folder)
+        if wrong:
+            return f"{edit.name}: BAD EDIT: {wrong}", False
+        said, refused = verdict(edit, *proved(folder, edit.refused_by))
+    return f"{edit.name} ({time.time() - started:.0f} s): {said}", refused
 
 
 def main(names):
@@ -117,7 +143,7 @@ def main(names):
         for line, refused in pool.map(try_edit, paths):
             print(line, flush=True)
             good = good and refused
-    print(f"{len(paths)} wrong definitions tried: " + ("all refused" if good else "NOT ALL REFUSED"))
+    print(f"{len(paths)} wrong definitions and promises tried: " + ("all refused" if good else "NOT ALL REFUSED"))
     return 0 if good else 1
 
 
