@@ -12,6 +12,11 @@ use Rattle.calls.proofs.step_tallied.Met as step-tallied-met
 use Rattle.step.proofs.step_of.Reads as step-of
 use Rattle.step.proofs.step_of.Met as step-of-met
 use Rattle.step.proofs.step.Met as step-met
+use Rattle.holdings.proofs.holdings_on.Reads as holdings-on
+use Rattle.holdings.proofs.holdings_on.Met as holdings-on-met
+use Rattle.holdings.proofs.holdings_of.Reads as holdings-of
+use Rattle.holdings.proofs.holdings_of.Met as holdings-of-met
+use Rattle.holdings.proofs.holdings.Met as holdings-met
 use Rattle.tie.specs.Contracts.{Unasked, Kept}
 
 pub unasked : Unasked
@@ -23,6 +28,9 @@ unasked =
       step-tallied = λ p c t. tt;
       step-of = λ p c t. tt;
       step = λ w κs p c tally. refl;
+      holdings-on = λ p c rows. tt;
+      holdings-of = λ p c. tt;
+      holdings = λ w κs p c rows. refl;
     }
 
 pub kept : Kept
@@ -33,6 +41,10 @@ kept =
       release = λ w names k e. release.known w names k _ e (release-met.met (w .𝓤) (w .H) (w .𝓜) (w .𝓖) (w .𝓡));
       step-tallied = λ w names k e. step-tallied.known w names k _ e (step-tallied-met.met (w .𝓤) (w .H) (w .𝓜) (w .𝓖) (w .𝓡));
       step-of = λ w names k e. step-of.known w names k _ e (step-of-met.met (w .𝓤) (w .H) (w .𝓜) (w .𝓖) (w .𝓡));
+      holdings-on = λ w names k e. holdings-on.known w names k _ e (holdings-on-met.met (w .𝓤) (w .H) (w .𝓜) (w .𝓖) (w .𝓡));
+      holdings-of = λ w names k e. holdings-of.known w names k _ e (holdings-of-met.met (w .𝓤) (w .H) (w .𝓜) (w .𝓖) (w .𝓡));
+      step-says = λ w κs p c lent pool client tally r. refl;
       step = step-met.met;
-      step-says = λ w κs p c ref pool client tally r. refl;
+      holdings-says = λ w κs p c lent pool client rows a. refl;
+      holdings = holdings-met.met;
     }

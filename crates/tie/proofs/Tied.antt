@@ -1,6 +1,6 @@
 -- Each contract says that the call is the definition's, and a begin or a release counts nothing, so that leaving the tally alone is tallying it. A
 -- list is a recursion over that, and what the guarantee claims of the definition's pools and events it claims of the code's. Assumes nothing.
-use mathlib.Core.Path.{_≡_, refl, sym, ap, subst, _∙_}
+use mathlib.Core.Path.{_≡_, refl, sym, _∙_}
 use mathlib.Core.List.{List, [], _∷_}
 use Prim.Native.Nat.{ℕ}
 use Rattle.pool.specs.Calls.{setupOf, moveOf, releaseMove, finished, callOf, poolAfter}
@@ -13,17 +13,15 @@ use Rattle.pool.specs.declared.Call.{Call}
 use Rattle.pool.specs.declared.Call.the-variants.{Begin, Step, Release}
 use Rattle.pool.specs.declared.Answer.{Answer}
 use Rattle.pool.specs.declared.Answer.the-variants.{Done}
-use Rattle.pool.specs.declared.Counted.{Counted}
 use Rattle.pool.specs.declared.Counted.the-variants.{Nothing}
 use Rattle.laws.specs.Choices.{by-test}
 use Rattle.calls.specs.Refusals.{setup-refusals, begin-refusals, step-refusals, release-refusals}
 use Rattle.calls.specs.Tallied.{steppedOf}
-use Rattle.calls.specs.declared.Stepped.{Stepped}
 use Rattle.guarantee.specs.Runs.{events}
 use Rattle.guarantee.specs.Claims.{tallyOf}
 use Rattle.guarantee.proofs.Guaranteed.{guarantee}
 use Rattle.tie.specs.Ties.{Makes, begin, release, step-tallied, step-of, step, Plays, at-end, at-call, Accepted}
-use Rattle.tie.specs.Ties.{Claim-setup, Claim-call, Claim-list, Answerable, Claim-any-tally, Claim-point3, Claim-sum, Tied}
+use Rattle.tie.specs.Ties.{Claim-setup, Claim-call, Claim-list, Answerable, Claim-any-tally, Claim-point3, Claim-sum, ListsHoldings, Tied}
 use Rattle.tie.proofs.Kept.{unasked, kept}
 
 -- ---- a call
@@ -99,6 +97,11 @@ sum s t c h r first calls answers q u m =
     let e = list (r .pool) q zeroTally u calls answers m in
     rw (e .1, e .2, setup s t c h r (first .says)) (guarantee .sum s t c h (done s t c h r first) calls)
 
+-- ---- holdings
+
+holdings : ListsHoldings
+holdings = record { holdings-on = λ p c rows r l. l .0; holdings-of = λ p c r l. l .0; holdings = λ p c rows left a l. l .0 }
+
 pub all-tied : Tied
 all-tied =
     record {
@@ -111,4 +114,5 @@ all-tied =
       any-tally = any-tally;
       point3 = point3;
       sum = sum;
+      holdings = holdings;
     }

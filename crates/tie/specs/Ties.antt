@@ -7,8 +7,10 @@ use Prim.Native.Nat.{ℕ, _+_}
 use Rattle.pool.specs.Table.{residents}
 use Rattle.pool.specs.Calls.{setupOf, callOf, poolAfter}
 use Rattle.pool.specs.Tallies.{zeroTally, tallied}
+use Rattle.pool.specs.Holdings.{Holdings}
 use Rattle.pool.specs.declared.Pool.{Pool}
 use Rattle.pool.specs.declared.Tally.{Tally}
+use Rattle.pool.specs.declared.Row.{Row}
 use Rattle.pool.specs.declared.Outcome.{Outcome}
 use Rattle.pool.specs.declared.Call.{Call}
 use Rattle.pool.specs.declared.Call.the-variants.{Begin, Step, Release}
@@ -16,15 +18,18 @@ use Rattle.pool.specs.declared.Answer.{Answer}
 use Rattle.pool.specs.declared.Answer.the-variants.{Done}
 use Rattle.calls.specs.declared.Stepped.{Stepped}
 use Rattle.step.specs.declared.Answered.{Answered}
+use Rattle.holdings.specs.Rows.{blank}
+use Rattle.holdings.specs.declared.Listed.{Listed}
 use Rattle.guarantee.specs.Runs.{Event, events}
 use Rattle.guarantee.specs.Sequential.{start}
 use Rattle.guarantee.specs.Claims.{Point3, tallyOf, BelowLargest}
-use Rattle.tie.specs.Contracts.{SetupSays, BeginSays, ReleaseSays, StepTalliedSays, StepOfSays, StepSays, Unasked, Kept}
+use Rattle.tie.specs.Contracts.{SetupSays, BeginSays, ReleaseSays, StepTalliedSays, StepOfSays, StepSays}
+use Rattle.tie.specs.Contracts.{HoldingsOnSays, HoldingsOfSays, HoldingsSays, Unasked, Kept}
 
 -- ---- what the contracts allow
 
--- One call on a pool and a tally, with an answer, a pool and a tally after it that the contract of the function allows. Only a step is lent the
--- tally, and three functions make one.
+-- One call on a pool and a tally, its answer, and the pool and the tally after it, as the contract of the function that makes it allows. Only a step
+-- is lent the tally, and three functions make a step.
 pub data Makes (p : Pool) (t : Tally) : Call → Answer → Pool → Tally → Type 0 where
   begin : {c g : ℕ} (r : Outcome) → BeginSays p c g r → Makes p t (Begin c g) (r .answer) (r .pool) t
   release : {c g : ℕ} (r : Outcome) → ReleaseSays p c g r → Makes p t (Release c g) (r .answer) (r .pool) t
@@ -38,7 +43,7 @@ pub data Plays : Pool → Tally → List Call → List Answer → Pool → Tally
   at-call : {p q r : Pool} {t u v : Tally} {x : Call} {a : Answer} {calls : List Call} {answers : List Answer}
       → Makes p t x a q u → Plays q u calls answers r v → Plays p t (x ∷ calls) (a ∷ answers) r v
 
--- a setup that is accepted, and what it left
+-- a setup as its contract allows, that is accepted
 pub record Accepted (s t c h : ℕ) (r : Outcome) : Type 0 where
   pub says : SetupSays s t c h r
   pub done : r .answer ≡ Done s
@@ -60,7 +65,7 @@ Claim-list =
     (p q : Pool) (t u : Tally) (calls : List Call) (answers : List Answer) → Plays p t calls answers q u
     → (answers ≡ map (λ (e : Event). e .answer) (events p calls)) × (q ≡ poolAfter p calls) × (u ≡ tallyOf t (events p calls))
 
--- and there are such: every setup and every list of calls can be answered
+-- none of this is empty: every setup and every list of calls has an answer that the contracts allow
 pub record Answerable : Type 0 where
   pub setup : (s t c h : ℕ) → (r : Outcome) × SetupSays s t c h r
   pub list : (p : Pool) (t : Tally) (calls : List Call) → (answers : List Answer) × (q : Pool) × (u : Tally) × Plays p t calls answers q u
@@ -82,6 +87,12 @@ Claim-sum =
     → (calls : List Call) (answers : List Answer) (q : Pool) (u : Tally) → Plays (r .pool) zeroTally calls answers q u
     → BelowLargest u → residents q + u .drops ≡ u .admitted + u .revived
 
+-- Holdings has no part in a list of calls: it is asked of a pool and changes none. Each of its forms answers and lists as the definition allows.
+pub record ListsHoldings : Type 0 where
+  pub holdings-on : (p : Pool) (c : ℕ) (rows : List Row) (r : Listed) → HoldingsOnSays p c rows r → Holdings p c rows (r .answer) (r .rows)
+  pub holdings-of : (p : Pool) (c : ℕ) (r : Listed) → HoldingsOfSays p c r → Holdings p c blank (r .answer) (r .rows)
+  pub holdings : (p : Pool) (c : ℕ) (rows left : List Row) (a : Answer) → HoldingsSays p c rows a left → Holdings p c rows a left
+
 pub record Tied : Type 2 where
   pub unasked : Unasked
   pub kept : Kept
@@ -92,3 +103,4 @@ pub record Tied : Type 2 where
   pub any-tally : Claim-any-tally
   pub point3 : Claim-point3
   pub sum : Claim-sum
+  pub holdings : ListsHoldings

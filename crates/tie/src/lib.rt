@@ -1,1 +1,1 @@
-// The tie between what the calls promise and the guarantee. There is no code here.
+// Internal: the tie between what the calls promise and the guarantee. There is no code here.
