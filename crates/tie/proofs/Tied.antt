@@ -21,7 +21,8 @@ use Rattle.guarantee.specs.Runs.{events}
 use Rattle.guarantee.specs.Claims.{tallyOf}
 use Rattle.guarantee.proofs.Guaranteed.{guarantee}
 use Rattle.tie.specs.Ties.{Makes, begin, release, step-tallied, step-of, step, Plays, at-end, at-call, Accepted}
-use Rattle.tie.specs.Ties.{Claim-setup, Claim-call, Claim-list, Answerable, Claim-any-tally, Claim-point3, Claim-sum, ListsHoldings, Tied}
+use Rattle.tie.specs.Ties.{Claim-setup, Claim-call, Claim-list, Answerable, Claim-any-tally, Claim-set-up, Claim-point3, Claim-sum}
+use Rattle.tie.specs.Ties.{ListsHoldings, Tied}
 use Rattle.tie.proofs.Kept.{unasked, kept}
 
 -- ---- a call
@@ -85,17 +86,18 @@ answerable = record { setup = λ s t c h. (setupOf s t c h, (refl, setup-refusal
 setup : Claim-setup
 setup s t c h r says = says .0
 
--- an accepted setup is accepted by the definition
-done : (s t c h : ℕ) (r : Outcome) → Accepted s t c h r → setupOf s t c h .answer ≡ Done s
-done s t c h r first = rw (← setup s t c h r (first .says)) (first .done)
+set-up : Claim-set-up
+set-up s t c h r first =
+    let e = setup s t c h r (first .says) in
+    record { size = s; clients = t; cap = c; hand = h; done = rw (← e) (first .done); made = rw e refl }
 
 point3 : Claim-point3
-point3 s t c h r first calls = rw (setup s t c h r (first .says)) (guarantee .point3 s t c h (done s t c h r first) calls)
+point3 s t c h r first = guarantee .point3 (r .pool) (set-up s t c h r first)
 
 sum : Claim-sum
 sum s t c h r first calls answers q u m =
     let e = list (r .pool) q zeroTally u calls answers m in
-    rw (e .1, e .2, setup s t c h r (first .says)) (guarantee .sum s t c h (done s t c h r first) calls)
+    rw (e .1, e .2) (guarantee .sum (r .pool) (set-up s t c h r first) calls)
 
 -- ---- holdings
 
@@ -112,6 +114,7 @@ all-tied =
       list = list;
       answerable = answerable;
       any-tally = any-tally;
+      set-up = set-up;
       point3 = point3;
       sum = sum;
       holdings = holdings;

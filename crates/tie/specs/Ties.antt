@@ -5,7 +5,7 @@ use mathlib.Core.Path.{_≡_}
 use mathlib.Core.List.{List, [], _∷_, map}
 use Prim.Native.Nat.{ℕ, _+_}
 use Rattle.pool.specs.Table.{residents}
-use Rattle.pool.specs.Calls.{setupOf, callOf, poolAfter}
+use Rattle.pool.specs.Calls.{setupOf, SetUp, callOf, poolAfter}
 use Rattle.pool.specs.Tallies.{zeroTally, tallied}
 use Rattle.pool.specs.Holdings.{Holdings}
 use Rattle.pool.specs.declared.Pool.{Pool}
@@ -21,7 +21,6 @@ use Rattle.step.specs.declared.Answered.{Answered}
 use Rattle.holdings.specs.Rows.{blank}
 use Rattle.holdings.specs.declared.Listed.{Listed}
 use Rattle.guarantee.specs.Runs.{Event, events}
-use Rattle.guarantee.specs.Sequential.{start}
 use Rattle.guarantee.specs.Claims.{Point3, tallyOf, BelowLargest}
 use Rattle.tie.specs.Contracts.{SetupSays, BeginSays, ReleaseSays, StepTalliedSays, StepOfSays, StepSays}
 use Rattle.tie.specs.Contracts.{HoldingsOnSays, HoldingsOfSays, HoldingsSays, Unasked, Kept}
@@ -75,9 +74,13 @@ abbrev pub Claim-any-tally : Type 0
 Claim-any-tally =
     (p q q′ : Pool) (t t′ u u′ : Tally) (x : Call) (a a′ : Answer) → Makes p t x a q u → Makes p t′ x a′ q′ u′ → (a ≡ a′) × (q ≡ q′)
 
--- point 3, of every list of calls from the pool that an accepted setup left; by `Claim-list` its events are what the code does
+-- The pool that an accepted setup left was set up in the guarantee's sense: so each of its claims about such a pool and every list of calls holds of
+-- it, and by `Claim-list` the events that they speak of are what the code does. Point 3 is one of them.
+abbrev pub Claim-set-up : Type 0
+Claim-set-up = (s t c h : ℕ) (r : Outcome) → Accepted s t c h r → SetUp (r .pool)
+
 abbrev pub Claim-point3 : Type 0
-Claim-point3 = (s t c h : ℕ) (r : Outcome) → Accepted s t c h r → (calls : List Call) → Point3 (r .pool) (start s t) calls
+Claim-point3 = (s t c h : ℕ) (r : Outcome) → Accepted s t c h r → (calls : List Call) → Point3 (r .pool) calls
 
 -- the tally's sum: where one tally, all zero at setup, is lent throughout, each time as the last call left it, and none of its counts is at its
 -- largest value, the resident pages are those admitted and revived less those dropped
@@ -101,6 +104,7 @@ pub record Tied : Type 2 where
   pub list : Claim-list
   pub answerable : Answerable
   pub any-tally : Claim-any-tally
+  pub set-up : Claim-set-up
   pub point3 : Claim-point3
   pub sum : Claim-sum
   pub holdings : ListsHoldings
