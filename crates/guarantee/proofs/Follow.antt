@@ -15,7 +15,7 @@ use Rattle.pool.specs.State.{none, evicted, pinned, clientCount, pins, client, 
 use Rattle.pool.specs.Grants.{grantOf}
 use Rattle.pool.specs.Moves.{holding, completes}
 use Rattle.pool.specs.Apply.{apply}
-use Rattle.pool.specs.Calls.{turnedDown, caller, refusalAt, refusal, beginMove, releaseMove, moveOf, callOf}
+use Rattle.pool.specs.Calls.{caller, refusalAt, refusal, beginMove, releaseMove, moveOf, callOf}
 use Rattle.pool.specs.declared.Pool.{Pool}
 use Rattle.pool.specs.declared.Client.{Client}
 use Rattle.pool.specs.declared.Call.{Call}
@@ -36,7 +36,7 @@ use Rattle.invariant.proofs.Valid.{valid-reached}
 use Rattle.invariant.proofs.Allowed.{Allowed, allowed, may-begin, may-step, may-release}
 use Rattle.invariant.proofs.Edges.{Edge}
 use Rattle.invariant.proofs.Steps.{call-edge}
-use Rattle.invariant.proofs.Calls.{outcomeOf, call-moves, call-turned-down}
+use Rattle.invariant.proofs.Calls.{outcomeOf, by-refusal}
 use Rattle.guarantee.specs.Sequential.{SeqClient, Sequential, seqClient, without, seqRefusal, Rule, turns-down, begins, releases, steps}
 use Rattle.guarantee.proofs.TurnedDown.{moved}
 use Rattle.guarantee.proofs.SimulationRelation.{times, not-member, is-member, without-times, without-length, SimulationRelation, open-many, open-grants}
@@ -96,9 +96,6 @@ module _ {p : Pool} {q : Sequential} (r : Reached p) (related : SimulationRelati
       asked s (no z) =
           passed _ _ _ (ne-eqb _ _ z)
           ∙ sym (chosen _ _ _ (is-member g (seqClient q c .grants) (λ w. omega (arith, open-grants (related .clients c) (rw s refl) g, some-grant c g z))))
-
-  turned-follows : (x : Call) (n : ℕ) → seqRefusal q x ≡ n → n ≢ 0 → Followed q x (turnedDown n p)
-  turned-follows x n e z = record { state = q; rule = turns-down e z; related = related }
 
   -- ---- and make the same moves
 
@@ -196,8 +193,6 @@ module _ {p : Pool} {q : Sequential} (r : Reached p) (related : SimulationRelati
       go (Release c g) a n w = let s = may-release p (client p c) c g (a .may) in released c (a .here) g n (s .0) (s .1)
 
   pub followed : (x : Call) → Followed q x (callOf p x)
-  followed x = go (ℕ-discrete (refusal p x) 0)
-    where
-      go : Dec (refusal p x ≡ 0) → Followed q x (callOf p x)
-      go (yes e) = rw (call-moves p x r e) (made x e)
-      go (no z) = rw (call-turned-down p x (refusal p x) refl z) (turned-follows x (refusal p x) (sym (refusal-alike x)) z)
+  followed x =
+      by-refusal p x (Followed q x) r (made x)
+      (λ n e z. record { state = q; rule = turns-down (sym (refusal-alike x) ∙ e) z; related = related })

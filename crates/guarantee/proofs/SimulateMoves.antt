@@ -12,15 +12,14 @@ use Rattle.pool.specs.Table.{entryOf, unusedEntry}
 use Rattle.pool.specs.Frames.{freeFrame}
 use Rattle.pool.specs.Moves.{withOwn, works}
 use Rattle.pool.specs.declared.Pool.{Pool}
-use Rattle.pool.specs.declared.Client.{Client}
 use Rattle.pool.specs.declared.Move.{Move}
 use Rattle.pool.specs.declared.Answer.the-variants.{Working}
 use Rattle.pool.specs.declared.GrantChange.the-variants.{Same}
 use Rattle.pool.specs.declared.Write.the-variants.{PutPins}
-use Rattle.invariant.proofs.Reached.{Reached, Knows}
+use Rattle.invariant.proofs.Reached.{Reached}
 use Rattle.invariant.proofs.Searches.{lookup-found, unused-found, free-found, unreferenced-means, none-evicted}
 use Rattle.invariant.proofs.Table.{mapped-lookup}
-use Rattle.invariant.proofs.NeverFails.{know}
+use Rattle.invariant.proofs.NeverFails.{Mover, mover}
 use Rattle.invariant.proofs.Edges.{Edge, moves-on, found1, found18, forgets2, forgets22, pins2, pins19, gets3, gets21, takes, fills, replaces, refuses, drops}
 use Rattle.invariant.proofs.Edges.{removes, admits, revives, evicts20, evicts23, begins, releases}
 use Rattle.invariant.proofs.Effects.{counters-test}
@@ -30,14 +29,10 @@ use Rattle.guarantee.proofs.ViewAfter.{SameView, counters-view, pins-vi
 use Rattle.guarantee.proofs.Simulate.{Simulates, Acting, continues-one, adds-one, answers-one, admits-one, refuses-one, drops-one}
 
 module _ {p : Pool} {c : ℕ} {q : Sequential} (acting : Acting p c q) (busy : client p c .stage ≢ 0) where
-  abbrev k : Client
-  k = client p c
-
   r : Reached p
   r = acting .reached
 
-  known : (i : ℕ) → k .stage ≡ i → Knows i p k
-  known = know p r c
+  open Mover (mover p r c) using (me as k, known)
 
   room : k .held < maxHeld
   room = omega (arith, r .ranges .working-held c busy)

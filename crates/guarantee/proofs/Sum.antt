@@ -13,15 +13,14 @@ use native.Mathlib.Omega.{arith}
 use lib.Dec.{T, eqb}
 use borrow.Author.Tests.{ne-eqb, ltb-true, ltb-false}
 use Rattle.pool.specs.Choose.{choose, howMany}
-use Rattle.pool.specs.State.{none, evicted, total, page, pins, entryFrame, client, grantFrame}
+use Rattle.pool.specs.State.{none, evicted, total, page, pins, entryFrame, grantFrame}
 use Rattle.pool.specs.Table.{residents}
 use Rattle.pool.specs.Grants.{grantOf}
 use Rattle.pool.specs.Frames.{freeFrame}
 use Rattle.pool.specs.Apply.{pinsAfter, entryFramesAfter, apply}
-use Rattle.pool.specs.Calls.{fresh, SetUp, caller, refusal, callOf, poolAfter}
+use Rattle.pool.specs.Calls.{fresh, SetUp, caller, callOf, poolAfter}
 use Rattle.pool.specs.Tallies.{largest, up, zeroTally, tallied}
 use Rattle.pool.specs.declared.Pool.{Pool}
-use Rattle.pool.specs.declared.Client.{Client}
 use Rattle.pool.specs.declared.Move.{Move}
 use Rattle.pool.specs.declared.Outcome.{Outcome}
 use Rattle.pool.specs.declared.Tally.{Tally}
@@ -31,13 +30,13 @@ use Rattle.pool.specs.declared.Counted.the-variants.{Nothing, Hit, Join, Admitt
 use Rattle.pool.specs.declared.Write.the-variants.{PutEntry}
 use Rattle.laws.specs.Choices.{by-test}
 use Rattle.laws.specs.Setups.{of-fresh}
-use Rattle.invariant.proofs.Reached.{Reached, Knows, one, sumTo, mapped}
+use Rattle.invariant.proofs.Reached.{Reached, one, sumTo, mapped}
 use Rattle.invariant.proofs.After.{PinsStay, PinsPut, EntryFramesStay, pins-kept, pins-here, pins-else, pins-in, entry-in, entryFrame-kept}
 use Rattle.invariant.proofs.Writes.{countersOnly, untouched}
 use Rattle.invariant.proofs.Sums.{sum-same, sum-put, sum-zero}
 use Rattle.invariant.proofs.Searches.{lookup-found, unused-found, grantOf-found, free-found, unreferenced-means, none-evicted, pins-named}
 use Rattle.invariant.proofs.Table.{mapped-entry, put-frame, else-frame}
-use Rattle.invariant.proofs.NeverFails.{know}
+use Rattle.invariant.proofs.NeverFails.{Mover, mover}
 use Rattle.invariant.proofs.Facts.{own-not-evicted, grant-pinned, unpinned-mapped}
 use Rattle.invariant.proofs.Edges.{Edge, moves-on, found1, found18, forgets2, forgets22, pins2, pins19, gets3, gets21, takes, fills, replaces, refuses, drops}
 use Rattle.invariant.proofs.Edges.{removes, admits, revives, evicts20, evicts23, begins, releases}
@@ -45,7 +44,7 @@ use Rattle.invariant.proofs.Effects.{Effect, Scene, scene, counters-test, effec
 use Rattle.invariant.proofs.Mapping.{own-only}
 use Rattle.invariant.proofs.Steps.{call-edge}
 use Rattle.invariant.proofs.Setup.{setup-evicted, first-reached}
-use Rattle.invariant.proofs.Calls.{outcomeOf, call-moves, call-turned-down, reached-call}
+use Rattle.invariant.proofs.Calls.{outcomeOf, by-refusal, reached-call}
 use Rattle.guarantee.specs.Runs.{events}
 use Rattle.guarantee.specs.Claims.{tallyOf, Claim-sum}
 
@@ -162,11 +161,7 @@ abbrev Summed : Pool → Outcome → Type 0
 Summed p o = Changes p (o .pool) (lost (o .counted)) (gained (o .counted))
 
 module _ (p : Pool) (c : ℕ) (r : Reached p) where
-  abbrev k : Client
-  k = client p c
-
-  known : (i : ℕ) → k .stage ≡ i → Knows i p k
-  known = know p r c
+  open Mover (mover p r c) using (me as k, known)
 
   summed : {m : Move} → Edge p c m → Effect p c m → Summed p (outcomeOf p c m)
   unfolding pinsAfter entryFramesAfter tallied up choose
@@ -207,11 +202,9 @@ module _ (p : Pool) (c : ℕ) (r : Reached p) where
 
 call-summed : (p : Pool) (y : Call) → Reached p → Summed p (callOf p y)
 unfolding tallied
-call-summed p y r = go (ℕ-discrete (refusal p y) 0)
-  where
-    go : Dec (refusal p y ≡ 0) → Summed p (callOf p y)
-    go (yes e) = let w = call-edge p y r e in rw (call-moves p y r e) (summed p (caller y) r (w .1) (effect p (caller y) (w .0) r (w .1)))
-    go (no z) = rw (call-turned-down p y (refusal p y) refl z) refl
+call-summed p y r =
+    by-refusal p y (Summed p) r
+    (λ e. let w = call-edge p y r e in summed p (caller y) r (w .1) (effect p (caller y) (w .0) r (w .1))) (λ _ _ _. refl)
 
 -- ---- along a run
 

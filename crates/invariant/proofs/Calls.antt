@@ -77,12 +77,17 @@ module _ (p : Pool) (x : Call) where
   unfolding callOf
   call-turned-down n e z = passed _ _ _ (ne-eqb _ _ (λ w. z (sym e ∙ w))) ∙ ap (λ (n : ℕ). turnedDown n p) e
 
+  -- so what holds of its move and of a call that is turned down holds of what it leaves
+  pub by-refusal : (P : Outcome → Type 0) → Reached p → (refusal p x ≡ 0 → P (outcomeOf p (caller x) (moveOf p x)))
+      → ((n : ℕ) → refusal p x ≡ n → n ≢ 0 → P (turnedDown n p)) → P (callOf p x)
+  by-refusal P r moves turns =
+      elim (ℕ-discrete (refusal p x) 0) [
+        | yes e ↦ subst P (sym (call-moves r e)) (moves e)
+        | no z ↦ subst P (sym (call-turned-down (refusal p x) refl z)) (turns (refusal p x) refl z)
+      ]
+
   pub reached-call : Reached p → Reached (callOf p x .pool)
-  reached-call r = go (ℕ-discrete (refusal p x) 0)
-    where
-      go : Dec (refusal p x ≡ 0) → Reached (callOf p x .pool)
-      go (yes e) = subst (λ (o : Outcome). Reached (o .pool)) (sym (call-moves r e)) (reached-next r e)
-      go (no e) = subst (λ (o : Outcome). Reached (o .pool)) (sym (call-turned-down (refusal p x) refl e)) r
+  reached-call r = by-refusal (λ o. Reached (o .pool)) r (reached-next r) (λ _ _ _. r)
 
   -- 8 is no refusal of a reached pool
   pub refusal-not-8 : Reached p → refusal p x ≢ 8

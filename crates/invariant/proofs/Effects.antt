@@ -26,11 +26,11 @@ use Rattle.pool.specs.declared.Write.{Write}
 use Rattle.pool.specs.declared.Write.the-variants.{PutSlot, PutPins, PutCount, TakeFrame, PutEntry}
 use Rattle.invariant.proofs.After.{SlotsStay, PinsStay, PinsPut, PagesStay, PagesPut, CountsStay, CountsPut, EntryPagesStay, EntryFramesStay}
 use Rattle.invariant.proofs.Writes.{countersOnly, Untouched, untouched}
-use Rattle.invariant.proofs.Reached.{Reached, mapped, InSlot, Knows, unplaced, pinsFound, unmapping}
+use Rattle.invariant.proofs.Reached.{Reached, mapped, InSlot, unplaced, pinsFound, unmapping}
 use Rattle.invariant.proofs.Searches.{lookup-found, lookup-none, unused-found, grantOf-found, free-found}
 use Rattle.invariant.proofs.Table.{suc-not, lookup-mapped}
 use Rattle.invariant.proofs.Grants.{GrantsOk, grants-stay, grant-opens, grant-ends}
-use Rattle.invariant.proofs.NeverFails.{know}
+use Rattle.invariant.proofs.NeverFails.{Mover, mover}
 use Rattle.invariant.proofs.StageTests.{differ, imp}
 use Rattle.invariant.proofs.Facts.{raised-ok, grant-pinned, found-pinned, one-more-pin}
 use Rattle.invariant.proofs.Edges.{CountersOnly, keep, hand, counts, free, Edge, moves-on, grants, found1, found18, forgets2, forgets22, pins2, pins19}
@@ -154,11 +154,7 @@ ends-no-open : {A : Type 0} {i l j g f : ℕ} → End i l ≡ Open j g f → A
 ends-no-open e = let z : _≡_ {A = ℕ} 0 1 = cc in absurd (let y : ⊥ = omega arith in y)
 
 module _ (p : Pool) (c : ℕ) (here : c < clientCount p) (r : Reached p) where
-  abbrev me : Client
-  me = client p c
-
-  known : (i : ℕ) → client p c .stage ≡ i → Knows i p me
-  known = know p r c
+  open Mover (mover p r c) using (me, known)
 
   -- free, the last frame taken and the counts are not written
   unwritten : {w : Write} → freeAfter (p .free) w ≡ p .free → lastAfter (p .last) w ≡ p .last → CountsStay p w → WriteOk p w

@@ -20,7 +20,7 @@ use Rattle.invariant.proofs.After.{pins-else}
 use Rattle.invariant.proofs.Sums.{one-not, sum-same, sum-put}
 use Rattle.invariant.proofs.Searches.{lookup-found}
 use Rattle.invariant.proofs.Table.{put-replaced}
-use Rattle.invariant.proofs.NeverFails.{know}
+use Rattle.invariant.proofs.NeverFails.{know, Mover, mover}
 use Rattle.invariant.proofs.StageTests.{T-not, never, differ, unmapsNone, examining-unplaced}
 use Rattle.invariant.proofs.Steps.{not-unmapping}
 use Rattle.invariant.proofs.Facts.{own-not-evicted, own-not-victim}
@@ -154,11 +154,7 @@ module _ {p : Pool} {c : ℕ} {m : Move} (x : Effect p c m) (s : EvictionsCondit
 -- ---- each kind of move
 
 module _ (p : Pool) (c : ℕ) (r : Reached p) where
-  abbrev me : Client
-  me = client p c
-
-  known : (i : ℕ) → client p c .stage ≡ i → Knows i p me
-  known = know p r c
+  open Mover (mover p r c) using (me, known)
 
   -- the slots and free stay
   same-empty : (m : Move) → SlotsStay p (m .write) → emptyCount (apply p c m) ≡ emptyCount p

@@ -16,7 +16,7 @@ use Rattle.invariant.proofs.Reached.{knows, Knows}
 use Rattle.invariant.proofs.After.{EntryPagesStay, EntryFramesStay, slot-kept, slot-here, pins-kept, pins-here}
 use Rattle.laws.specs.Each.{Each, fin, _also_, each-at}
 use Rattle.invariant.proofs.Table.{mapped-kept, lookup-mapped}
-use Rattle.invariant.proofs.NeverFails.{know}
+use Rattle.invariant.proofs.NeverFails.{know, Mover, mover}
 use Rattle.invariant.proofs.Facts.{own-not-evicted}
 use Rattle.invariant.proofs.Edges.{CountersOnly, Edge, moves-on, found1, found18, forgets2, forgets22, pins2, pins19, gets3, gets21, takes, fills}
 use Rattle.invariant.proofs.Edges.{replaces, refuses, drops, removes, admits, revives, evicts20, evicts23, begins, releases}
@@ -114,11 +114,7 @@ module _ (p : Pool) (c : ℕ) (r : Reached p) (m : Move) (w : CountersOnly p (m 
       record { stays-evicted = λ e. a f ∙ e; stays-mapped = λ _ g e. b ∙ e; stays-in-slot = λ _ s. (s .0, d (s .0) ∙ s .1) }
 
 module _ (p : Pool) (c : ℕ) (r : Reached p) where
-  abbrev k : Client
-  k = client p c
-
-  known : (i : ℕ) → client p c .stage ≡ i → Knows i p k
-  known = know p r c
+  open Mover (mover p r c) using (me as k, known)
 
   -- the frame that a look-up found is the page's
   looked-up : (m : Move) → EntryPagesStay p (m .write) → EntryFramesStay p (m .write) → (z : lookup p (k .page) ≢ none)

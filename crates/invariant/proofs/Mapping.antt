@@ -22,7 +22,7 @@ use Rattle.invariant.proofs.Distinct.{distinct-used, distinct-same}
 use Rattle.invariant.proofs.Searches.{Unreferenced, unreferenced-means, grant-in, lookup-found, unused-found}
 use Rattle.invariant.proofs.Table.{suc-not, some-suc, mapped-none, mapped-zero, mapped-kept, put-frame, put-page, else-frame, else-page, put-other}
 use Rattle.invariant.proofs.Table.{put-distinct, put-new, put-replaced, put-unmapped}
-use Rattle.invariant.proofs.NeverFails.{know}
+use Rattle.invariant.proofs.NeverFails.{Mover, mover}
 use Rattle.invariant.proofs.Facts.{grant-pinned}
 use Rattle.invariant.proofs.StageTests.{never, imp-mp}
 use Rattle.invariant.proofs.Edges.{Edge, moves-on, found1, found18, forgets2, forgets22, pins2, pins19, gets3, gets21, takes, fills, replaces, refuses}
@@ -239,11 +239,7 @@ module _ {p : Pool} {c : ℕ} {m : Move} (x : Effect p c m) where
 -- ---- each kind of move
 
 module _ (p : Pool) (c : ℕ) (r : Reached p) where
-  abbrev me : Client
-  me = client p c
-
-  known : (i : ℕ) → client p c .stage ≡ i → Knows i p me
-  known = know p r c
+  open Mover (mover p r c) using (me, known)
 
   foundless-now : (i : ℕ) → client p c .stage ≡ i → T (foundless i) → me .found ≡ none
   foundless-now i e t = r .mapping .no-found c (rw e t)

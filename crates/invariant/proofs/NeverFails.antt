@@ -32,6 +32,15 @@ module _ (p : Pool) (r : Reached p) where
   pub know : (c i : ℕ) → client p c .stage ≡ i → Knows i p (client p c)
   know c i e = subst (λ s. Knows s p (client p c)) e (r .mapping .knowing c)
 
+-- the names by which the proofs over the edges speak of the client that moves, opened in each: the client, and what it knows at its stage
+pub record Mover (p : Pool) (c : ℕ) : Type 0 where
+  pub me : Client
+  pub known : (i : ℕ) → client p c .stage ≡ i → Knows i p (client p c)
+
+abbrev pub mover : (p : Pool) → Reached p → (c : ℕ) → Mover p c
+mover p r c = record { me = client p c; known = know p r c }
+
+module _ (p : Pool) (r : Reached p) where
   -- no client has a found frame and a victim
   not-both : (c : ℕ) → client p c .victim ≢ none → client p c .found ≡ none
   not-both c z = go (leb 12 s) (leb s 17) refl refl

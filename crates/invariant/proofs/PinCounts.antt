@@ -18,14 +18,14 @@ use Rattle.pool.specs.declared.Pool.{Pool}
 use Rattle.pool.specs.declared.Client.{Client}
 use Rattle.pool.specs.declared.Move.{Move}
 use Rattle.pool.specs.declared.GrantChange.the-variants.{Same, Open}
-use Rattle.invariant.proofs.Reached.{Reached, PinCounts, Knows, one, grantsOn, claims, claimed, pinsFound, unplaced, ownless, Orphan, Balance, unclaimed}
+use Rattle.invariant.proofs.Reached.{Reached, PinCounts, one, grantsOn, claims, claimed, pinsFound, unplaced, ownless, Orphan, Balance, unclaimed}
 use Rattle.invariant.proofs.Reached.{counted, orphan}
 use Rattle.invariant.proofs.After.{PinsStay, PinsPut, client-same, client-other, all-clients, slot-kept, pins-kept, pins-here, pins-else}
 use Rattle.invariant.proofs.Sums.{one-is, one-not, sum-zero, sum-put, sum-has}
 use Rattle.invariant.proofs.Searches.{Unreferenced, unreferenced-means, free-found, grantOf-found, grant-in}
 use Rattle.invariant.proofs.Table.{mapped-kept}
 use Rattle.invariant.proofs.Grants.{grantsOn-none, grantsOn-other, grantsOn-keeps, grantsOn-opens, grantsOn-ends}
-use Rattle.invariant.proofs.NeverFails.{know}
+use Rattle.invariant.proofs.NeverFails.{Mover, mover}
 use Rattle.invariant.proofs.Facts.{none-own, foreign-claims, orphan-claims, own-pins, grant-pinned}
 use Rattle.invariant.proofs.StageTests.{T-false, never, differ, imp-mp}
 use Rattle.invariant.proofs.Edges.{Edge, moves-on, found1, found18, forgets2, forgets22, pins2, pins19, gets3, gets21, takes, fills, replaces, refuses}
@@ -163,11 +163,7 @@ module _ {p : Pool} {c : ℕ} {m : Move} (x : Effect p c m) where
 -- ---- each kind of move
 
 module _ (p : Pool) (c : ℕ) (r : Reached p) where
-  abbrev me : Client
-  me = client p c
-
-  known : (i : ℕ) → client p c .stage ≡ i → Knows i p me
-  known = know p r c
+  open Mover (mover p r c) using (me, known)
 
   -- what the client claims by its found frame, at stage i
   found-claim : (i f : ℕ) → client p c .stage ≡ i → one (pinsFound (me .stage) && eqb (me .found) f) ≡ one (pinsFound i && eqb (me .found) f)

@@ -32,7 +32,7 @@ use Rattle.laws.specs.Choices.{by-test, chosen}
 use Rattle.invariant.proofs.Reached.{Reached, Knows, WillUnmap, mapped, victimless, filling, examining}
 use Rattle.laws.specs.Each.{Each, fin, _also_, each-in}
 use Rattle.invariant.proofs.Searches.{grantOf-found}
-use Rattle.invariant.proofs.NeverFails.{know, finds-some, finds-unused}
+use Rattle.invariant.proofs.NeverFails.{Mover, mover, finds-some, finds-unused}
 use Rattle.invariant.proofs.StageTests.{T-false, never, differ, imp-mp, onward, onward-means, keepsVictim, keeps-victim-means, unmapsNone, unmaps-none}
 use Rattle.invariant.proofs.StageTests.{MayRefuse}
 use Rattle.invariant.proofs.Allowed.{allowed, may-begin, may-step, may-release}
@@ -50,17 +50,13 @@ not-unmapping p k i e t f (_, inl l) = unmaps-none i t .0 (rw e at l)
 not-unmapping p k i e t f (_, inr l) = unmaps-none i t .1 (sym e ∙ l .0)
 
 module _ (p : Pool) (c : ℕ) (here : c < clientCount p) (r : Reached p) where
-  abbrev k : Client
-  k = client p c
+  open Mover (mover p r c) using (me as k, known)
 
   abbrev IsEdge : Move → Type 0
   IsEdge m = Edge p c m
 
   abbrev EdgeAt : ℕ → Stage → Type 0
   EdgeAt i f = client p c .stage ≡ i → Edge p c (f p k)
-
-  known : (i : ℕ) → client p c .stage ≡ i → Knows i p k
-  known = know p r c
 
   same : SameFrames k k
   same = record { page = refl; own = refl; found = refl; held = refl }
