@@ -73,22 +73,22 @@ module _ {p : Pool} {q : Sequential} (r : Reached p) (related : SimulationRelati
       let h = sum-has (λ i. one (eqb (grantPage p c i) g)) (client p c .held) (grantOf p c g) (f .0) in
       omega (arith, ap one (eq-eqb _ _ (f .1)))
 
+  -- what they find of a client that is there and rests decides
+  resting-alike : (c a b : ℕ) → (client p c .stage ≡ 0 → a ≡ b)
+      → choose (ltb c (clientCount p)) (choose (eqb (client p c .stage) 0) a 10) 9 ≡ choose (ltb c (clientCount p)) (choose (eqb (client p c .stage) 0) b 10) 9
+  resting-alike c a b e =
+      choose-alike (ltb c (clientCount p)) (λ _. choose-alike (eqb (client p c .stage) 0) (λ s. e (eqb-true _ _ s)) (λ _. refl)) (λ _. refl)
+
   refusal-alike : (x : Call) → refusal p x ≡ seqRefusal q x
   unfolding refusal refusalAt caller seqRefusal
-  refusal-alike (Begin c g) =
-      chosen _ _ _ (valid-reached p r)
-      ∙ rw (related .count, related .clients c .stage)
-      (choose-alike (ltb c (clientCount p))
-      (λ _. choose-alike (eqb (client p c .stage) 0) (λ s. full (eqb-true _ _ s)) (λ _. refl)) (λ _. refl))
+  refusal-alike (Begin c g) = chosen _ _ _ (valid-reached p r) ∙ rw (related .count, related .clients c .stage) (resting-alike c _ _ full)
     where
       full : client p c .stage ≡ 0 → _≡_ {A = ℕ} (choose (ltb (client p c .held) maxHeld) 0 12) (choose (ltb (length (seqClient q c .grants)) maxHeld) 0 12)
       full s = rw (open-many (related .clients c) (rw s refl)) refl
   refusal-alike (Step c) = chosen _ _ _ (valid-reached p r) ∙ rw (related .count, related .clients c .stage) refl
   refusal-alike (Release c g) =
       chosen _ _ _ (valid-reached p r)
-      ∙ rw (related .count, related .clients c .stage)
-      (choose-alike (ltb c (clientCount p))
-      (λ _. choose-alike (eqb (client p c .stage) 0) (λ s. asked (eqb-true _ _ s) (ℕ-discrete (grantOf p c g) none)) (λ _. refl)) (λ _. refl))
+      ∙ rw (related .count, related .clients c .stage) (resting-alike c _ _ (λ s. asked s (ℕ-discrete (grantOf p c g) none)))
     where
       asked : client p c .stage ≡ 0 → Dec (grantOf p c g ≡ none)
           → _≡_ {A = ℕ} (choose (eqb (grantOf p c g) none) 13 0) (choose (member g (seqClient q c .grants)) 0 13)

@@ -1,10 +1,10 @@
 -- Which lists a write leaves as they are: a `countersOnly` one all that the slots, the frames' pages and pins, and the table are read from; and any write
 -- but that of an entry leaves the table, and so every look-up. Assumes nothing.
 use mathlib.Core.Path.{_≡_, refl}
-use mathlib.Core.Bool.{Bool, true, false}
+use mathlib.Core.Bool.{Bool, not}
 use mathlib.Core.List.{List}
 use Prim.Native.Nat.{ℕ}
-use lib.Dec.{T}
+use lib.Dec.{T, eqb}
 use Rattle.pool.specs.State.{total, entryPage, entryFrame}
 use Rattle.pool.specs.Table.{maps, entryOf, lookup}
 use Rattle.pool.specs.Apply.{slotsAfter, pagesAfter, pinsAfter, entryPagesAfter, entryFramesAfter, apply}
@@ -13,25 +13,22 @@ use Rattle.pool.specs.declared.Move.{Move}
 use Rattle.pool.specs.declared.Write.{Write}
 use Rattle.pool.specs.declared.Write.the-variants.{Keep, PutSlot, PutPins, PutCount, TakeFrame, PutEntry, PutHand, PutFree}
 
+-- what a write touches besides counters: 0 nothing, 1 a slot, 2 a frame, 3 an entry
+abbrev touched : Write → ℕ
+touched Keep = 0
+touched (PutSlot i f) = 1
+touched (PutPins f x) = 2
+touched (PutCount f x) = 0
+touched (TakeFrame f g x y) = 2
+touched (PutEntry i g f) = 3
+touched (PutHand h) = 0
+touched (PutFree x) = 0
+
 abbrev pub countersOnly : Write → Bool
-countersOnly Keep = true
-countersOnly (PutSlot i f) = false
-countersOnly (PutPins f x) = false
-countersOnly (PutCount f x) = true
-countersOnly (TakeFrame f g x y) = false
-countersOnly (PutEntry i g f) = false
-countersOnly (PutHand h) = true
-countersOnly (PutFree x) = true
+countersOnly w = eqb (touched w) 0
 
 abbrev pub keepsTable : Write → Bool
-keepsTable Keep = true
-keepsTable (PutSlot i f) = true
-keepsTable (PutPins f x) = true
-keepsTable (PutCount f x) = true
-keepsTable (TakeFrame f g x y) = true
-keepsTable (PutEntry i g f) = false
-keepsTable (PutHand h) = true
-keepsTable (PutFree x) = true
+keepsTable w = not (eqb (touched w) 3)
 
 -- whichever list it is, of which the first n count
 pub record Untouched (n : ℕ) (l : List ℕ) (w : Write) : Type 0 where
