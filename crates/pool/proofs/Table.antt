@@ -7,13 +7,33 @@ use Rattle.pool.specs.Table.{maps, entryOf, lookup, unusedEntry, residen
 use Rattle.pool.specs.Grants.{grantOf, holds, held}
 use Rattle.pool.specs.Frames.{names, referenced, firstTried, freeFrame}
 use Rattle.pool.specs.Moves.{granted}
-use Rattle.pool.specs.Apply.{stored, slotsAfter, pagesAfter, pinsAfter, countsAfter, entryPagesAfter, entryFramesAfter, handAfter, freeAfter, lastAfter, grantPagesAfter, grantFramesAfter, apply}
-use Rattle.pool.specs.Stages.{around, advanced, growth, raised, busyVisit, evictOwn, stage1, stage2, stage3, stage4, stage5, stage6, stage7, stage8, stage9, stage10, stage11, stage12, stage13, stage14, stage15, stage16, stage17, stage18, stage19, stage20, stage21, stage22, stage23, stageMove}
+use Rattle.pool.specs.Apply.{stored, slotsAfter, pagesAfter, pinsAfter, countsAfter, entryPagesAfter, entryFramesAfter, handAfter}
+use Rattle.pool.specs.Apply.{freeAfter, lastAfter, grantPagesAfter, grantFramesAfter, apply}
+use Rattle.pool.specs.Stages.{around, advanced, growth, raised, busyVisit, evictOwn, stage1, stage2, stage3, stage4, stage5, stage6}
+use Rattle.pool.specs.Stages.{stage7, stage8, stage9, stage10, stage11, stage12, stage13, stage14, stage15, stage16, stage17}
+use Rattle.pool.specs.Stages.{stage18, stage19, stage20, stage21, stage22, stage23, stageMove}
 use Rattle.pool.specs.Valid.{numbersOk, frameOk, usedOk, stateOk, entryOk, grantOk, countsOk, namesOk, clientOk, valid}
 use Rattle.pool.specs.Calls.{setupOf, caller, refusalAt, refusal, releaseMove, moveOf, finished, callOf, poolAfter}
-use Rattle.pool.specs.Schedule.{number, cut, marked, content, read, lengthOf, performed, endsRun, namedBy, digits, line, lineFor, runFrom, ran, endOf, reportOf}
-use Rattle.pool.specs.Cases.{Proved, answersTo, asStep, answersRequest, stepsToAnswer, found}
+use Rattle.pool.specs.Schedule.{number, cut, marked, content, read, lengthOf, performed, endsRun, namedBy, digits, line, lineFor}
+use Rattle.pool.specs.Schedule.{runFrom, ran, endOf, reportOf}
+use Rattle.pool.specs.Tallies.{up, tallied}
+use Rattle.pool.specs.Cases.{Proved, played, asStep, answersRequest, stepsToAnswer, computed}
 
 pub table : Proved
-unfolding choose both either scan howMany codeOf valueOf refusalOf unreadOf within slot page pins count entryPage entryFrame client ofClient grantPage grantFrame maps entryOf lookup unusedEntry resident residents grantOf holds held names referenced firstTried freeFrame granted stored slotsAfter pagesAfter pinsAfter countsAfter entryPagesAfter entryFramesAfter handAfter freeAfter lastAfter grantPagesAfter grantFramesAfter apply around advanced growth raised busyVisit evictOwn stage1 stage2 stage3 stage4 stage5 stage6 stage7 stage8 stage9 stage10 stage11 stage12 stage13 stage14 stage15 stage16 stage17 stage18 stage19 stage20 stage21 stage22 stage23 stageMove numbersOk frameOk usedOk stateOk entryOk grantOk countsOk namesOk clientOk valid setupOf caller refusalAt refusal releaseMove moveOf finished callOf poolAfter number cut marked content read lengthOf performed endsRun namedBy digits line lineFor runFrom ran endOf reportOf answersTo asStep answersRequest stepsToAnswer found
-table = record { each = refl; report = refl }
+unfolding
+    choose both either scan howMany codeOf valueOf refusalOf unreadOf within slot page pins count entryPage entryFrame client
+    ofClient grantPage grantFrame maps entryOf lookup unusedEntry resident residents grantOf holds held names referenced
+    firstTried freeFrame granted stored slotsAfter pagesAfter pinsAfter countsAfter entryPagesAfter entryFramesAfter handAfter
+    freeAfter lastAfter grantPagesAfter grantFramesAfter apply around advanced growth raised busyVisit evictOwn stage1 stage2
+    stage3 stage4 stage5 stage6 stage7 stage8 stage9 stage10 stage11 stage12 stage13 stage14 stage15 stage16 stage17 stage18
+    stage19 stage20 stage21 stage22 stage23 stageMove numbersOk frameOk usedOk stateOk entryOk grantOk countsOk namesOk clientOk
+    valid setupOf caller refusalAt refusal releaseMove moveOf finished callOf poolAfter number cut marked content read lengthOf
+    performed endsRun namedBy digits line lineFor runFrom ran endOf reportOf up tallied played asStep answersRequest stepsToAnswer
+    computed
+table =
+    record {
+      published = (refl, refl, refl, refl, refl, refl, refl, refl, refl);
+      of-one = (refl, refl, refl, refl, refl);
+      of-two = (refl, refl, refl, refl, refl, refl);
+      report = refl;
+    }

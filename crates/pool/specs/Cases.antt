@@ -1,5 +1,5 @@
--- The bench cases that document 01 marks P, and a few more for its list "What looks right on the shelf", as one table. A case is a setup, the
--- calls that lead up to it, the calls whose answers are compared, and facts of the pool after them. Assumes nothing.
+-- The bench cases that document 01 marks P, and more for its list "What looks right on the shelf", as one table. A case is a setup, the calls
+-- that lead up to it, and then line by line what is called and answered, and what the pool's numbers are. Assumes nothing.
 use mathlib.Core.Path.{_≡_}
 use mathlib.Core.Bool.{Bool, true, false}
 use mathlib.Core.List.{List, [], _∷_, _++_, map}
@@ -11,21 +11,20 @@ use Rattle.pool.specs.Choose.{choose}
 use Rattle.pool.specs.State.{none, evicted, pinned, slot, pins, count, client}
 use Rattle.pool.specs.Table.{lookup}
 use Rattle.pool.specs.Calls.{setupOf, callOf, poolAfter}
+use Rattle.pool.specs.Tallies.{zeroTally, tallied}
 use Rattle.pool.specs.Schedule.{ran}
 use Rattle.pool.specs.declared.Pool.{Pool}
+use Rattle.pool.specs.declared.Tally.{Tally}
 use Rattle.pool.specs.declared.Call.{Call}
 use Rattle.pool.specs.declared.Call.the-variants.{Begin, Step, Release}
 use Rattle.pool.specs.declared.Answer.{Answer}
 use Rattle.pool.specs.declared.Answer.the-variants.{Done, Working, Granted, Refused}
 
--- a number of the pool, and its value
-pub record Fact : Type 0 where
-  pub of : Pool → ℕ
-  pub value : ℕ
-
-infix 90 _is_
-abbrev pub _is_ : (Pool → ℕ) → ℕ → Fact
-n is v = record { of = n; value = v }
+-- a line of a case: a call and its answer, or a number of the pool, as it is by then, and its value
+infix 90 _gets_ _is_
+pub data Line : Type 0 where
+  _gets_ : Call → Answer → Line
+  _is_ : (Pool → ℕ) → ℕ → Line
 
 -- the numbers of a setup
 pub record Setup : Type 0 where
@@ -34,240 +33,302 @@ pub record Setup : Type 0 where
   pub c : ℕ
   pub hand : ℕ
 
-abbrev pub setup : ℕ → ℕ → ℕ → ℕ → Setup
-setup s t c hand = record { s = s; t = t; c = c; hand = hand }
-
 pub record Case : Type 0 where
   pub numbers : Setup
   -- the setup's answer
   pub accepted : Answer
   -- the calls that lead up to the case
   pub before : List Call
-  pub calls : List Call
-  pub answers : List Answer
-  -- how many of the calls are steps up to the first answer to a request
+  -- how many of the case's own calls are steps up to the first answer to a request
   pub steps : ℕ
-  pub facts : List Fact
+  -- what its own calls count, from a tally of zeros
+  pub tally : Tally
+  pub lines : List Line
 
 -- ---- shorthands
+
+abbrev pub setup : ℕ → ℕ → ℕ → ℕ → Setup
+setup s t c hand = record { s = s; t = t; c = c; hand = hand }
+
+-- a case whose setup is accepted
+infix 10 _after_takes_counts_shows_
+abbrev pub _after_takes_counts_shows_ : Setup → List Call → ℕ → Tally → List Line → Case
+x after before takes steps counts tally shows lines =
+    record { numbers = x; accepted = Done (x .s); before = before; steps = steps; tally = tally; lines = lines }
+
+-- ---- calls
 
 abbrev pub steps : ℕ → ℕ → List Call
 steps c zero = []
 steps c (suc n) = Step c ∷ steps c n
 
--- clients 0 and 1 step in turn
-abbrev pub turns : ℕ → List Call
-turns zero = []
-turns (suc n) = Step 0 ∷ Step 1 ∷ turns n
-
--- a page is admitted to an empty slot that the hand points at
+-- a page is admitted to an empty slot that the hand points at; is had again; takes the only slot from a page without grants
 abbrev pub admit : ℕ → List Call
 admit g = Begin 0 g ∷ steps 0 8
 
 abbrev pub admitAndRelease : ℕ → List Call
 admitAndRelease g = admit g ++ Release 0 g ∷ []
 
-abbrev pub stands : List ℕ → List Answer
-stands = map Working
+abbrev pub hitAndRelease : ℕ → List Call
+hitAndRelease g = Begin 0 g ∷ steps 0 3 ++ Release 0 g ∷ []
+
+abbrev pub swapAndRelease : ℕ → List Call
+swapAndRelease g = Begin 0 g ∷ steps 0 12 ++ Release 0 g ∷ []
+
+-- ---- calls with their answers
+
+-- client c steps, and stands at these stages after it
+abbrev pub goes : ℕ → List ℕ → List Line
+goes c stages = map (λ i. Step c gets Working i) stages
+
+-- it begins on a page, steps, and stands at these stages after it
+abbrev pub begins : ℕ → ℕ → List ℕ → List Line
+begins c g stages = Begin c g gets Done g ∷ goes c stages
+
+-- a request from its begin to its answer
+abbrev pub asks : ℕ → ℕ → List ℕ → Answer → List Line
+asks c g stages a = begins c g stages ++ Step c gets a ∷ []
+
+-- clients c and d step in turn, and stand at these stages after it
+abbrev pub inTurn : ℕ → ℕ → List ℕ → List Line
+inTurn c d [] = []
+inTurn c d (i ∷ stages) = Step c gets Working i ∷ inTurn d c stages
+
+-- the stages of a request that fills an empty slot; of one that sweeps, up to its first visit; of a visit that evicts and what follows it
+abbrev pub fills : List ℕ
+fills = 4 ∷ 5 ∷ 6 ∷ 7 ∷ 8 ∷ 9 ∷ 18 ∷ []
+
+abbrev pub sweeps : List ℕ
+sweeps = 4 ∷ 5 ∷ 10 ∷ 11 ∷ []
+
+abbrev pub evicts : List ℕ
+evicts = 12 ∷ 13 ∷ 14 ∷ 15 ∷ 16 ∷ 17 ∷ 18 ∷ []
+
+-- ---- numbers of the pool: of a slot, a frame, a page or a client, as in `slot at 0`; and its own
+
+infix 91 _at_
+abbrev pub _at_ : (Pool → ℕ → ℕ) → ℕ → Pool → ℕ
+_at_ number i p = number p i
+
+abbrev pub own : Pool → ℕ → ℕ
+own p c = client p c .own
+
+abbrev pub found : Pool → ℕ → ℕ
+found p c = client p c .found
+
+abbrev pub victim : Pool → ℕ → ℕ
+victim p c = client p c .victim
+
+abbrev pub busy : Pool → ℕ → ℕ
+busy p c = client p c .busy
+
+abbrev pub held : Pool → ℕ → ℕ
+held p c = client p c .held
+
+abbrev pub hand : Pool → ℕ
+hand p = p .hand
+
+abbrev pub free : Pool → ℕ
+free p = p .free
+
+-- ---- tallies: of nothing, of one thing, and of several
+
+abbrev pub tally : ℕ → ℕ → ℕ → ℕ → ℕ → ℕ → Tally
+tally h j a v d r = record { hits = h; joins = j; admitted = a; revived = v; drops = d; refused = r }
+
+abbrev pub nothing : Tally
+nothing = tally 0 0 0 0 0 0
+
+abbrev pub hit : Tally
+hit = tally 1 0 0 0 0 0
+
+abbrev pub join : Tally
+join = tally 0 1 0 0 0 0
+
+abbrev pub admitted : Tally
+admitted = tally 0 0 1 0 0 0
+
+abbrev pub revived : Tally
+revived = tally 0 0 0 1 0 0
+
+abbrev pub drop : Tally
+drop = tally 0 0 0 0 1 0
+
+abbrev pub refused : Tally
+refused = tally 0 0 0 0 0 1
+
+infixl 60 _and_
+abbrev pub _and_ : Tally → Tally → Tally
+x and y =
+    tally (x .hits + y .hits) (x .joins + y .joins) (x .admitted + y .admitted) (x .revived + y .revived) (x .drops + y .drops)
+    (x .refused + y .refused)
 
 -- ---- the table
 
 abbrev pub P1 : Case
-P1 = record {
-  numbers = setup 1 1 3 0;
-  accepted = Done 1;
-  before = [];
-  calls = Begin 0 9 ∷ steps 0 9 ++ Release 0 9 ∷ [];
-  answers = Done 9 ∷ stands (4 ∷ 5 ∷ 6 ∷ 7 ∷ 8 ∷ 9 ∷ 18 ∷ []) ++ Granted 0 ∷ Refused 11 ∷ Done 9 ∷ [];
-  steps = 8;
-  facts = (λ p. slot p 0) is 0 ∷ (λ p. p .free) is 0 ∷ (λ p. p .hand) is 1 ∷ (λ p. pins p 0) is pinned 0 ∷ (λ p. lookup p 9) is 0 ∷ [];
-}
+P1 =
+    setup 1 1 3 0 after [] takes 8 counts admitted shows
+    asks 0 9 fills (Granted 0) ++ Step 0 gets Refused 11 ∷ Release 0 9 gets Done 9
+    ∷ slot at 0 is 0 ∷ free is 0 ∷ hand is 1 ∷ pins at 0 is pinned 0 ∷ lookup at 9 is 0 ∷ []
 
 -- "Page 9 again: 3 steps, frame 0, count 2."
 abbrev pub P2 : Case
-P2 = record {
-  numbers = setup 1 1 3 0;
-  accepted = Done 1;
-  before = admitAndRelease 9;
-  calls = Begin 0 9 ∷ steps 0 3;
-  answers = Done 9 ∷ stands (2 ∷ 3 ∷ []) ++ Granted 0 ∷ [];
-  steps = 3;
-  facts = (λ p. count p 0) is 2 ∷ (λ p. pins p 0) is pinned 1 ∷ [];
-}
+P2 =
+    setup 1 1 3 0 after admitAndRelease 9 takes 3 counts hit shows
+    asks 0 9 (2 ∷ 3 ∷ []) (Granted 0) ++ count at 0 is 2 ∷ pins at 0 is pinned 1 ∷ []
 
 -- "S 1, page 9 released with count 1, page 5 begun: stages 1, 4, 5, 10 to 18, granted frame 1, hand 2."
 abbrev pub P3 : Case
-P3 = record {
-  numbers = setup 1 1 3 0;
-  accepted = Done 1;
-  before = admitAndRelease 9;
-  calls = Begin 0 5 ∷ steps 0 12;
-  answers = Done 5 ∷ stands (4 ∷ 5 ∷ 10 ∷ 11 ∷ 12 ∷ 13 ∷ 14 ∷ 15 ∷ 16 ∷ 17 ∷ 18 ∷ []) ++ Granted 1 ∷ [];
-  steps = 12;
-  facts = (λ p. p .hand) is 2 ∷ (λ p. slot p 0) is 1 ∷ (λ p. pins p 0) is evicted ∷ (λ p. lookup p 9) is none ∷ (λ p. lookup p 5) is 1 ∷ [];
-}
+P3 =
+    setup 1 1 3 0 after admitAndRelease 9 takes 12 counts drop and admitted shows
+    asks 0 5 (sweeps ++ evicts) (Granted 1)
+    ++ hand is 2 ∷ slot at 0 is 1 ∷ pins at 0 is evicted ∷ lookup at 9 is none ∷ lookup at 5 is 1 ∷ []
 
 -- "The same with 9 still held: 15 at the sixth step."
 abbrev pub P4 : Case
-P4 = record {
-  numbers = setup 1 1 3 0;
-  accepted = Done 1;
-  before = admit 9;
-  calls = Begin 0 5 ∷ steps 0 7;
-  answers = Done 5 ∷ stands (4 ∷ 5 ∷ 10 ∷ 11 ∷ 12 ∷ []) ++ Refused 15 ∷ Refused 11 ∷ [];
-  steps = 6;
-  facts = (λ p. slot p 0) is 0 ∷ (λ p. pins p 0) is pinned 1 ∷ (λ p. lookup p 5) is none ∷ (λ p. client p 0 .held) is 1 ∷ (λ p. client p 0 .own) is none ∷ [];
-}
+P4 =
+    setup 1 1 3 0 after admit 9 takes 6 counts refused shows
+    asks 0 5 (sweeps ++ 12 ∷ []) (Refused 15) ++ Step 0 gets Refused 11
+    ∷ slot at 0 is 0 ∷ pins at 0 is pinned 1 ∷ lookup at 5 is none ∷ held at 0 is 1 ∷ own at 0 is none ∷ []
 
 -- "S 2, T 2, C 3, both want 9 and alternate from the start, bench 0 first: bench 0 is granted frame 0, bench 1 joins it; pins 2, count 2,
 -- frame 1 evicted, free 0."
 abbrev pub P5 : Case
-P5 = record {
-  numbers = setup 2 2 3 0;
-  accepted = Done 2;
-  before = Begin 0 9 ∷ Begin 1 9 ∷ [];
-  calls = turns 8 ++ steps 1 5;
-  answers =
-      stands (4 ∷ 4 ∷ 5 ∷ 5 ∷ 6 ∷ 6 ∷ 7 ∷ 5 ∷ 8 ∷ 6 ∷ 9 ∷ 7 ∷ 18 ∷ 8 ∷ [])
-      ++ Granted 0 ∷ stands (9 ∷ 18 ∷ 19 ∷ 20 ∷ 21 ∷ []) ++ Granted 0 ∷ [];
-  steps = 15;
-  facts = (λ p. pins p 0) is pinned 2 ∷ (λ p. count p 0) is 2 ∷ (λ p. pins p 1) is evicted ∷ (λ p. p .free) is 0 ∷ (λ p. slot p 1) is 1 ∷ [];
-}
+P5 =
+    setup 2 2 3 0 after Begin 0 9 ∷ Begin 1 9 ∷ [] takes 15 counts admitted and join shows
+    inTurn 0 1 (4 ∷ 4 ∷ 5 ∷ 5 ∷ 6 ∷ 6 ∷ 7 ∷ 5 ∷ 8 ∷ 6 ∷ 9 ∷ 7 ∷ 18 ∷ 8 ∷ [])
+    ++ Step 0 gets Granted 0 ∷ goes 1 (9 ∷ 18 ∷ 19 ∷ 20 ∷ 21 ∷ []) ++ own at 1 is none ∷ Step 1 gets Granted 0
+    ∷ pins at 0 is pinned 2 ∷ count at 0 is 2 ∷ pins at 1 is evicted ∷ free is 0 ∷ slot at 1 is 1 ∷ []
 
 -- "S 2, T 2, 9 and 5 unheld, bench 0 wants 7, has swapped 9 out and stands at 17; bench 1 wants 9: granted at 22, and bench 0's removal then
 -- finds another frame and removes nothing."
 abbrev pub P6 : Case
-P6 = record {
-  numbers = setup 2 2 3 0;
-  accepted = Done 2;
-  before = admitAndRelease 9 ++ admitAndRelease 5 ++ Begin 0 7 ∷ steps 0 10;
-  calls = Begin 1 9 ∷ steps 1 15 ++ steps 0 2;
-  answers =
-      Done 9 ∷ stands (2 ∷ 4 ∷ 5 ∷ 10 ∷ 11 ∷ 12 ∷ 13 ∷ 14 ∷ 15 ∷ 16 ∷ 17 ∷ 18 ∷ 19 ∷ 22 ∷ [])
-      ++ Granted 3 ∷ Working 18 ∷ Granted 2 ∷ [];
-  steps = 15;
-  facts = (λ p. lookup p 9) is 3 ∷ (λ p. lookup p 7) is 2 ∷ (λ p. lookup p 5) is none ∷ (λ p. slot p 0) is 2 ∷ (λ p. slot p 1) is 3 ∷ [];
-}
+P6 =
+    setup 2 2 3 0 after admitAndRelease 9 ++ admitAndRelease 5 ++ Begin 0 7 ∷ steps 0 10 takes 15 counts drop and revived and admitted shows
+    asks 1 9 (2 ∷ sweeps ++ evicts ++ 19 ∷ 22 ∷ []) (Granted 3) ++ goes 0 (18 ∷ []) ++ victim at 0 is none ∷ Step 0 gets Granted 2
+    ∷ lookup at 9 is 3 ∷ lookup at 7 is 2 ∷ lookup at 5 is none ∷ slot at 0 is 2 ∷ slot at 1 is 3 ∷ []
 
 -- "S 3, hand 4,294,967,295: first page into slot 0, hand 0; second into slot 1 in 9 steps."
 abbrev pub P7a : Case
-P7a = record {
-  numbers = setup 3 1 3 4294967295;
-  accepted = Done 3;
-  before = [];
-  calls = admitAndRelease 9;
-  answers = Done 9 ∷ stands (4 ∷ 5 ∷ 6 ∷ 7 ∷ 8 ∷ 9 ∷ 18 ∷ []) ++ Granted 0 ∷ Done 9 ∷ [];
-  steps = 8;
-  facts = (λ p. slot p 0) is 0 ∷ (λ p. slot p 1) is none ∷ (λ p. slot p 2) is none ∷ (λ p. p .hand) is 0 ∷ [];
-}
+P7a =
+    setup 3 1 3 4294967295 after [] takes 8 counts admitted shows
+    asks 0 9 fills (Granted 0) ++ Release 0 9 gets Done 9 ∷ slot at 0 is 0 ∷ slot at 1 is none ∷ slot at 2 is none ∷ hand is 0 ∷ []
 
 abbrev pub P7b : Case
-P7b = record {
-  numbers = setup 3 1 3 4294967295;
-  accepted = Done 3;
-  before = admitAndRelease 9;
-  calls = Begin 0 5 ∷ steps 0 9;
-  answers = Done 5 ∷ stands (4 ∷ 5 ∷ 6 ∷ 7 ∷ 8 ∷ 8 ∷ 9 ∷ 18 ∷ []) ++ Granted 1 ∷ [];
-  steps = 9;
-  facts = (λ p. slot p 0) is 0 ∷ (λ p. slot p 1) is 1 ∷ (λ p. slot p 2) is none ∷ (λ p. p .hand) is 1 ∷ [];
-}
+P7b =
+    setup 3 1 3 4294967295 after admitAndRelease 9 takes 9 counts admitted shows
+    asks 0 5 (4 ∷ 5 ∷ 6 ∷ 7 ∷ 8 ∷ 8 ∷ 9 ∷ 18 ∷ []) (Granted 1)
+    ++ slot at 0 is 0 ∷ slot at 1 is 1 ∷ slot at 2 is none ∷ hand is 1 ∷ []
 
 -- "S 64 and T 16 accepted; S 0, S 65, T 17, C 0, C 101 are 8."; a refused pool refuses every call as 8
-abbrev pub setupCase : ℕ → ℕ → ℕ → Answer → Answer → Case
-setupCase s t c answer then = record {
-  numbers = setup s t c 0;
-  accepted = answer;
-  before = [];
-  calls = Begin 0 9 ∷ [];
-  answers = then ∷ [];
-  steps = 0;
-  facts = [];
-}
+abbrev pub onlySetup : Answer → Answer → Setup → Case
+onlySetup answer then x =
+    record { numbers = x; accepted = answer; before = []; steps = 0; tally = nothing; lines = Begin 0 9 gets then ∷ [] }
 
--- ---- further cases, for mistakes that no P case shows
+abbrev pub P8 : List Case
+P8 =
+    onlySetup (Done 64) (Done 9) (setup 64 16 100 0)
+    ∷ map (onlySetup (Refused 8) (Refused 8))
+    (setup 0 16 100 0 ∷ setup 65 16 100 0 ∷ setup 64 0 100 0 ∷ setup 64 17 100 0 ∷ setup 64 16 0 0 ∷ setup 64 16 101 0 ∷ [])
+
+-- ---- further cases, for mistakes that no P case shows: of one client
 
 -- As P3 with another first hand: "Reduce first." The hand grows by 1 from 6, whatever multiple of S the start is.
 abbrev pub reducedStart : Case
-reducedStart = record {
-  numbers = setup 1 1 3 5;
-  accepted = Done 1;
-  before = admitAndRelease 9;
-  calls = Begin 0 5 ∷ steps 0 12;
-  answers = Done 5 ∷ stands (4 ∷ 5 ∷ 10 ∷ 11 ∷ 12 ∷ 13 ∷ 14 ∷ 15 ∷ 16 ∷ 17 ∷ 18 ∷ []) ++ Granted 1 ∷ [];
-  steps = 12;
-  facts = (λ p. p .hand) is 7 ∷ [];
-}
+reducedStart =
+    setup 1 1 3 5 after admitAndRelease 9 takes 12 counts drop and admitted shows
+    asks 0 5 (sweeps ++ evicts) (Granted 1) ++ hand is 7 ∷ []
 
--- a page takes the only slot from a page without grants
-abbrev pub swapAndRelease : ℕ → List Call
-swapAndRelease g = Begin 0 g ∷ steps 0 12 ++ Release 0 g ∷ []
+-- A sweep from hand 5, at slot 2, leaves a count above 0 there and passes on round the end to slot 0, which is below where it started: the hand
+-- grows by 2. It forgets its victim where it passes on, and again at 17.
+abbrev pub roundTheEnd : Case
+roundTheEnd =
+    setup 3 1 3 2 after admitAndRelease 9 ++ hitAndRelease 9 ++ admitAndRelease 5 ++ admitAndRelease 6 takes 15 counts drop and admitted shows
+    begins 0 7 (sweeps ++ 12 ∷ 13 ∷ 11 ∷ []) ++ victim at 0 is none ∷ goes 0 evicts ++ victim at 0 is none ∷ Step 0 gets Granted 3
+    ∷ hand is 7 ∷ slot at 0 is 3 ∷ slot at 2 is 0 ∷ count at 0 is 1 ∷ lookup at 5 is none ∷ []
+
+-- A count at C stays there, and a sweep that leaves a count above 0 passes on and comes round again.
+abbrev pub countAtCap : Case
+countAtCap =
+    setup 1 1 2 0 after admitAndRelease 9 ++ hitAndRelease 9 ++ hitAndRelease 9 takes 15 counts drop and admitted shows
+    asks 0 5 (sweeps ++ 12 ∷ 13 ∷ 11 ∷ evicts) (Granted 1) ++ count at 0 is 0 ∷ []
+
+-- Refusal 15 comes at S busy visits and not before: two held slots, 4 + 2S steps.
+abbrev pub twoHeld : Case
+twoHeld =
+    setup 2 1 3 0 after admit 9 ++ admit 5 takes 8 counts refused shows
+    asks 0 7 (sweeps ++ 12 ∷ 11 ∷ 12 ∷ []) (Refused 15) ++ held at 0 is 2 ∷ pins at 0 is pinned 1 ∷ pins at 1 is pinned 1 ∷ []
+
+-- The slots' pages are held, not held with count 2, held. The sweep passes the second on after one busy visit, and its run starts anew: two more
+-- busy visits are no refusal, and the second slot is taken. A busy visit forgets the victim.
+abbrev pub busyRunReset : Case
+busyRunReset =
+    setup 3 1 3 0 after admit 9 ++ admitAndRelease 5 ++ hitAndRelease 5 ++ admit 6 takes 21 counts drop and admitted shows
+    begins 0 7 (sweeps ++ 12 ∷ 11 ∷ []) ++ victim at 0 is none ∷ busy at 0 is 1 ∷ goes 0 (12 ∷ 13 ∷ 11 ∷ []) ++ busy at 0 is 0
+    ∷ goes 0 (12 ∷ 11 ∷ 12 ∷ 11 ∷ []) ++ busy at 0 is 2 ∷ goes 0 evicts ++ Step 0 gets Granted 3 ∷ slot at 1 is 3 ∷ hand is 5 ∷ []
+
+-- ---- and of two
+
+-- Client 0 has claimed the only slot and not filled it; client 1's sweep meets the empty slot, which is a busy visit.
+abbrev pub claimedSlot : Case
+claimedSlot =
+    setup 1 2 3 0 after Begin 0 9 ∷ steps 0 4 takes 5 counts refused shows
+    asks 1 5 sweeps (Refused 15) ++ slot at 0 is none ∷ free is 0 ∷ own at 1 is none ∷ goes 0 (8 ∷ 9 ∷ 18 ∷ [])
 
 -- "Taking a frame again while a stalled bench still names it.": client 1 stalls at 12 with own frame 1 and frame 0 for its victim. The other
 -- frames 2, 3, 4 are taken; the next search passes over 0 and 1.
 abbrev pub stalledVictim : Case
-stalledVictim = record {
-  numbers = setup 1 2 3 0;
-  accepted = Done 1;
-  before = admitAndRelease 9 ++ Begin 1 5 ∷ steps 1 5 ++ swapAndRelease 6 ++ swapAndRelease 7 ++ swapAndRelease 8;
-  calls = Begin 0 9 ∷ steps 0 12;
-  answers = Done 9 ∷ stands (4 ∷ 5 ∷ 10 ∷ 11 ∷ 12 ∷ 13 ∷ 14 ∷ 15 ∷ 16 ∷ 17 ∷ 18 ∷ []) ++ Granted 2 ∷ [];
-  steps = 12;
-  facts = (λ p. client p 1 .victim) is 0 ∷ (λ p. client p 1 .own) is 1 ∷ (λ p. lookup p 9) is 2 ∷ [];
-}
+stalledVictim =
+    setup 1 2 3 0 after admitAndRelease 9 ++ Begin 1 5 ∷ steps 1 5 ++ swapAndRelease 6 ++ swapAndRelease 7 ++ swapAndRelease 8
+    takes 12 counts drop and admitted shows
+    asks 0 9 (sweeps ++ evicts) (Granted 2) ++ victim at 1 is 0 ∷ own at 1 is 1 ∷ lookup at 9 is 2 ∷ []
 
 -- The same with client 1 stalled at 2, where frame 0 is what it found.
 abbrev pub stalledFound : Case
-stalledFound = record {
-  numbers = setup 1 2 3 0;
-  accepted = Done 1;
-  before = admitAndRelease 9 ++ Begin 1 9 ∷ steps 1 1 ++ swapAndRelease 5 ++ swapAndRelease 6 ++ swapAndRelease 7 ++ swapAndRelease 8;
-  calls = Begin 0 3 ∷ steps 0 12 ++ steps 1 1;
-  answers = Done 3 ∷ stands (4 ∷ 5 ∷ 10 ∷ 11 ∷ 12 ∷ 13 ∷ 14 ∷ 15 ∷ 16 ∷ 17 ∷ 18 ∷ []) ++ Granted 1 ∷ Working 4 ∷ [];
-  steps = 12;
-  facts = (λ p. client p 1 .found) is none ∷ (λ p. pins p 0) is evicted ∷ [];
-}
+stalledFound =
+    setup 1 2 3 0
+    after admitAndRelease 9 ++ Begin 1 9 ∷ steps 1 1 ++ swapAndRelease 5 ++ swapAndRelease 6 ++ swapAndRelease 7 ++ swapAndRelease 8
+    takes 12 counts drop and admitted shows
+    asks 0 3 (sweeps ++ evicts) (Granted 1) ++ goes 1 (4 ∷ []) ++ found at 1 is none ∷ pins at 0 is evicted ∷ []
 
--- Refusal 15 comes at S busy visits and not before: two held slots, 4 + 2S steps.
-abbrev pub twoHeld : Case
-twoHeld = record {
-  numbers = setup 2 1 3 0;
-  accepted = Done 2;
-  before = admit 9 ++ admit 5;
-  calls = Begin 0 7 ∷ steps 0 8;
-  answers = Done 7 ∷ stands (4 ∷ 5 ∷ 10 ∷ 11 ∷ 12 ∷ 11 ∷ 12 ∷ []) ++ Refused 15 ∷ [];
-  steps = 8;
-  facts = (λ p. client p 0 .held) is 2 ∷ (λ p. pins p 0) is pinned 1 ∷ (λ p. pins p 1) is pinned 1 ∷ [];
-}
+-- Client 1 stands at 14 when client 0 has its victim's page again: nothing is evicted or counted as a drop, and client 1 passes on without its
+-- victim.
+abbrev pub pinnedMeanwhile : Case
+pinnedMeanwhile =
+    setup 1 2 3 0 after admitAndRelease 9 ++ Begin 1 5 ∷ steps 1 7 takes 3 counts hit shows
+    asks 0 9 (2 ∷ 3 ∷ []) (Granted 0) ++ goes 1 (11 ∷ []) ++ victim at 1 is none ∷ pins at 0 is pinned 1 ∷ busy at 1 is 0 ∷ []
 
--- A count at C stays there, and a sweep that leaves a count above 0 passes on and comes round again.
-abbrev pub countAtCap : Case
-countAtCap = record {
-  numbers = setup 1 1 2 0;
-  accepted = Done 1;
-  before = admitAndRelease 9 ++ Begin 0 9 ∷ steps 0 3 ++ Release 0 9 ∷ Begin 0 9 ∷ steps 0 3 ++ Release 0 9 ∷ [];
-  calls = Begin 0 5 ∷ steps 0 15;
-  answers = Done 5 ∷ stands (4 ∷ 5 ∷ 10 ∷ 11 ∷ 12 ∷ 13 ∷ 11 ∷ 12 ∷ 13 ∷ 14 ∷ 15 ∷ 16 ∷ 17 ∷ 18 ∷ []) ++ Granted 1 ∷ [];
-  steps = 15;
-  facts = (λ p. count p 0) is 0 ∷ [];
-}
+-- Client 0 has evicted the frame in slot 0 and stands at 15. Client 1 meets the frame evicted and puts its own there, which counts no drop; client
+-- 0 then finds another frame in the slot and passes on.
+abbrev pub swappedMeanwhile : Case
+swappedMeanwhile =
+    setup 2 2 3 0 after admitAndRelease 9 ++ admitAndRelease 5 ++ Begin 0 7 ∷ steps 0 8 takes 10 counts admitted shows
+    asks 1 6 (sweeps ++ 12 ∷ 15 ∷ 16 ∷ 17 ∷ 18 ∷ []) (Granted 3) ++ goes 0 (11 ∷ []) ++ victim at 0 is none ∷ slot at 0 is 3 ∷ []
 
-abbrev pub cases : List Case
-cases =
-    P1 ∷ P2 ∷ P3 ∷ P4 ∷ P5 ∷ P6 ∷ P7a ∷ P7b
-    ∷ setupCase 64 16 100 (Done 64) (Done 9)
-    ∷ setupCase 0 16 100 (Refused 8) (Refused 8)
-    ∷ setupCase 65 16 100 (Refused 8) (Refused 8)
-    ∷ setupCase 64 17 100 (Refused 8) (Refused 8)
-    ∷ setupCase 64 16 0 (Refused 8) (Refused 8)
-    ∷ setupCase 64 16 101 (Refused 8) (Refused 8)
-    ∷ reducedStart ∷ stalledVictim ∷ stalledFound ∷ twoHeld ∷ countAtCap
-    ∷ []
+-- As P6 up to client 1's 22, but client 0's removal comes first: the page is no longer mapped to the frame that client 1 found. It forgets that
+-- frame, gives its own up, which then is evicted, and takes another.
+abbrev pub foundRemoved : Case
+foundRemoved =
+    setup 2 2 3 0 after admitAndRelease 9 ++ admitAndRelease 5 ++ Begin 0 7 ∷ steps 0 10 takes 18 counts drop shows
+    begins 1 9 (2 ∷ sweeps ++ evicts ++ 19 ∷ 22 ∷ []) ++ goes 0 (18 ∷ []) ++ goes 1 (23 ∷ []) ++ found at 1 is none ∷ own at 1 is 3
+    ∷ goes 1 (4 ∷ []) ++ own at 1 is none ∷ pins at 3 is evicted ∷ goes 1 (5 ∷ []) ++ own at 1 is 4 ∷ []
 
 -- ---- what a case comes to
 
-unfoldable pub answersTo : Pool → List Call → List Answer
-answersTo p [] = []
-answersTo p (call ∷ calls) = let o = callOf p call in o .answer ∷ answersTo (o .pool) calls
+-- the lines with the answers and values that a pool gives, and the tally after them
+pub record Played : Type 0 where
+  pub lines : List Line
+  pub tally : Tally
+
+unfoldable pub played : Pool → Tally → List Line → Played
+played p t [] = record { lines = []; tally = t }
+played p t (call gets a ∷ lines) =
+    let o = callOf p call in
+    let rest = played (o .pool) (tallied (o .counted) t) lines in
+    record { lines = call gets o .answer ∷ rest .lines; tally = rest .tally }
+played p t (number is v ∷ lines) =
+    let rest = played p t lines in
+    record { lines = number is number p ∷ rest .lines; tally = rest .tally }
 
 -- 1 for a step, 0 for another call
 unfoldable pub asStep : Call → ℕ
@@ -282,27 +343,20 @@ answersRequest (Working n) = false
 answersRequest (Granted f) = true
 answersRequest (Refused n) = eqb n 15
 
-unfoldable pub stepsToAnswer : List Call → List Answer → ℕ
-stepsToAnswer [] answers = 0
-stepsToAnswer (call ∷ calls) [] = 0
-stepsToAnswer (call ∷ calls) (a ∷ answers) = let rest = stepsToAnswer calls answers in asStep call + choose (answersRequest a) 0 rest
+unfoldable pub stepsToAnswer : List Line → ℕ
+stepsToAnswer [] = 0
+stepsToAnswer (call gets a ∷ lines) = let rest = stepsToAnswer lines in asStep call + choose (answersRequest a) 0 rest
+stepsToAnswer (number is v ∷ lines) = stepsToAnswer lines
 
-pub record Result : Type 0 where
-  pub accepted : Answer
-  pub answers : List Answer
-  pub steps : ℕ
-  pub values : List ℕ
-
-abbrev pub expected : Case → Result
-expected x = record { accepted = x .accepted; answers = x .answers; steps = x .steps; values = map (λ (f : Fact). f .value) (x .facts) }
-
-unfoldable pub found : Case → Result
-found x =
+-- the case with what the definitions give in place of what it says
+unfoldable pub computed : Case → Case
+computed x =
     let o = setupOf (x .numbers .s) (x .numbers .t) (x .numbers .c) (x .numbers .hand) in
-    let p = poolAfter (o .pool) (x .before) in
-    let answers = answersTo p (x .calls) in
-    let q = poolAfter p (x .calls) in
-    record { accepted = o .answer; answers = answers; steps = stepsToAnswer (x .calls) answers; values = map (λ (f : Fact). f .of q) (x .facts) }
+    let r = played (poolAfter (o .pool) (x .before)) zeroTally (x .lines) in
+    record { numbers = x .numbers; accepted = o .answer; before = x .before; steps = stepsToAnswer (r .lines); tally = r .tally; lines = r .lines }
+
+abbrev pub Holds : Case → Type 0
+Holds x = computed x ≡ x
 
 -- ---- P1 once more, as a file and its report
 
@@ -315,17 +369,20 @@ codes (c S∷ s) = code c ∷ codes s
 abbrev pub record8 : ℕ → ℕ → List ℕ
 record8 kind g = 0x46 ∷ 0x43 ∷ kind ∷ 0 ∷ g ∷ 0 ∷ 0 ∷ 0 ∷ []
 
+abbrev pub stepRecords : ℕ → List ℕ
+stepRecords zero = []
+stepRecords (suc n) = record8 2 0 ++ stepRecords n
+
 -- "setup S 1, T 1, C 3, hand 0 .., begin 0 page 9 .., nine steps and release 0 page 9"
 abbrev pub file : List ℕ
-file =
-    0x46 ∷ 0x43 ∷ 0 ∷ 1 ∷ 1 ∷ 3 ∷ 0 ∷ 0 ∷ 0 ∷ 0 ∷ record8 1 9
-    ++ record8 2 0 ++ record8 2 0 ++ record8 2 0 ++ record8 2 0 ++ record8 2 0 ++ record8 2 0 ++ record8 2 0 ++ record8 2 0 ++ record8 2 0
-    ++ record8 3 9
+file = 0x46 ∷ 0x43 ∷ 0 ∷ 1 ∷ 1 ∷ 3 ∷ 0 ∷ 0 ∷ 0 ∷ 0 ∷ record8 1 9 ++ stepRecords 9 ++ record8 3 9
 
 abbrev pub listing : String
 listing = "0 0 0 1\n1 0 0 9\n2 0 1 4\n3 0 1 5\n4 0 1 6\n5 0 1 7\n6 0 1 8\n7 0 1 9\n8 0 1 18\n9 0 2 0\n10 0 111 0\n11 0 0 9\n"
 
--- What is proved of the table: each case comes to what it expects; and the file's run of 12 records has the listing for its report.
+-- What is proved of the table: each case holds; and the file's run of 12 records has the listing for its report.
 pub record Proved : Type 0 where
-  pub each : map found cases ≡ map expected cases
+  pub published : Holds P1 × Holds P2 × Holds P3 × Holds P4 × Holds P5 × Holds P6 × Holds P7a × Holds P7b × (map computed P8 ≡ P8)
+  pub of-one : Holds reducedStart × Holds roundTheEnd × Holds countAtCap × Holds twoHeld × Holds busyRunReset
+  pub of-two : Holds claimedSlot × Holds stalledVictim × Holds stalledFound × Holds pinnedMeanwhile × Holds swappedMeanwhile × Holds foundRemoved
   pub report : ran file 49152 ≡ record { records = 12; refusal = 0; lines = codes listing }
