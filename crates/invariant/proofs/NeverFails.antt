@@ -9,7 +9,7 @@ use Prim.Native.Nat.{ℕ, _+_, _≤_, _<_}
 use native.Mathlib.Omega.{arith}
 use native.Mathlib.Decide.{ℕ-discrete}
 use lib.Dec.{eqb, leb}
-use borrow.Author.Tests.{eqb-true, eq-eqb, ne-eqb, leb-true, lt-leb}
+use borrow.Author.Tests.{eqb-true, eq-eqb, ne-eqb, leb-true, le-leb, lt-leb}
 use Rattle.pool.specs.Limits.{maxFrames}
 use Rattle.pool.specs.Choose.{choose, either, some}
 use Rattle.pool.specs.State.{none, evicted, clientCount, total, resting, slot, pins, entryFrame, client, grantFrame}
@@ -52,7 +52,7 @@ module _ (p : Pool) (r : Reached p) where
       go true true a d =
           let l : 12 ≤ s = leb-true 12 s a in
           let h : s ≤ 17 = leb-true s 17 d in
-          r .mapping .no-found c (rw (ne-eqb s 2 (λ q. omega arith), ne-eqb s 3 (λ q. omega arith), lt-leb 19 s (omega arith)) tt)
+          r .mapping .no-found c (rw (le-leb 2 s (omega arith), lt-leb s 3 (omega arith), lt-leb 19 s (omega arith)) tt)
       go true false a d = absurd (z (r .mapping .no-victim c (rw (a, d) tt)))
       go false y a d = absurd (z (r .mapping .no-victim c (rw a tt)))
 

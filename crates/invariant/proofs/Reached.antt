@@ -10,6 +10,7 @@ use lib.ListN.{length, getD}
 use Rattle.pool.specs.Limits.{maxSize, maxClients, maxCap, maxHeld, maxPins, maxFrames, maxGrants}
 use Rattle.pool.specs.Choose.{scan}
 use Rattle.pool.specs.State.{none, evicted, pinned, clientCount, total, slot, page, pins, count, entryPage, entryFrame, client, grantPage, grantFrame}
+use Rattle.pool.specs.Valid.{usesOwn, usesFound, usesVictim}
 use Rattle.pool.specs.declared.Pool.{Pool}
 use Rattle.pool.specs.declared.Client.{Client}
 
@@ -41,15 +42,15 @@ InSlot p f = (i : ℕ) × (slot p i ≡ f)
 abbrev pub unplaced : ℕ → Bool
 unplaced s = (leb 5 s && leb s 8) || (leb 10 s && leb s 15)
 
--- a client has no own frame, no found frame, no victim
+-- a client has no own frame, no found frame, no victim: its stage uses none
 abbrev pub ownless : ℕ → Bool
-ownless s = leb s 4 || eqb s 21
+ownless s = not (usesOwn s)
 
 abbrev pub foundless : ℕ → Bool
-foundless s = not (eqb s 2 || eqb s 3 || (leb 19 s && leb s 22))
+foundless s = not (usesFound s)
 
 abbrev pub victimless : ℕ → Bool
-victimless s = not (leb 12 s && leb s 17)
+victimless s = not (usesVictim s)
 
 -- the found frame is pinned for this client, and no grant names it yet
 abbrev pub pinsFound : ℕ → Bool

@@ -1,10 +1,11 @@
--- A reached pool is in range, and so passes check 8. Its ranges are clauses; a client has the frames that its stage uses by what it knows there;
--- and two grants of one page name one frame, the one that the table maps the page to. Assumes nothing.
-use mathlib.Core.Path.{_≡_, refl, sym, ap, _∙_}
+-- A reached pool is in range, and so passes check 8. Its ranges are clauses; a client has the frames that its stage uses by what it knows there,
+-- and by a clause no others; and two grants of one page name one frame, the one that the table maps the page to. Assumes nothing.
+use mathlib.Core.Path.{_≡_, refl, sym, ap, subst, _∙_}
 use mathlib.Core.Logic.{_≢_, _⊎_, inl, inr}
-use mathlib.Core.Bool.{Bool, true, false, true≢false}
+use mathlib.Core.Bool.{Bool, true, false, not, true≢false}
 use Prim.Native.Nat.{ℕ, _<_}
 use native.Mathlib.Omega.{arith}
+use lib.Dec.{T}
 use Rattle.pool.specs.State.{none, total, client, grantPage, grantFrame}
 use Rattle.pool.specs.Table.{lookup}
 use Rattle.pool.specs.Valid.{usesOwn, usesFound, usesVictim, valid}
@@ -61,6 +62,10 @@ module _ (p : Pool) (k : Client) where
       uses-both (Placed and FoundMapped) 20 (λ h. h .0 .0) (λ h. h .1 .0) refl also uses-found FoundMapped 21 (λ h. h .0) refl refl also
       uses-both (Placed and FoundEvicted) 22 (λ h. h .0 .0) (λ h. h .1 .0) refl also uses-own Placed 23 (λ h. h .0) refl refl also fin
 
+-- a stage that does not use a frame is one of those at which the client has none
+unused : {b : Bool} → b ≡ false → T (not b)
+unused e = subst (λ b. T (not b)) (sym e) tt
+
 -- ---- the ranges
 
 module _ (p : Pool) (r : Reached p) where
@@ -78,9 +83,9 @@ module _ (p : Pool) (r : Reached p) where
       each-in (GivesFrames p k) Nothing knows (gives-frames p k) (k .stage) (omega (arith, s .stage-ok c)) (r .mapping .knowing c) in
       record {
         counts = record { stage = s .stage-ok c; held = s .held-ok c; place = s .place-ok c; busy = s .busy-ok c; seen = s .seen-ok c };
-        own = record { named = s .own-ok c; there = λ u. s .own-ok c (h .own u) };
-        found = record { named = s .found-ok c; there = λ u. s .found-ok c (h .found u) };
-        victim = record { named = s .victim-ok c; there = λ u. s .victim-ok c (h .victim u) };
+        own = record { there = λ u. s .own-ok c (h .own u); gone = λ u. r .pin-counts .owns-none c (unused u) };
+        found = record { there = λ u. s .found-ok c (h .found u); gone = λ u. r .mapping .no-found c (unused u) };
+        victim = record { there = λ u. s .victim-ok c (h .victim u); gone = λ u. r .mapping .no-victim c (unused u) };
         grant = λ i l. s .grant-ok c i (r .mapping .grant-named c i l);
         agree = λ i j l m e. granted-frame c i l ∙ ap (lookup p) e ∙ sym (granted-frame c j m);
       }

@@ -35,5 +35,6 @@ table =
       published = (refl, refl, refl, refl, refl, refl, refl, refl, refl);
       of-one = (refl, refl, refl, refl, refl);
       of-two = (refl, refl, refl, refl, refl, refl);
+      handed = (refl, refl, refl);
       report = refl;
     }

@@ -8,17 +8,23 @@ use Prim.Native.Char.{code}
 use Prim.Native.String.{String, [] as S[], _∷_ as _S∷_}
 use lib.Dec.{eqb}
 use Rattle.pool.specs.Choose.{choose}
-use Rattle.pool.specs.State.{none, evicted, pinned, slot, pins, count, client}
+use Rattle.pool.specs.State.{none, evicted, pinned, slot, pins, count, resting, client}
 use Rattle.pool.specs.Table.{lookup}
-use Rattle.pool.specs.Calls.{setupOf, callOf, poolAfter}
+use Rattle.pool.specs.Moves.{standing, withOwn, withFound, withVictim, completes}
+use Rattle.pool.specs.Apply.{apply}
+use Rattle.pool.specs.Valid.{valid}
+use Rattle.pool.specs.Calls.{fresh, setupOf, callOf, poolAfter}
 use Rattle.pool.specs.Tallies.{zeroTally, tallied}
 use Rattle.pool.specs.Schedule.{ran}
 use Rattle.pool.specs.declared.Pool.{Pool}
+use Rattle.pool.specs.declared.Client.{Client}
 use Rattle.pool.specs.declared.Tally.{Tally}
 use Rattle.pool.specs.declared.Call.{Call}
 use Rattle.pool.specs.declared.Call.the-variants.{Begin, Step, Release}
 use Rattle.pool.specs.declared.Answer.{Answer}
 use Rattle.pool.specs.declared.Answer.the-variants.{Done, Working, Granted, Refused}
+use Rattle.pool.specs.declared.GrantChange.the-variants.{Same}
+use Rattle.pool.specs.declared.Write.the-variants.{Keep}
 
 -- a line of a case: a call and its answer, or a number of the pool, as it is by then, and its value
 infix 90 _gets_ _is_
@@ -358,6 +364,24 @@ computed x =
 abbrev pub Holds : Case → Type 0
 Holds x = computed x ≡ x
 
+-- ---- check 8 of a handed pool: a fresh one, of one slot and three frames, but for its client
+
+abbrev pub passes : Client → Bool
+passes k = valid (apply (fresh 1 1 1 0) 0 (completes 0 k Same Keep))
+
+-- with a frame that its stage uses, the own one, the found one, the victim; without it; and with a frame that its stage has no use for
+abbrev pub having : List Client
+having = standing (withOwn (resting 0) 0) 5 ∷ standing (withFound (resting 0) 0) 2 ∷ standing (withVictim (withOwn (resting 0) 0) 1) 12 ∷ []
+
+abbrev pub lacking : List Client
+lacking = standing (resting 0) 5 ∷ standing (resting 0) 2 ∷ standing (withOwn (resting 0) 0) 12 ∷ []
+
+abbrev pub keeping : List Client
+keeping = withOwn (resting 0) 0 ∷ standing (withFound (resting 0) 0) 4 ∷ standing (withVictim (withOwn (resting 0) 0) 1) 11 ∷ []
+
+abbrev pub Handed : List Client → Bool → Type 0
+Handed l answer = map passes l ≡ map (λ _. answer) l
+
 -- ---- P1 once more, as a file and its report
 
 -- the codes of a text's characters
@@ -380,9 +404,11 @@ file = 0x46 ∷ 0x43 ∷ 0 ∷ 1 ∷ 1 ∷ 3 ∷ 0 ∷ 0 ∷ 0 ∷ 0 ∷ record8
 abbrev pub listing : String
 listing = "0 0 0 1\n1 0 0 9\n2 0 1 4\n3 0 1 5\n4 0 1 6\n5 0 1 7\n6 0 1 8\n7 0 1 9\n8 0 1 18\n9 0 2 0\n10 0 111 0\n11 0 0 9\n"
 
--- What is proved of the table: each case holds; and the file's run of 12 records has the listing for its report.
+-- What is proved of the table: each case holds; a client passes check 8 that has the frames of its stage and no others; and the file's run of 12
+-- records has the listing for its report.
 pub record Proved : Type 0 where
   pub published : Holds P1 × Holds P2 × Holds P3 × Holds P4 × Holds P5 × Holds P6 × Holds P7a × Holds P7b × (map computed P8 ≡ P8)
   pub of-one : Holds reducedStart × Holds roundTheEnd × Holds countAtCap × Holds twoHeld × Holds busyRunReset
   pub of-two : Holds claimedSlot × Holds stalledVictim × Holds stalledFound × Holds pinnedMeanwhile × Holds swappedMeanwhile × Holds foundRemoved
+  pub handed : Handed having true × Handed lacking false × Handed keeping false
   pub report : ran file 49152 ≡ record { records = 12; refusal = 0; lines = codes listing }

@@ -7,7 +7,8 @@ use Rattle.pool.specs.State.{none, clientCount, total, slot, entryFrame,
 use Rattle.pool.specs.Grants.{holds}
 use Rattle.pool.specs.declared.Pool.{Pool}
 
--- A client names its own frame, its found frame, its victim and the frames of its grants.
+-- A client names its own frame, its found frame, its victim and the frames of its grants. No stage is asked for: a number that the client's
+-- stage has no use for is none, else the pool does not pass check 8 (`usedOk`).
 unfoldable pub names : Pool → ℕ → ℕ → Bool
 names p f c =
     let k = client p c in

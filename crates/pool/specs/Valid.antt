@@ -19,9 +19,9 @@ numbersOk s t c = both (ltb 0 s) (both (leb s maxSize) (both (ltb 0 t) (both (le
 unfoldable pub frameOk : ℕ → ℕ → Bool
 frameOk n f = either (eqb f none) (ltb f n)
 
--- one of the pool's n frames where the stage uses it, else none or one of them
+-- a frame number that a client keeps: one of the pool's n where its stage uses it, else none, since the client has forgotten the frame
 unfoldable pub usedOk : Bool → ℕ → ℕ → Bool
-usedOk used n f = choose used (ltb f n) (frameOk n f)
+usedOk used n f = choose used (ltb f n) (eqb f none)
 
 -- the stages that use the own frame, the found frame, the victim
 abbrev pub usesOwn : ℕ → Bool

@@ -44,10 +44,10 @@ pub record Counts (k : Client) (size : ℕ) : Type 0 where
 abbrev pub Named : ℕ → Type 0
 Named f = f ≡ none → ⊥
 
--- a frame number that is none or below n, and below n where the stage uses it
+-- a frame number below n where the stage uses it, none where it does not
 pub record Names (used : Bool) (n f : ℕ) : Type 0 where
-  pub named : Named f → f < n
   pub there : used ≡ true → f < n
+  pub gone : used ≡ false → f ≡ none
 
 pub record ClientRanged (p : Pool) (c : ℕ) : Type 0 where
   pub counts : Counts (client p c) (p .size)
@@ -147,13 +147,13 @@ module _ (p : Pool) where
 
   used-in : (u : Bool) (f : ℕ) → usedOk u (total p) f ≡ true → Names u (total p) f
   unfolding usedOk choose
-  used-in true f h = let l = ltb-true _ _ h in record { named = λ _. l; there = λ _. l }
-  used-in false f h = record { named = name-in f h; there = λ e. absurd (true≢false (sym e)) }
+  used-in true f h = record { there = λ _. ltb-true _ _ h; gone = λ e. absurd (true≢false e) }
+  used-in false f h = record { there = λ e. absurd (true≢false (sym e)); gone = λ _. eqb-true _ _ h }
 
   used-from : (u : Bool) (f : ℕ) → Names u (total p) f → usedOk u (total p) f ≡ true
   unfolding usedOk choose
   used-from true f r = lt-ltb _ _ (r .there refl)
-  used-from false f r = name-from f (r .named)
+  used-from false f r = eq-eqb _ _ (r .gone refl)
 
   -- ---- a place of the table
 

@@ -55,14 +55,14 @@ fn frame_ok(n: u8, f: u8) -> bool
     f < n
 }
 
-// One of the pool's n frames where the stage uses it, else none or one of them.
+// A frame number that a client keeps: one of the pool's n where its stage uses it, else none.
 fn used_ok(used: bool, n: u8, f: u8) -> bool
     ensures { λ r. ⌜ r ≡ usedOk used n f ⌝ }
 {
     if used {
         return f < n;
     }
-    frame_ok(n, f)
+    f == pool::NONE
 }
 
 // The stages that use the own frame, the found frame, the victim.

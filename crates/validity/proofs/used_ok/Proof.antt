@@ -1,6 +1,4 @@
 -- Each return has one side of the definition's choice by `used`. Assumes nothing.
-use borrow.Author.Needs.{needs}
-use mathlib.Core.Path.{_∙_}
 use Rattle.pool.specs.Choose.{choose}
 use Rattle.pool.specs.Valid.{usedOk}
 use Rattle.validity.proofs.used_ok.Statement.{statement}
@@ -12,10 +10,10 @@ returns c = simp (c .if1 .taken)
 
 returns-2 : tie.Need-returns-2
 unfolding usedOk choose
-returns-2 c = c .frame-ok .ensures ∙ simp (c .before .if1 .left)
+returns-2 c = simp (c .if1 .left)
 
 pub used-ok-spec : {M : Type 1} → statement M
 used-ok-spec =
     tie.close
     (tie.spec
-    returns (λ c κs. search needs) returns-2)
+    returns returns-2)
