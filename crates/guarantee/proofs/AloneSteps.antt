@@ -70,7 +70,8 @@ module _ {p : Pool} {b g i : ℕ} (on : AloneAt p b g (suc i)) where
   -- where the stage comes to m, the step is m
   step-is : {m : Move} → getD stages (suc i) noStage p (client p b) ≡ m → StepIs p b (uncounted m)
   unfolding moveOf caller apply
-  step-is e = let w = call-moves p (Step b) (on .reached) allows ∙ ap (outcomeOf p b) (stage-is ∙ e) in record { answer-is = same-answer w; pool-is = same-pool w }
+  step-is e =
+      let w = call-moves p (Step b) (on .reached) allows ∙ ap (outcomeOf p b) (stage-is ∙ e) in record { answer-is = same-answer w; pool-is = same-pool w }
 
   -- a stuck branch is not taken
   not-stuck : (n v : ℕ) {m : Move} → getD stages (suc i) noStage p (client p b) ≡ choose (eqb n v) (stuck (client p b)) m

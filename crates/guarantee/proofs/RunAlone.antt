@@ -172,7 +172,9 @@ module _ (p₀ : Pool) (b g : ℕ) (reached : Reached p₀) (rest : (c : ℕ) �
     result5 e =
         let o = e .alone-at in
         elim (ℕ-discrete (p .free) 0) [
-          | yes f ↦ (let w = move5-none p b g o f in goes-on 10 (w .answer-is) (at10 (still-undecided 10 e w refl refl tt) (next-is o w (λ q _. q .free ≡ 0) f)))
+          | yes f ↦
+              let w = move5-none p b g o f in
+              goes-on 10 (w .answer-is) (at10 (still-undecided 10 e w refl refl tt) (next-is o w (λ q _. q .free ≡ 0) f))
           | no f ↦
               let w = move5 p b g o f in
               let i = some-empty p (λ q. f (omega (arith, o .reached .evictions .empties))) in

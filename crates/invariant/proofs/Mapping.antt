@@ -27,7 +27,8 @@ use Rattle.invariant.proofs.Facts.{grant-pinned}
 use Rattle.invariant.proofs.StageTests.{never, imp-mp}
 use Rattle.invariant.proofs.Edges.{Edge, moves-on, found1, found18, forgets2, forgets22, pins2, pins19, gets3, gets21, takes, fills, replaces, refuses}
 use Rattle.invariant.proofs.Edges.{drops, removes, admits, revives, evicts20, evicts23, begins, releases}
-use Rattle.invariant.proofs.Effects.{OwnOk, own-forgotten, own-stays, own-taken, Opened, of-found, of-own, EntryOk, entries-stay, maps, unmaps, Effect, Scene, scene}
+use Rattle.invariant.proofs.Effects.{OwnOk, own-forgotten, own-stays, own-taken, Opened, of-found, of-own, EntryOk, entries-stay, maps}
+use Rattle.invariant.proofs.Effects.{unmaps, Effect, Scene, scene}
 use Rattle.invariant.proofs.Next.{evicted-next, in-slot-next, mapped-next, page-next, own-referenced, mapped-referenced, all-grants}
 use Rattle.invariant.proofs.PinCounts.{orphan-stays, refused-orphan}
 use Rattle.invariant.proofs.Knowing.{knows-next, learns}

@@ -13,7 +13,8 @@ use Rattle.records.proofs.read.Tie as tie
 returns : tie.Need-returns
 returns c = (
   c .reading .ensures,
-  ap (λ (r : Reading). member (unreadOf r) byRecord) (c .reading .ensures) ∙ read-refusals (c .before .before .args .first) (now (c .before .before .args .rest)),
+  ap (λ (r : Reading). member (unreadOf r) byRecord) (c .reading .ensures)
+      ∙ read-refusals (c .before .before .args .first) (now (c .before .before .args .rest)),
 )
 
 pub read-spec : {M : Type 1} → statement M
