@@ -42,11 +42,6 @@ unfolding either choose
 either-false true b e = absurd (true≢false e)
 either-false false b e = (refl, e)
 
-pub either-right : (a b : Bool) → b ≡ true → either a b ≡ true
-unfolding either choose
-either-right true b e = refl
-either-right false b e = e
-
 -- ---- searches
 
 module _ {A : Type 0} (test : ℕ → Bool) (found : ℕ → A) (missing : A) where
