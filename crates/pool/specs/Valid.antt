@@ -15,13 +15,30 @@ use Rattle.pool.specs.declared.Client.{Client}
 unfoldable pub numbersOk : ℕ → ℕ → ℕ → Bool
 numbersOk s t c = both (ltb 0 s) (both (leb s maxSize) (both (ltb 0 t) (both (leb t maxClients) (both (ltb 0 c) (leb c maxCap)))))
 
--- no frame, or one of the pool's n
+-- ---- a few numbers of a pool with n frames
+
+-- no frame, or one of the pool's: "A slot is empty or names one frame."
 unfoldable pub frameOk : ℕ → ℕ → Bool
 frameOk n f = either (eqb f none) (ltb f n)
 
--- a frame number that a client keeps: one of the pool's n where its stage uses it, else none, since the client has forgotten the frame
+-- a frame number that a client keeps: one of the pool's where its stage uses it, else none, since the client has forgotten the frame
 unfoldable pub usedOk : Bool → ℕ → ℕ → Bool
 usedOk used n f = choose used (ltb f n) (eqb f none)
+
+-- a frame's pins, as stored, and count: "pins (-1, evicted, to 128) and a reference count (0 to C)"
+unfoldable pub stateOk : ℕ → ℕ → ℕ → Bool
+stateOk cap q r = both (leb q (pinned maxPins)) (leb r cap)
+
+-- Place i of the table, its frame, and the place where its page is found: unused, or a frame of the pool at the page's only place, for
+-- "The table maps a page to at most one frame."
+unfoldable pub entryOk : ℕ → ℕ → ℕ → ℕ → Bool
+entryOk n i f first = either (eqb f none) (both (ltb f n) (eqb first i))
+
+-- a grant's frame, and that of the client's first grant of its page: one of the pool's, the same
+unfoldable pub grantOk : ℕ → ℕ → ℕ → Bool
+grantOk n f first = both (ltb f n) (eqb first f)
+
+-- ---- a client
 
 -- the stages that use the own frame, the found frame, the victim
 abbrev pub usesOwn : ℕ → Bool
@@ -33,40 +50,39 @@ usesFound s = (leb 2 s && leb s 3) || (leb 19 s && leb s 22)
 abbrev pub usesVictim : ℕ → Bool
 usesVictim s = leb 12 s && leb s 17
 
--- "A slot is empty or names one frame."
-abbrev pub slotOk : Pool → ℕ → Bool
-slotOk p i = frameOk (total p) (slot p i)
-
--- "pins (-1, evicted, to 128) and a reference count (0 to C)"
-unfoldable pub stateOk : Pool → ℕ → Bool
-stateOk p f = both (leb (pins p f) (pinned maxPins)) (leb (count p f) (p .cap))
-
--- "The table maps a page to at most one frame.": an entry is the one that its page is found at
-unfoldable pub entryOk : Pool → ℕ → Bool
-entryOk p i = either (eqb (entryFrame p i) none) (both (ltb (entryFrame p i) (total p)) (eqb (entryOf p (entryPage p i)) i))
-
--- a grant names a frame, and the one that the client's first grant of its page names
-unfoldable pub grantOk : Pool → ℕ → ℕ → Bool
-grantOk p c i = both (ltb (grantFrame p c i) (total p)) (eqb (grantFrame p c (grantOf p c (grantPage p c i))) (grantFrame p c i))
-
--- "A slot number that a bench remembers is 0 to S - 1, and so is a busy run."; a bench "holds 0 to 8 grants"
+-- "A slot number that a bench remembers is 0 to S - 1, and so is a busy run."; a bench "holds 0 to 8 grants"; the value of free that it read is
+-- 0 to S, as free is
 unfoldable pub countsOk : Client → ℕ → Bool
 countsOk k size = both (leb (k .stage) 23) (both (leb (k .held) maxHeld) (both (ltb (k .place) size) (both (ltb (k .busy) size) (leb (k .seen) size))))
 
--- the frames that a client remembers, of n
+-- the frames that it remembers, of n
 unfoldable pub namesOk : Client → ℕ → Bool
 namesOk k n =
     both (usedOk (usesOwn (k .stage)) n (k .own))
     (both (usedOk (usesFound (k .stage)) n (k .found)) (usedOk (usesVictim (k .stage)) n (k .victim)))
 
+-- ---- the pool: a slot, a frame, a place of the table, a client's grant, a client, and all of them
+
+abbrev pub slotOkAt : Pool → ℕ → Bool
+slotOkAt p i = frameOk (total p) (slot p i)
+
+abbrev pub stateOkAt : Pool → ℕ → Bool
+stateOkAt p f = stateOk (p .cap) (pins p f) (count p f)
+
+abbrev pub entryOkAt : Pool → ℕ → Bool
+entryOkAt p i = entryOk (total p) i (entryFrame p i) (entryOf p (entryPage p i))
+
+abbrev pub grantOkAt : Pool → ℕ → ℕ → Bool
+grantOkAt p c i = grantOk (total p) (grantFrame p c i) (grantFrame p c (grantOf p c (grantPage p c i)))
+
 unfoldable pub clientOk : Pool → ℕ → Bool
-clientOk p c = let k = client p c in both (countsOk k (p .size)) (both (namesOk k (total p)) (every (grantOk p c) (k .held)))
+clientOk p c = let k = client p c in both (countsOk k (p .size)) (both (namesOk k (total p)) (every (grantOkAt p c) (k .held)))
 
 -- "'Free' starts at S and is 0 to S."
 unfoldable pub valid : Pool → Bool
 valid p =
     both (numbersOk (p .size) (clientCount p) (p .cap))
     (both (both (leb (p .free) (p .size)) (frameOk (total p) (p .last)))
-    (both (every (slotOk p) (p .size))
-    (both (every (stateOk p) (total p))
-    (both (every (entryOk p) (total p)) (every (clientOk p) (clientCount p))))))
+    (both (every (slotOkAt p) (p .size))
+    (both (every (stateOkAt p) (total p))
+    (both (every (entryOkAt p) (total p)) (every (clientOk p) (clientCount p))))))

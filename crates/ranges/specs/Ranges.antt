@@ -6,15 +6,16 @@ use mathlib.Core.List.{List}
 use native.Mathlib.Decide.{ℕ-discrete}
 use native.Mathlib.Omega.{arith}
 use Prim.Native.Nat.{ℕ, _<_, _≤_}
-use lib.Dec.{eqb, ltb}
+use lib.Dec.{eqb}
 use lib.ListN.{getD}
 use borrow.Author.Tests.{ltb-true, leb-true, eqb-true, eqb-false, lt-ltb, le-leb, eq-eqb, ne-eqb, not-true}
 use Rattle.pool.specs.Limits.{maxSize, maxClients, maxCap, maxHeld, maxPins, maxFrames}
-use Rattle.pool.specs.Choose.{choose, both, either}
+use Rattle.pool.specs.Choose.{choose, either}
 use Rattle.pool.specs.State.{none, pinned, total, clientCount, within, slot, pins, count, entryPage, entryFrame, client, grantPage, grantFrame}
 use Rattle.pool.specs.Table.{maps, entryOf}
 use Rattle.pool.specs.Grants.{grantOf}
-use Rattle.pool.specs.Valid.{numbersOk, frameOk, usedOk, usesOwn, usesFound, usesVictim, slotOk, stateOk, entryOk, grantOk}
+use Rattle.pool.specs.Valid.{numbersOk, frameOk, usedOk, usesOwn, usesFound, usesVictim, stateOk, entryOk, grantOk}
+use Rattle.pool.specs.Valid.{slotOkAt, stateOkAt, entryOkAt, grantOkAt}
 use Rattle.pool.specs.Valid.{countsOk, namesOk, clientOk, valid}
 use Rattle.pool.specs.declared.Pool.{Pool}
 use Rattle.pool.specs.declared.Client.{Client}
@@ -130,49 +131,64 @@ counts-from k size n =
     (both-yes _ _ (le-leb _ _ (n .held))
     (both-yes _ _ (lt-ltb _ _ (n .place)) (both-yes _ _ (lt-ltb _ _ (n .busy)) (le-leb _ _ (n .seen)))))
 
+-- ---- a frame number f of a pool with n frames
+
+-- a test that is made only of a number that names a frame
+unless-none : (f : ℕ) (test : Bool) → (Named f → test ≡ true) → either (eqb f none) test ≡ true
+unfolding either choose
+unless-none f test h = go (ℕ-discrete f none)
+  where
+    go : Dec (f ≡ none) → either (eqb f none) test ≡ true
+    go (yes e) = simp (eq-eqb f none e)
+    go (no d) = simp (ne-eqb f none d, h d)
+
+of-named : (f : ℕ) (test : Bool) → either (eqb f none) test ≡ true → Named f → test ≡ true
+unfolding either choose
+of-named f test h d = rw (ne-eqb f none d) at h
+
+module _ (n f : ℕ) where
+  name-in : frameOk n f ≡ true → Named f → f < n
+  unfolding frameOk
+  name-in h d = ltb-true _ _ (of-named f _ h d)
+
+  name-from : (Named f → f < n) → frameOk n f ≡ true
+  unfolding frameOk
+  name-from r = unless-none f _ (λ d. lt-ltb _ _ (r d))
+
+  used-in : (u : Bool) → usedOk u n f ≡ true → Names u n f
+  unfolding usedOk choose
+  used-in true h = record { there = λ _. ltb-true _ _ h; gone = λ e. absurd (true≢false e) }
+  used-in false h = record { there = λ e. absurd (true≢false (sym e)); gone = λ _. eqb-true _ _ h }
+
+  used-from : (u : Bool) → Names u n f → usedOk u n f ≡ true
+  unfolding usedOk choose
+  used-from true r = lt-ltb _ _ (r .there refl)
+  used-from false r = eq-eqb _ _ (r .gone refl)
+
+  -- a place of the table
+  entry-in : (i first : ℕ) → entryOk n i f first ≡ true → Named f → (f < n) × (first ≡ i)
+  unfolding entryOk
+  entry-in i first h d =
+      let r = of-named f _ h d in
+      (ltb-true _ _ (both-first _ _ r), eqb-true _ _ (both-second _ _ r))
+
+  entry-from : (i first : ℕ) → (Named f → (f < n) × (first ≡ i)) → entryOk n i f first ≡ true
+  unfolding entryOk
+  entry-from i first r = unless-none f _ (λ d. both-yes _ _ (lt-ltb _ _ (r d .0)) (eq-eqb _ _ (r d .1)))
+
+  -- a grant
+  grant-in : (first : ℕ) → grantOk n f first ≡ true → (f < n) × (first ≡ f)
+  unfolding grantOk
+  grant-in first h = (ltb-true _ _ (both-first _ _ h), eqb-true _ _ (both-second _ _ h))
+
+  grant-from : (first : ℕ) → f < n → first ≡ f → grantOk n f first ≡ true
+  unfolding grantOk
+  grant-from first h e = both-yes _ _ (lt-ltb _ _ h) (eq-eqb _ _ e)
+
 module _ (p : Pool) where
-  -- ---- a frame number
-
-  name-in : (f : ℕ) → frameOk (total p) f ≡ true → Named f → f < total p
-  unfolding frameOk either choose
-  name-in f h d = ltb-true _ _ (rw (ne-eqb f none d) at h)
-
-  name-from : (f : ℕ) → (Named f → f < total p) → frameOk (total p) f ≡ true
-  unfolding frameOk either choose
-  name-from f r = go (ℕ-discrete f none)
-    where
-      go : Dec (f ≡ none) → either (eqb f none) (ltb f (total p)) ≡ true
-      go (yes e) = simp (eq-eqb f none e)
-      go (no d) = simp (ne-eqb f none d, lt-ltb f (total p) (r d))
-
-  used-in : (u : Bool) (f : ℕ) → usedOk u (total p) f ≡ true → Names u (total p) f
-  unfolding usedOk choose
-  used-in true f h = record { there = λ _. ltb-true _ _ h; gone = λ e. absurd (true≢false e) }
-  used-in false f h = record { there = λ e. absurd (true≢false (sym e)); gone = λ _. eqb-true _ _ h }
-
-  used-from : (u : Bool) (f : ℕ) → Names u (total p) f → usedOk u (total p) f ≡ true
-  unfolding usedOk choose
-  used-from true f r = lt-ltb _ _ (r .there refl)
-  used-from false f r = eq-eqb _ _ (r .gone refl)
-
   -- ---- a place of the table
 
   module _ (i : ℕ) where
-    entry-in : entryOk p i ≡ true → Named (entryFrame p i) → (entryFrame p i < total p) × (entryOf p (entryPage p i) ≡ i)
-    unfolding entryOk either choose
-    entry-in h d =
-        let r = rw (ne-eqb (entryFrame p i) none d) at h in
-        (ltb-true _ _ (both-first _ _ r), eqb-true _ _ (both-second _ _ r))
-
-    entry-from : (Named (entryFrame p i) → (entryFrame p i < total p) × (entryOf p (entryPage p i) ≡ i)) → entryOk p i ≡ true
-    unfolding entryOk either choose
-    entry-from r = go (ℕ-discrete (entryFrame p i) none)
-      where
-        go : Dec (entryFrame p i ≡ none) →
-            either (eqb (entryFrame p i) none) (both (ltb (entryFrame p i) (total p)) (eqb (entryOf p (entryPage p i)) i)) ≡ true
-        go (yes e) = simp (eq-eqb (entryFrame p i) none e)
-        go (no d) = rw (ne-eqb (entryFrame p i) none d) (both-yes _ _ (lt-ltb _ _ (r d .0)) (eq-eqb _ _ (r d .1)))
-
     maps-in : (g : ℕ) → maps p g i ≡ true → (entryPage p i ≡ g) × Named (entryFrame p i)
     unfolding maps
     maps-in g h = (eqb-true _ _ (both-first _ _ h), eqb-false _ _ (not-true _ (both-second _ _ h)))
@@ -184,11 +200,6 @@ module _ (p : Pool) where
   -- ---- a client
 
   module _ (c : ℕ) where
-    grant-in :
-        (i : ℕ) → grantOk p c i ≡ true → (grantFrame p c i < total p) × (grantFrame p c (grantOf p c (grantPage p c i)) ≡ grantFrame p c i)
-    unfolding grantOk
-    grant-in i h = (ltb-true _ _ (both-first _ _ h), eqb-true _ _ (both-second _ _ h))
-
     -- the first grant of a grant's page
     first-grant : (i : ℕ) → i < client p c .held → First (λ j. eqb (grantPage p c j) (grantPage p c i)) i (grantOf p c (grantPage p c i))
     unfolding grantOf
@@ -202,26 +213,26 @@ module _ (p : Pool) where
         let r = both-second _ _ h in
         let u = both-first _ _ r in
         let u₂ = both-second _ _ u in
-        let g = every-at (grantOk p c) (client p c .held) (both-second _ _ r) in
+        let g = every-at (grantOkAt p c) (client p c .held) (both-second _ _ r) in
         record {
           counts = counts-in (client p c) (p .size) (both-first _ _ h);
-          own = used-in _ _ (both-first _ _ u);
-          found = used-in _ _ (both-first _ _ u₂);
-          victim = used-in _ _ (both-second _ _ u₂);
-          grant = λ i l. grant-in i (g i l) .0;
-          agree = λ i j l m e. sym (grant-in i (g i l) .1) ∙ ap (λ x. grantFrame p c (grantOf p c x)) e ∙ grant-in j (g j m) .1;
+          own = used-in _ _ _ (both-first _ _ u);
+          found = used-in _ _ _ (both-first _ _ u₂);
+          victim = used-in _ _ _ (both-second _ _ u₂);
+          grant = λ i l. grant-in _ _ _ (g i l) .0;
+          agree = λ i j l m e. sym (grant-in _ _ _ (g i l) .1) ∙ ap (λ x. grantFrame p c (grantOf p c x)) e ∙ grant-in _ _ _ (g j m) .1;
         }
 
     client-from : ClientRanged p c → clientOk p c ≡ true
-    unfolding clientOk namesOk grantOk
+    unfolding clientOk namesOk
     client-from r =
         both-yes _ _ (counts-from _ _ (r .counts))
         (both-yes _ _
-        (both-yes _ _ (used-from _ _ (r .own)) (both-yes _ _ (used-from _ _ (r .found)) (used-from _ _ (r .victim))))
-        (every-yes (grantOk p c) (client p c .held)
+        (both-yes _ _ (used-from _ _ _ (r .own)) (both-yes _ _ (used-from _ _ _ (r .found)) (used-from _ _ _ (r .victim))))
+        (every-yes (grantOkAt p c) (client p c .held)
         (λ i l.
         let f = first-grant i l in
-        both-yes _ _ (lt-ltb _ _ (r .grant i l)) (eq-eqb _ _ (r .agree _ i (omega arith) l (eqb-true _ _ (f .meets)))))))
+        grant-from _ _ _ (r .grant i l) (r .agree _ i (omega arith) l (eqb-true _ _ (f .meets))))))
 
   -- ---- the pool
 
@@ -232,19 +243,19 @@ module _ (p : Pool) where
       let h₃ = both-second _ _ h₂ in
       let h₄ = both-second _ _ h₃ in
       let h₅ = both-second _ _ h₄ in
-      let s = every-at (slotOk p) (p .size) (both-first _ _ h₃) in
-      let f = every-at (stateOk p) (total p) (both-first _ _ h₄) in
-      let e = every-at (entryOk p) (total p) (both-first _ _ h₅) in
+      let s = every-at (slotOkAt p) (p .size) (both-first _ _ h₃) in
+      let f = every-at (stateOkAt p) (total p) (both-first _ _ h₄) in
+      let e = every-at (entryOkAt p) (total p) (both-first _ _ h₅) in
       let k = every-at (clientOk p) (clientCount p) (both-second _ _ h₅) in
       record {
         numbers = numbers-in _ _ _ (both-first _ _ h);
         free = leb-true _ _ (both-first _ _ (both-first _ _ h₂));
-        last = name-in _ (both-second _ _ (both-first _ _ h₂));
-        slot = λ i l. name-in _ (s i l);
+        last = name-in _ _ (both-second _ _ (both-first _ _ h₂));
+        slot = λ i l. name-in _ _ (s i l);
         pins = λ i l. leb-true _ _ (both-first _ _ (f i l));
         count = λ i l. leb-true _ _ (both-second _ _ (f i l));
-        entry = λ i l d. entry-in i (e i l) d .0;
-        apart = λ i j l m d d′ q. sym (entry-in i (e i l) d .1) ∙ ap (entryOf p) q ∙ entry-in j (e j m) d′ .1;
+        entry = λ i l d. entry-in _ _ _ _ (e i l) d .0;
+        apart = λ i j l m d d′ q. sym (entry-in _ _ _ _ (e i l) d .1) ∙ ap (entryOf p) q ∙ entry-in _ _ _ _ (e j m) d′ .1;
         client = λ c l. client-in c (k c l);
       }
 
@@ -260,8 +271,8 @@ module _ (p : Pool) where
   unfolding valid stateOk
   valid-from r =
       both-yes _ _ (numbers-from _ _ _ (r .numbers))
-      (both-yes _ _ (both-yes _ _ (le-leb _ _ (r .free)) (name-from _ (r .last)))
-      (both-yes _ _ (every-yes (slotOk p) (p .size) (λ i l. name-from _ (r .slot i l)))
-      (both-yes _ _ (every-yes (stateOk p) (total p) (λ f l. both-yes _ _ (le-leb _ _ (r .pins f l)) (le-leb _ _ (r .count f l))))
-      (both-yes _ _ (every-yes (entryOk p) (total p) (λ i l. entry-from i (λ d. (r .entry i l d, found-there r i l d))))
+      (both-yes _ _ (both-yes _ _ (le-leb _ _ (r .free)) (name-from _ _ (r .last)))
+      (both-yes _ _ (every-yes (slotOkAt p) (p .size) (λ i l. name-from _ _ (r .slot i l)))
+      (both-yes _ _ (every-yes (stateOkAt p) (total p) (λ f l. both-yes _ _ (le-leb _ _ (r .pins f l)) (le-leb _ _ (r .count f l))))
+      (both-yes _ _ (every-yes (entryOkAt p) (total p) (λ i l. entry-from _ _ _ _ (λ d. (r .entry i l d, found-there r i l d))))
       (every-yes (clientOk p) (clientCount p) (λ c l. client-from c (r .client c l)))))))

@@ -5,11 +5,12 @@ use mathlib.Core.Bool.{Bool, true, false}
 use mathlib.Core.List.{List}
 use native.Mathlib.Omega.{arith}
 use Prim.Native.Nat.{ℕ, _<_}
-use lib.Dec.{eqb, ltb}
+use lib.Dec.{eqb}
 use lib.ListN.{getD}
 use borrow.Author.Tests.{eq-eqb, ne-eqb}
-use Rattle.pool.specs.Choose.{choose, both, either, every}
+use Rattle.pool.specs.Choose.{choose, both, every}
 use Rattle.pool.specs.State.{none, within, ofClient, grantPlace}
+use Rattle.pool.specs.Valid.{entryOk, grantOk}
 use Rattle.laws.specs.Scans.{first}
 use Rattle.laws.specs.Loops.{found-at}
 use Rattle.laws.specs.Elements.{element, grant-element, pageOf}
@@ -20,8 +21,7 @@ use Rattle.repeats.specs.Marks.{New}
 
 module _ (pages frames : List ℕ) (n : ℕ) where
   unfoldable pub entryOkIn : ℕ → Bool
-  entryOkIn i =
-      either (eqb (within frames n none i) none) (both (ltb (within frames n none i) n) (eqb (entryIn pages frames n (within pages n 0 i)) i))
+  entryOkIn i = entryOk n i (within frames n none i) (entryIn pages frames n (within pages n 0 i))
 
   unfoldable pub entriesOkIn : Bool
   entriesOkIn = every entryOkIn n
@@ -30,9 +30,7 @@ abbrev pub pageAt : List ℕ → ℕ → ℕ
 pageAt pages i = getD pages i 0
 
 module _ (pages frames : List ℕ) (n i : ℕ) (h : i < n) where
-  pub entry-at :
-      either (eqb (getD frames i 0) none) (both (ltb (getD frames i 0) n) (eqb (entryIn pages frames n (pageAt pages i)) i))
-      ≡ entryOkIn pages frames n i
+  pub entry-at : entryOk n i (getD frames i 0) (entryIn pages frames n (pageAt pages i)) ≡ entryOkIn pages frames n i
   unfolding entryOkIn
   entry-at = rw (element frames n none i h, element pages n 0 i h)
 
@@ -57,9 +55,7 @@ module _ (pages frames : List ℕ) (n i : ℕ) (h : i < n) where
 
 module _ (pages frames : List ℕ) (c held n : ℕ) where
   unfoldable pub grantOkIn : ℕ → Bool
-  grantOkIn i =
-      both (ltb (ofClient frames c held none i) n)
-      (eqb (ofClient frames c held none (grantIn pages c held (ofClient pages c held 0 i))) (ofClient frames c held none i))
+  grantOkIn i = grantOk n (ofClient frames c held none i) (ofClient frames c held none (grantIn pages c held (ofClient pages c held 0 i)))
 
   unfoldable pub grantsOkIn : Bool
   grantsOkIn = every grantOkIn held
@@ -85,8 +81,7 @@ module _ (pages : List ℕ) (c held i : ℕ) (h : i < held) where
   -- the test of a grant, by its frame and that of the first grant of its page
   pub grant-at :
       (frames : List ℕ) (n : ℕ) →
-      both (ltb (getD frames (grantPlace c i) 0) n)
-      (eqb (getD frames (grantPlace c (grantIn pages c held (pageOf pages c i))) 0) (getD frames (grantPlace c i) 0))
+      grantOk n (getD frames (grantPlace c i) 0) (getD frames (grantPlace c (grantIn pages c held (pageOf pages c i))) 0)
       ≡ grantOkIn pages frames c held n i
   unfolding grantOkIn
   grant-at frames n =

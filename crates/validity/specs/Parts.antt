@@ -5,13 +5,12 @@ use mathlib.Core.Bool.{Bool}
 use mathlib.Core.List.{List}
 use Prim.Native.Nat.{ℕ}
 use lib.Dec.{leb}
-use Rattle.pool.specs.Limits.{maxPins}
 use Rattle.pool.specs.Choose.{both, every}
-use Rattle.pool.specs.State.{none, evicted, pinned, total, clientCount, within}
+use Rattle.pool.specs.State.{none, evicted, total, clientCount, within}
 use Rattle.pool.specs.State.{slot, pins, count, entryPage, entryFrame, client, grantPage, grantFrame}
 use Rattle.pool.specs.Table.{maps, entryOf}
 use Rattle.pool.specs.Grants.{grantOf}
-use Rattle.pool.specs.Valid.{numbersOk, frameOk, stateOk, entryOk, grantOk, countsOk, namesOk, clientOk, valid}
+use Rattle.pool.specs.Valid.{numbersOk, frameOk, stateOk, countsOk, namesOk, clientOk, valid}
 use Rattle.laws.specs.Elements.{clientIn}
 use Rattle.reads.specs.Lists.{mapsIn, entryIn, grantIn}
 use Rattle.repeats.specs.Places.{entryOkIn, entriesOkIn, grantOkIn, grantsOkIn}
@@ -27,7 +26,7 @@ slotsOkIn l size n = every (slotOkIn l size n) size
 
 -- the frames' pins and counts
 abbrev pub stateOkIn : List ℕ → List ℕ → ℕ → ℕ → ℕ → Bool
-stateOkIn pins counts n cap f = both (leb (within pins n evicted f) (pinned maxPins)) (leb (within counts n 0 f) cap)
+stateOkIn pins counts n cap f = stateOk cap (within pins n evicted f) (within counts n 0 f)
 
 unfoldable pub statesOkIn : List ℕ → List ℕ → ℕ → ℕ → Bool
 statesOkIn pins counts n cap = every (stateOkIn pins counts n cap) n
@@ -56,6 +55,6 @@ fromFree p = both (both (leb (p .free) (p .size)) (frameOk (total p) (p .last)))
 
 pub in-parts : (p : Pool) → both (numbersOk (p .size) (clientCount p) (p .cap)) (fromFree p) ≡ valid p
 unfolding
-    valid stateOk entryOk grantOk clientOk slot pins count entryPage entryFrame client grantPage grantFrame maps entryOf grantOf slotsOkIn statesOkIn
+    valid clientOk slot pins count entryPage entryFrame client grantPage grantFrame maps entryOf grantOf slotsOkIn statesOkIn
     mapsIn entryIn entryOkIn entriesOkIn grantIn grantOkIn grantsOkIn clientIn clientOkIn clientsOkIn
 in-parts p = refl

@@ -5,17 +5,18 @@ use native.Mathlib.Omega.{arith}
 use Prim.Native.Nat.{_<_}
 use borrow.Author.Tests.{lt-ltb}
 use Rattle.pool.specs.Choose.{choose, both}
+use Rattle.pool.specs.Valid.{grantOk}
 use Rattle.laws.specs.Choices.{tests}
 use Rattle.repeats.specs.Places.{first-held, first-new, grant-at}
 use Rattle.repeats.proofs.grant_ok.Statement.{statement}
 use Rattle.repeats.proofs.grant_ok.Tie as tie
 
 returns : tie.Need-returns
-unfolding both choose
+unfolding grantOk both choose
 returns c = rw (← grant-at _ _ _ _ (c .before .before .pre .2) _ _) (search tests)
 
 returns-2 : tie.Need-returns-2
-unfolding both choose
+unfolding grantOk both choose
 returns-2 c =
     let s = c .before .before .before in
     rw (← grant-at _ _ _ _ (s .pre .2) _ _, first-new _ _ _ _ (s .pre .2) (s .pre .3 (c .if2 .taken))) (search tests)
@@ -33,7 +34,7 @@ element-copy-out-result : tie.Need-element-copy-out-result
 element-copy-out-result c = let h = held c in omega arith
 
 returns-3 : tie.Need-returns-3
-unfolding both choose
+unfolding grantOk both choose
 returns-3 c =
     let e = c .before .before .before .before in
     rw (← grant-at _ _ _ _ (e .before .before .pre .2) _ _, ← c .before .grant-of .ensures, lt-ltb _ _ (e .if1 .left))

@@ -4,6 +4,7 @@ use borrow.Author.Needs.{needs}
 use mathlib.Core.Path.{_≡_}
 use Prim.Native.Nat.{_-_}
 use Rattle.pool.specs.State.{evicted}
+use Rattle.pool.specs.Valid.{stateOk}
 use Rattle.laws.specs.Loops.{Passing, starts, fails, passes, all-pass}
 use Rattle.laws.specs.Elements.{element}
 use Rattle.validity.specs.Parts.{stateOkIn, statesOkIn}
@@ -21,6 +22,7 @@ tested :
     let l = c .before .before .before in
     let a = l .before .before .args in
     c .both .result ≡ stateOkIn (a .pins .now) (a .counts .now) (a .n) (a .cap) (l .before .loop .i)
+unfolding stateOk
 tested c =
     let l = c .before .before .before in
     let a = l .before .before .args in
