@@ -17,6 +17,7 @@ use pool::MAX_CLIENTS;
 use pool::MAX_HELD;
 use pool::MAX_PINS;
 use pool::MAX_SIZE;
+use pool::NONE;
 use pool::Pool;
 use pool::SLOTS;
 
@@ -49,10 +50,10 @@ pub fn numbers_ok(size: u8, client_count: u8, cap: u8) -> bool
 fn frame_ok(n: u8, f: u8) -> bool
     ensures { λ r. ⌜ r ≡ frameOk n f ⌝ }
 {
-    if f == pool::NONE {
-        return true;
+    if f != NONE {
+        return f < n;
     }
-    f < n
+    true
 }
 
 // A frame number that a client keeps: one of the pool's n where its stage uses it, else none.
@@ -62,7 +63,7 @@ fn used_ok(used: bool, n: u8, f: u8) -> bool
     if used {
         return f < n;
     }
-    f == pool::NONE
+    f == NONE
 }
 
 // The stages that use the own frame, the found frame, the victim.
