@@ -6,21 +6,20 @@ use mathlib.Core.Logic.{_≢_, _⊎_}
 use Prim.Native.Nat.{ℕ, _+_, _-_, _≤_, _<_}
 use lib.Dec.{T}
 use Rattle.pool.specs.Limits.{maxHeld}
-use Rattle.pool.specs.State.{none, evicted, pinned, total, resting, slot, page, pins, count, client, grantFrame}
+use Rattle.pool.specs.State.{none, evicted, pinned, total, slot, page, pins, count, client, grantFrame}
 use Rattle.pool.specs.Table.{entryOf, lookup, unusedEntry}
 use Rattle.pool.specs.Frames.{freeFrame}
 use Rattle.pool.specs.Grants.{grantOf}
-use Rattle.pool.specs.Moves.{standing, withOwn, withFound, withVictim, holding, worksAs, works, refused15, completes}
+use Rattle.pool.specs.Moves.{standing, withOwn, withFound, withVictim, holding, worksAs, works, opens, refused15, completes}
 use Rattle.pool.specs.Apply.{freeAfter}
 use Rattle.pool.specs.Stages.{raised}
 use Rattle.pool.specs.Calls.{beginMove}
 use Rattle.pool.specs.declared.Pool.{Pool}
 use Rattle.pool.specs.declared.Client.{Client}
 use Rattle.pool.specs.declared.Move.{Move}
-use Rattle.pool.specs.declared.Answer.the-variants.{Granted}
 use Rattle.pool.specs.declared.Counted.{Counted}
 use Rattle.pool.specs.declared.Counted.the-variants.{Hit, Join, Admitted, Revived, Drop}
-use Rattle.pool.specs.declared.GrantChange.the-variants.{Open, End}
+use Rattle.pool.specs.declared.GrantChange.the-variants.{End}
 use Rattle.pool.specs.declared.Write.{Write}
 use Rattle.pool.specs.declared.Write.the-variants.{Keep, PutSlot, PutPins, PutCount, TakeFrame, PutEntry, PutHand, PutFree}
 use Rattle.invariant.proofs.Reached.{one, mapped, victimless, filling, examining, Knows, WillUnmap}
@@ -61,7 +60,7 @@ pub record MovesOn (p : Pool) (k n : Client) (j : ℕ) (w : Write) : Type 0 wher
 
 -- client k, which is to rest, is granted frame f
 abbrev pub grants : Client → ℕ → Write → Counted → Move
-grants k f w counted = record { next = resting (k .held + 1); grants = Open (k .held) (k .page) f; write = w; answer = Granted f; counted = counted }
+grants k f w counted = opens k f w counted
 
 module _ (p : Pool) (c : ℕ) where
   abbrev k : Client

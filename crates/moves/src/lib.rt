@@ -4,7 +4,7 @@ ghost use mathlib.Core.Path.{_≡_};
 ghost use Prim.Native.Nat.{_-_, _<_};
 ghost use Rattle.pool.specs.Stages.{around, raised, nextSlot, busyVisit, evictOwn, grantedFound};
 ghost use Rattle.pool.specs.State.{resting};
-ghost use Rattle.pool.specs.Moves.{worksAs, works, stuck, granted};
+ghost use Rattle.pool.specs.Moves.{worksAs, works, still, stuck, granted, refused15};
 ghost use Rattle.pool.specs.Calls.{beginMove, releaseMove};
 use pool::Answer;
 use pool::Client;
@@ -82,17 +82,24 @@ pub fn works(client: Client, stage: u8, write: Write) -> Move
     works_as(client, Counted::Nothing, stage, write)
 }
 
-// What no pool of this form can hold: nothing changes.
-pub fn stuck(client: Client) -> Move
-    ensures { λ r. ⌜ r ≡ stuck client ⌝ }
+// Nothing changes, and the call is refused by n.
+pub fn still(client: Client, n: u8) -> Move
+    ensures { λ r. ⌜ r ≡ still client n ⌝ }
 {
     Move {
         next: client,
         grants: GrantChange::Same,
         write: Write::Keep,
-        answer: Answer::Refused(8),
+        answer: Answer::Refused(n),
         counted: Counted::Nothing,
     }
+}
+
+// What no pool of this form can hold.
+pub fn stuck(client: Client) -> Move
+    ensures { λ r. ⌜ r ≡ stuck client ⌝ }
+{
+    still(client, 8)
 }
 
 // The request is granted a frame: the client rests, with one grant more.
@@ -137,6 +144,19 @@ pub fn next_slot(client: Client, size: u8, write: Write) -> Move
     works(next, 11, write)
 }
 
+// Refusal 15: the client rests, keeps its grants, forgets its frames, and one refusal is counted.
+fn refused_15(client: Client) -> Move
+    ensures { λ r. ⌜ r ≡ refused15 client ⌝ }
+{
+    Move {
+        next: resting(client.held),
+        grants: GrantChange::Same,
+        write: Write::Keep,
+        answer: Answer::Refused(15),
+        counted: Counted::Refusal,
+    }
+}
+
 // "A busy visit adds one to the busy run; at S it is refusal 15, else i moves on and 11."
 pub fn busy_visit(client: Client, size: u8) -> Move
     requires { ⌜ (client .place < size) × (client .busy < size) ⌝ }
@@ -144,13 +164,7 @@ pub fn busy_visit(client: Client, size: u8) -> Move
 {
     let busy = client.busy + 1;
     if busy == size {
-        return Move {
-            next: resting(client.held),
-            grants: GrantChange::Same,
-            write: Write::Keep,
-            answer: Answer::Refused(15),
-            counted: Counted::Refusal,
-        };
+        return refused_15(client);
     }
     let place = around(size, client.place);
     let mut next = client;

@@ -56,19 +56,24 @@ module _ (k : Client) where
   abbrev pub works : ℕ → Write → Move
   works n write = worksAs Nothing n write
 
+  -- nothing changes, and the call is refused by n
+  abbrev pub still : ℕ → Move
+  still n = record { next = k; grants = Same; write = Keep; answer = Refused n; counted = Nothing }
+
   -- A move that no pool of this form can hold: a ninth grant, a full table, no frame to take, free below 0, pins below -1.
-  -- It is answered by 8, and nothing changes.
   abbrev pub stuck : Move
-  stuck = record { next = k; grants = Same; write = Keep; answer = Refused 8; counted = Nothing }
+  stuck = still 8
 
-  -- the request is granted a frame: the client rests, with one grant more
+  -- the client rests, with one grant more, which is on frame f
+  abbrev pub opens : ℕ → Write → Counted → Move
+  opens f write counted =
+      record { next = resting (k .held + 1); grants = Open (k .held) (k .page) f; write = write; answer = Granted f; counted = counted }
+
+  -- the request is granted frame f, if there is a place for one grant more
   unfoldable pub granted : ℕ → Write → Counted → Move
-  granted f write counted =
-      choose (ltb (k .held) maxHeld)
-      (record { next = resting (k .held + 1); grants = Open (k .held) (k .page) f; write = write; answer = Granted f; counted = counted })
-      stuck
+  granted f write counted = choose (ltb (k .held) maxHeld) (opens f write counted) stuck
 
-  -- "15 puts the bench to rest with its grants kept, forgets its frames, counts one refusal"
+  -- refusal 15: the client rests, keeps its grants, forgets its frames, and one refusal is counted
   abbrev pub refused15 : Move
   refused15 = record { next = resting (k .held); grants = Same; write = Keep; answer = Refused 15; counted = Refusal }
 

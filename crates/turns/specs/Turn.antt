@@ -8,25 +8,18 @@ use borrow.Author.Tests.{lt-ltb, le-ltb, ne-eqb}
 use Rattle.pool.specs.Choose.{choose}
 use Rattle.pool.specs.State.{clientCount, client}
 use Rattle.pool.specs.Frames.{freeFrame}
+use Rattle.pool.specs.Moves.{still}
 use Rattle.pool.specs.Calls.{caller, refusalAt, turnedBy, moveOf}
-use Rattle.pool.specs.declared.Answer.the-variants.{Refused}
 use Rattle.pool.specs.declared.Call.{Call}
 use Rattle.pool.specs.declared.Client.{Client}
-use Rattle.pool.specs.declared.Counted.the-variants.{Nothing}
-use Rattle.pool.specs.declared.GrantChange.the-variants.{Same}
 use Rattle.pool.specs.declared.Move.{Move}
 use Rattle.pool.specs.declared.Pool.{Pool}
-use Rattle.pool.specs.declared.Write.the-variants.{Keep}
 use Rattle.laws.specs.Choices.{chosen}
 use Rattle.dispatch.specs.Lends.{Asks}
 
 -- the client whose record is put back: of n clients the one with number c, the first where there is none
 unfoldable pub clientOrFirst : ℕ → ℕ → ℕ
 clientOrFirst n c = choose (ltb c n) c 0
-
--- "All but 15 change no pool, tally or list."
-abbrev pub still : Client → ℕ → Move
-still k n = record { next = k; grants = Same; write = Keep; answer = Refused n; counted = Nothing }
 
 unfoldable pub turn : Pool → Call → Move
 turn p call =

@@ -7,39 +7,22 @@ ghost use Rattle.pool.specs.State.{client};
 ghost use Rattle.pool.specs.Calls.{caller, refusalAt};
 ghost use Rattle.pool.specs.declared.Pool.{Pool};
 ghost use Rattle.dispatch.specs.Lends.{Lends, Ready};
-ghost use Rattle.turns.specs.Turn.{clientOrFirst, still, turn, Turns};
+ghost use Rattle.turns.specs.Turn.{clientOrFirst, turn, Turns};
 use dispatch::Numbers;
-use pool::Answer;
 use pool::Call;
 use pool::Client;
-use pool::Counted;
 use pool::FRAMES;
 use pool::GRANTS;
-use pool::GrantChange;
 use pool::MAX_HELD;
 use pool::Move;
 use pool::NONE;
 use pool::SLOTS;
-use pool::Write;
 
 // The client whose record is put back: the one with number c, the first where the pool has none such.
 pub fn client_or_first(client_count: u8, c: u8) -> usize
     ensures { λ r. ⌜ r ≡ clientOrFirst «client_count» c ⌝ }
 {
     if c < client_count { c as usize } else { 0 }
-}
-
-// "All but 15 change no pool, tally or list."
-fn still(client: Client, n: u8) -> Move
-    ensures { λ r. ⌜ r ≡ still client n ⌝ }
-{
-    Move {
-        next: client,
-        grants: GrantChange::Same,
-        write: Write::Keep,
-        answer: Answer::Refused(n),
-        counted: Counted::Nothing,
-    }
 }
 
 // By which of 10 to 13 a call of a client is turned down; 0: by none.
@@ -92,11 +75,11 @@ pub fn decide<'a>(
 {
     let c = answers::caller(call);
     if c >= client_count {
-        return still(client, 9);
+        return moves::still(client, 9);
     }
     let refused = refusal_at(call, client, grant_pages);
     if refused != 0 {
-        return still(client, refused);
+        return moves::still(client, refused);
     }
     dispatch::call_move(
         call,

@@ -9,7 +9,7 @@ use Rattle.moves.proofs.busy_visit.Tie as tie
 
 returns : tie.Need-returns
 unfolding busyVisit choose
-returns c = rw (c .resting .ensures) (search tests)
+returns c = c .refused-15 .ensures ∙ search tests
 
 returns-2 : tie.Need-returns-2
 unfolding busyVisit choose
