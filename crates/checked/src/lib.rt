@@ -42,7 +42,7 @@ fn refusal(pool: Pool, call: Call) -> u8
     }
     let at = c as usize;
     let client = pool.clients[at];
-    turns::refusal_at(call, client, &pool.grant_pages)
+    refusals::refusal_at(call, client, &pool.grant_pages)
 }
 
 // ---- the action

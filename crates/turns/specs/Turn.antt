@@ -1,21 +1,23 @@
 -- One call's action: the move of a call, or where the call is turned down by 9 to 13 one that changes nothing. Assumes nothing.
 use mathlib.Core.Path.{_≡_, sym, ap, _∙_}
+use mathlib.Core.Logic.{_≢_}
 use mathlib.Core.List.{List}
-use Prim.Native.Nat.{ℕ, _≤_, _<_}
+use Prim.Native.Nat.{ℕ, _<_}
 use native.Mathlib.Omega.{arith}
 use lib.Dec.{eqb, ltb}
-use borrow.Author.Tests.{lt-ltb, le-ltb, ne-eqb}
+use borrow.Author.Tests.{lt-ltb, ltb-true, eq-eqb, ne-eqb}
 use Rattle.pool.specs.Choose.{choose}
 use Rattle.pool.specs.State.{clientCount, client}
 use Rattle.pool.specs.Frames.{freeFrame}
 use Rattle.pool.specs.Moves.{still}
-use Rattle.pool.specs.Calls.{caller, refusalAt, turnedBy, moveOf}
+use Rattle.pool.specs.Calls.{caller, turnedBy, moveOf}
 use Rattle.pool.specs.declared.Call.{Call}
 use Rattle.pool.specs.declared.Client.{Client}
 use Rattle.pool.specs.declared.Move.{Move}
 use Rattle.pool.specs.declared.Pool.{Pool}
-use Rattle.laws.specs.Choices.{chosen}
+use Rattle.laws.specs.Choices.{by-test, chosen}
 use Rattle.dispatch.specs.Lends.{Asks}
+use Rattle.refusals.specs.Caller.{Caller}
 
 -- the client whose record is put back: of n clients the one with number c, the first where there is none
 unfoldable pub clientOrFirst : ℕ → ℕ → ℕ
@@ -38,30 +40,36 @@ pub its-number : (n c : ℕ) → c < n → clientOrFirst n c ≡ c
 unfolding clientOrFirst
 its-number n c h = chosen _ _ _ (lt-ltb c n h)
 
--- ---- the turn, once the tests are known
+-- a call that is not turned down is not turned down by 9
+pub is-client : (p : Pool) (call : Call) → turnedBy p call ≡ 0 → caller call < clientCount p
+is-client p call =
+    by-test (λ (n : ℕ). n ≡ 0 → caller call < clientCount p) (λ e _. ltb-true _ _ e) (λ _ e. let z : ⊥ = omega arith in absurd z)
+
+-- ---- the turn, once it is known what turns the call down
 
 module _ {p : Pool} {call : Call} {n : ℕ} {k : Client} {taken : ℕ} {grantPages grantFrames : List ℕ}
     (t : Turns p call n k taken grantPages grantFrames) where
-  pub turned-9 : n ≤ caller call → still k 9 ≡ turn p call
-  unfolding turn choose
-  turned-9 h = simp (le-ltb (caller call) (clientCount p) (omega arith), t .client)
+  its-client : caller call < clientCount p → client p (caller call) ≡ k
+  its-client h = ap (client p) (sym (its-number (clientCount p) (caller call) h)) ∙ t .client
 
-  module _ (h : caller call < n) where
-    pub asker : client p (caller call) ≡ k
-    asker = ap (client p) (sym (its-number (clientCount p) (caller call) (omega arith))) ∙ t .client
+  pub calls : Caller p call n k grantPages
+  calls = record { count = t .count; client = λ h. its-client (omega (arith, t .count)); «grant_pages» = t .«grant_pages» }
 
-    pub asks : Asks p call k taken grantPages grantFrames
-    asks = record { client = asker; fresh = t .fresh; «grant_pages» = t .«grant_pages»; «grant_frames» = t .«grant_frames» }
+  module _ (r : ℕ) (e : r ≡ turnedBy p call) where
+    pub turned-down : r ≢ 0 → still k r ≡ turn p call
+    unfolding turn choose
+    turned-down z = simp (← e, ne-eqb r 0 z, t .client)
 
-    module _ (r : ℕ) (e : r ≡ refusalAt p k call) where
-      by : turnedBy p call ≡ r
-      unfolding choose
-      by = simp (lt-ltb (caller call) (clientCount p) (omega arith), asker, e)
+    module _ (z : r ≡ 0) where
+      pub asks : Asks p call k taken grantPages grantFrames
+      asks =
+          record {
+            client = its-client (is-client p call (sym e ∙ z));
+            fresh = t .fresh;
+            «grant_pages» = t .«grant_pages»;
+            «grant_frames» = t .«grant_frames»;
+          }
 
-      pub turned-by : (r ≡ 0 → ⊥) → still k r ≡ turn p call
-      unfolding turn choose
-      turned-by z = simp (by, ne-eqb r 0 z, t .client)
-
-      pub moves : r ≡ 0 → moveOf p call ≡ turn p call
-      unfolding turn choose
-      moves z = simp (by, z)
+      pub moves : moveOf p call ≡ turn p call
+      unfolding turn
+      moves = sym (chosen _ _ _ (eq-eqb _ _ (sym e ∙ z)))

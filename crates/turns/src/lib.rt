@@ -1,10 +1,8 @@
 // One call's action on a pool that passes check 8, decided over the pool's arrays where they lie: the move of a call, or where the call is
 // turned down by 9 to 13 one that changes nothing.
 ghost use mathlib.Core.Path.{_≡_};
-ghost use Prim.Native.Nat.{_<_, _≤_};
+ghost use Prim.Native.Nat.{_≤_};
 ghost use Rattle.pool.specs.Limits.{maxClients, maxHeld};
-ghost use Rattle.pool.specs.State.{client};
-ghost use Rattle.pool.specs.Calls.{caller, refusalAt};
 ghost use Rattle.pool.specs.declared.Pool.{Pool};
 ghost use Rattle.dispatch.specs.Lends.{Lends, Ready};
 ghost use Rattle.turns.specs.Turn.{clientOrFirst, turn, Turns};
@@ -13,9 +11,7 @@ use pool::Call;
 use pool::Client;
 use pool::FRAMES;
 use pool::GRANTS;
-use pool::MAX_HELD;
 use pool::Move;
-use pool::NONE;
 use pool::SLOTS;
 
 // The client whose record is put back: the one with number c, the first where the pool has none such.
@@ -23,31 +19,6 @@ pub fn client_or_first(client_count: u8, c: u8) -> usize
     ensures { λ r. ⌜ r ≡ clientOrFirst «client_count» c ⌝ }
 {
     if c < client_count { c as usize } else { 0 }
-}
-
-// By which of 10 to 13 a call of a client is turned down; 0: by none.
-pub fn refusal_at(call: Call, who: Client, grant_pages: &[u32; GRANTS]) -> u8
-    requires { ⌜ (caller call < maxClients) × (who .held ≤ maxHeld) ⌝ }
-    ensures { λ r. ⌜ ((p : Pool) → client p (caller call) ≡ who → p .«grant_pages» ≡ now («grant_pages» .entry) →
-        r ≡ refusalAt p who call) ⌝ }
-{
-    let stage = who.stage;
-    match call {
-        Call::Step(c) => if stage == 0 { 11 } else { 0 },
-        Call::Begin(c, page) => {
-            if stage != 0 {
-                return 10;
-            }
-            if who.held < MAX_HELD { 0 } else { 12 }
-        }
-        Call::Release(c, page) => {
-            if stage != 0 {
-                return 10;
-            }
-            let i = reads::grant_of(grant_pages, c as usize, who.held, page);
-            if i == NONE { 13 } else { 0 }
-        }
-    }
 }
 
 // The action of a call. `fresh` is the frame to take, looked at by stage 4 alone.
@@ -73,11 +44,7 @@ pub fn decide<'a>(
         (now («table_pages» .entry)) (now («table_frames» .entry)) →
         Turns p call «client_count» client fresh (now («grant_pages» .entry)) (now («grant_frames» .entry)) → r ≡ turn p call) ⌝ }
 {
-    let c = answers::caller(call);
-    if c >= client_count {
-        return moves::still(client, 9);
-    }
-    let refused = refusal_at(call, client, grant_pages);
+    let refused = refusals::turned_by(call, client_count, client, grant_pages);
     if refused != 0 {
         return moves::still(client, refused);
     }

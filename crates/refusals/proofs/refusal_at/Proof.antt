@@ -14,8 +14,8 @@ use Rattle.pool.specs.declared.Call.the-variants.{Release}
 use Rattle.pool.specs.declared.Client.{Client}
 use Rattle.pool.specs.declared.Pool.{Pool}
 use Rattle.reads.specs.Lists.{grantIn, grant-in}
-use Rattle.turns.proofs.refusal_at.Statement.{statement}
-use Rattle.turns.proofs.refusal_at.Tie as tie
+use Rattle.refusals.proofs.refusal_at.Statement.{statement}
+use Rattle.refusals.proofs.refusal_at.Tie as tie
 
 -- the place that was found is the pool's own
 placed : (p : Pool) {call : Call} {k : Client} {pages : List ℕ} {c g i : ℕ} → call ≡ Release c g → client p (caller call) ≡ k →
