@@ -21,7 +21,8 @@ numbersOk s t c = both (ltb 0 s) (both (leb s maxSize) (both (ltb 0 t) (both (le
 unfoldable pub frameOk : ℕ → ℕ → Bool
 frameOk n f = either (eqb f none) (ltb f n)
 
--- a frame number that a client keeps: one of the pool's where its stage uses it, else none, since the client has forgotten the frame
+-- A frame number that a client keeps: one of the pool's where its stage uses it, else none, since the client has forgotten the frame. So
+-- `names` (Frames) need not ask for the stage.
 unfoldable pub usedOk : Bool → ℕ → ℕ → Bool
 usedOk used n f = choose used (ltb f n) (eqb f none)
 
