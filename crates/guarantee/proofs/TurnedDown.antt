@@ -1,5 +1,5 @@
 -- A call of any pool, a handed one too, is turned down and changes nothing, or is one move of its client (`turned-or-move`). The moves that are refused
--- are refusal 15, which is claimed to be `refused15`, and stuck ones, which are answered by 8 and change nothing. Assumes nothing.
+-- are refusal 15, after which its client rests and nothing else has changed, and stuck ones, which are answered by 8 and change nothing. Assumes nothing.
 use mathlib.Core.Path.{_≡_, refl, sym, ap, _∙_}
 use mathlib.Core.Logic.{_≢_, _⊎_, inl, inr}
 use mathlib.Core.Bool.{not}
@@ -8,9 +8,10 @@ use native.Mathlib.Omega.{arith}
 use lib.Dec.{T, eqb}
 use borrow.Author.Tests.{eqb-true, eqb-false, not-true}
 use Rattle.pool.specs.Answers.{refusalOf}
-use Rattle.pool.specs.State.{client}
+use Rattle.pool.specs.State.{resting, client}
 use Rattle.pool.specs.Moves.{refused15, stuck}
-use Rattle.pool.specs.Apply.{apply}
+use Rattle.pool.specs.Apply.{slotsAfter, pagesAfter, pinsAfter, countsAfter, entryPagesAfter, entryFramesAfter, handAfter, freeAfter, lastAfter}
+use Rattle.pool.specs.Apply.{grantPagesAfter, grantFramesAfter, apply}
 use Rattle.pool.specs.Calls.{turnedDown, caller, refusal, releaseMove, moveOf, finished, callOf}
 use Rattle.pool.specs.declared.Pool.{Pool}
 use Rattle.pool.specs.declared.Client.{Client}
@@ -26,7 +27,7 @@ use Rattle.laws.specs.Scans.{both-true}
 use Rattle.invariant.proofs.StageTests.{differ}
 use Rattle.invariant.proofs.Allowed.{refusal-low}
 use Rattle.invariant.proofs.Calls.{outcomeOf}
-use Rattle.guarantee.specs.Claims.{Claim-turned-down, RestsRefused, Claim-refused}
+use Rattle.guarantee.specs.Claims.{Claim-turned-down, withClient, RestsRefused, Claim-refused}
 use Rattle.laws.specs.StageAnswers.{StageAnswer, goes, grants, refuses, sticks, stage-answer}
 
 -- ---- answers and calls of different kinds
@@ -127,6 +128,11 @@ turned-down p x n a z = go (turned-or-move p x)
         let r : moveOf p x .answer ≡ Refused n = sym (same-answer e) ∙ a in
         absurd (elim (refused-by p x n r) [ inl q ↦ e8 (ap refusalOf r ∙ q) | inr w ↦ z (ap refusalOf (sym r ∙ ap (λ (m : Move). m .answer) (w .2))) ])
 
+-- the move of refusal 15 writes nothing that the clients share
+rests : (p : Pool) (c : ℕ) → apply p c (refused15 (client p c)) ≡ withClient p c (resting (client p c .held))
+unfolding apply slotsAfter pagesAfter pinsAfter countsAfter entryPagesAfter entryFramesAfter handAfter freeAfter lastAfter grantPagesAfter grantFramesAfter
+rests p c = refl
+
 pub refused : Claim-refused
 unfolding refusalOf caller
 refused p x a = go (turned-or-move p x)
@@ -138,5 +144,5 @@ refused p x a = go (turned-or-move p x)
           | inl q ↦ absurd (omega arith)
           | inr w ↦
               let counts = ap (λ (o : Outcome). o .counted) e ∙ ap (λ (m : Move). m .counted) (w .2) in
-              (w .0, w .1, (same-pool e ∙ (λ i. apply p (caller (w .1 i)) (w .2 i)), counts))
+              (w .0, w .1, same-pool e ∙ (λ i. apply p (caller (w .1 i)) (w .2 i)) ∙ rests p (w .0), counts)
         ]

@@ -6,23 +6,22 @@ use mathlib.Core.Bool.{Bool, true, false, _||_}
 use mathlib.Core.List.{List, [], _∷_}
 use Prim.Native.Nat.{ℕ, suc, _+_, _≤_, _<_}
 use lib.Dec.{T, eqb}
-use lib.ListN.{replicate}
-use Rattle.pool.specs.State.{none, evicted, pinned, clientCount, total, slot, pins, client, grantPage, grantFrame}
+use lib.ListN.{set, replicate}
+use Rattle.pool.specs.State.{none, evicted, pinned, clientCount, total, resting, slot, pins, client, grantPage, grantFrame}
 use Rattle.pool.specs.Table.{lookup, resident, residents}
 use Rattle.pool.specs.Grants.{held}
 use Rattle.pool.specs.Frames.{freeFrame}
-use Rattle.pool.specs.Moves.{refused15}
-use Rattle.pool.specs.Apply.{apply}
 use Rattle.pool.specs.Valid.{valid}
 use Rattle.pool.specs.Calls.{SetUp, caller, callOf, poolAfter}
 use Rattle.pool.specs.Tallies.{largest, zeroTally, tallied}
 use Rattle.pool.specs.declared.Pool.{Pool}
+use Rattle.pool.specs.declared.Client.{Client}
 use Rattle.pool.specs.declared.Tally.{Tally}
 use Rattle.pool.specs.declared.Call.{Call}
 use Rattle.pool.specs.declared.Call.the-variants.{Begin, Step, Release}
 use Rattle.pool.specs.declared.Answer.{Answer}
 use Rattle.pool.specs.declared.Answer.the-variants.{Done, Working, Granted, Refused}
-use Rattle.pool.specs.declared.Counted.the-variants.{Nothing}
+use Rattle.pool.specs.declared.Counted.the-variants.{Nothing, Refusal}
 use Rattle.guarantee.specs.Runs.{Event, events, At, Run, along, IsCall, NoneBetween, Throughout, StepAt, Begins, GrantedTo, Releases, ExactlyOne, SameRequest}
 use Rattle.guarantee.specs.Sequential.{Sequential, Keeps, seqClient, start, Rule, adding, admitting}
 use Rattle.guarantee.specs.BusySweep.{Claim-busy-sweep}
@@ -254,9 +253,32 @@ abbrev pub Claim-turned-down : Type 0
 Claim-turned-down =
     (p : Pool) (x : Call) (n : ℕ) → callOf p x .answer ≡ Refused n → n ≢ 15 → (callOf p x .pool ≡ p) × (callOf p x .counted ≡ Nothing)
 
--- Call x is a step whose client comes to rest by `refused15`: it keeps its grants, forgets its frames, and one refusal is counted. Nothing else changes.
+-- the pool with another record for client c, and nothing else changed
+abbrev pub withClient : Pool → ℕ → Client → Pool
+withClient p c k =
+    record {
+      size = p .size;
+      «client_count» = p .«client_count»;
+      cap = p .cap;
+      hand = p .hand;
+      free = p .free;
+      last = p .last;
+      slots = p .slots;
+      pages = p .pages;
+      pins = p .pins;
+      counts = p .counts;
+      «table_pages» = p .«table_pages»;
+      «table_frames» = p .«table_frames»;
+      clients = set (p .clients) c k;
+      «grant_pages» = p .«grant_pages»;
+      «grant_frames» = p .«grant_frames»;
+    }
+
+-- Call x is a step whose client comes to rest: it keeps its grants, forgets its frames, and one refusal is counted. Nothing else changes, so the frame
+-- that it took keeps its page, pins and count.
 abbrev pub RestsRefused : Pool → Call → Type 0
-RestsRefused p x = (c : ℕ) × (x ≡ Step c) × (let m = refused15 (client p c) in (callOf p x .pool ≡ apply p c m) × (callOf p x .counted ≡ m .counted))
+RestsRefused p x =
+    (c : ℕ) × (x ≡ Step c) × (callOf p x .pool ≡ withClient p c (resting (client p c .held))) × (callOf p x .counted ≡ Refusal)
 
 -- refusal 15, of every pool, from wherever it was handed
 abbrev pub Claim-refused : Type 0
