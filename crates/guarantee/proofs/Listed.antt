@@ -4,6 +4,7 @@ use mathlib.Core.Path.{_≡_, refl, sym, ap, subst, _∙_}
 use mathlib.Core.Logic.{_≢_, _⊎_, inl, inr}
 use mathlib.Core.Bool.{Bool, _&&_}
 use mathlib.Core.List.{List}
+use native.Mathlib.Omega.{arith}
 use Prim.Native.Nat.{ℕ, _<_}
 use native.Mathlib.Decide.{ℕ-discrete}
 use lib.Dec.{T, leb, leb→le}
@@ -76,7 +77,7 @@ listed-move p (Step c) a z =
     elim (stage-answer p (client p c)) [
       | goes j l e _ ↦
           let t = and-parts (leb 1 j) (leb j 23) (on-successors (λ i j. leb 1 j && leb j 23) tt (client p c .stage) j l) in
-          inl (j, e, leb→le 1 j (t .0), leb→le j 23 (t .1))
+          inl (j, e, leb→le 1 j (t .0), omega (arith, leb→le j 23 (t .1)))
       | grants f l w e _ ↦ inr (inl (f, e, rw w (given-in p c (ranged p (a .ok) .client c (a .here)) l)))
       | refuses e ↦ inr (inr (inr (inr (ap (λ (m : Move). m .answer) e))))
       | sticks e ↦ absurd (z (ap (λ (m : Move). refusalOf (m .answer)) e))
