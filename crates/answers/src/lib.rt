@@ -1,5 +1,5 @@
 // The numbers that document 01 gives to answers, readings and calls. Each function equals the definition of its name in crate `pool`,
-// `specs/Answers.antt`; `caller` the one in `specs/Calls.antt`.
+// `specs/Answers.antt`; `caller` the one in `specs/Calls.antt`. Internal; crate `foqheran` hands `code_of`, `value_of` and `refusal_of` on.
 ghost use mathlib.Core.Path.{_≡_};
 ghost use Prim.Native.Nat.{_≤_};
 ghost use Rattle.pool.specs.Answers.{codeOf, valueOf, refusalOf, unreadOf};

@@ -1,5 +1,5 @@
-// The calls: setup, begin, step, release. Each takes any pool and any numbers, and its promise says what it answers and what it leaves, whole.
-// The second clause of a promise lists by which of document 01's numbers the call can be refused; 0 is no refusal.
+// The calls: setup, begin, step, release. Each takes any pool and any numbers, and its promise says what it answers and what it leaves, whole. The
+// second clause of a promise lists by which of document 01's numbers the call can be refused; 0 is no refusal. Public, through crate `foqheran`.
 ghost use mathlib.Core.Path.{_≡_};
 ghost use Rattle.pool.specs.Answers.{refusalOf};
 ghost use Rattle.pool.specs.Calls.{fresh, setupOf, callOf};

@@ -1,4 +1,4 @@
-// The run for Rust and C to call: slices and numbers only.
+// The run for Rust and C to call: slices and numbers only. Public: for programs in other languages.
 ghost use mathlib.Core.Path.{_≡_};
 ghost use Rattle.pool.specs.Schedule.{endOf, reportOf};
 

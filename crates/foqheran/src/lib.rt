@@ -1,4 +1,4 @@
-// Foqheran, a page buffer pool whose every answer is proved. PUBLIC: the one crate that a user of the pool names. It only hands on; each call is
+// Foqheran, a page buffer pool whose every answer is proved. Public: the one crate that a user of the pool names. It only hands on; each call is
 // promised and proved in the crate that it comes from.
 
 // ---- the calls, in the order of a pool's life; each takes any input whatever

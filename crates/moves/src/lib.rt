@@ -1,5 +1,5 @@
-// How an action ends: the moves that several stages share, and those of a begin and a release. A move says what an action does; it changes
-// nothing by itself.
+// How an action ends: the moves that several stages share, and those of a begin and a release. A move says what an action does; it changes nothing by
+// itself. Internal.
 ghost use mathlib.Core.Path.{_≡_};
 ghost use Prim.Native.Nat.{_-_, _<_};
 ghost use Rattle.pool.specs.Stages.{around, raised, nextSlot, busyVisit, evictOwn, grantedFound};

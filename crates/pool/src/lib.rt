@@ -1,4 +1,5 @@
-// The pool's state, and the parts of one atomic action on it.
+// The pool's state, and the parts of one atomic action on it. Public, through crate `foqheran`: the types of the calls and the limits. The parts of
+// an action are internal.
 //
 // Document 01's coined terms: its bench is a `Client` here, its S, T and C are the pool's `size`, `client_count` and `cap`, and the frame e
 // of its sweep is the `victim`. A frame number, a place in the table or a grant's place that is NONE names nothing. Every array is as long as

@@ -1,4 +1,4 @@
-// Reading one record at the start of the schedule bytes that are left.
+// Reading one record at the start of the schedule bytes that are left. Internal.
 //
 // Every function here equals the definition of its name in crate `pool`, `specs/Schedule.antt`.
 ghost use mathlib.Core.Path.{_≡_};

@@ -1,4 +1,5 @@
 // The two tests of check 8 that compare pages: the table maps a page to at most one frame, and one client's grants of one page name one frame.
+// Internal.
 //
 // The pages met are marked by their remainder, and only a page whose remainder has a mark is searched for, so that not all pairs are compared.
 ghost use mathlib.Core.Path.{_≡_};

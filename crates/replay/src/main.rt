@@ -1,4 +1,4 @@
-// Reads a schedule on standard input, runs it, and prints the report.
+// Reads a schedule on standard input, runs it, and prints the report. Public: a program for users.
 use libc::STDIN_FILENO;
 use libc::STDOUT_FILENO;
 

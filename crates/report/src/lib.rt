@@ -1,4 +1,4 @@
-// Report lines: "record number from 0, bench (0 for a setup), code, value; in decimal, one space between, a line feed after".
+// Report lines: "record number from 0, bench (0 for a setup), code, value; in decimal, one space between, a line feed after". Internal.
 ghost use mathlib.Core.Path.{_≡_};
 ghost use Prim.Native.Nat.{_≤_, _<_};
 ghost use lib.ListN.{length};

@@ -1,4 +1,5 @@
-// The step over a lent tally: "The tally is one small record that each step brings up to date where the caller keeps it".
+// The step over a lent tally: "The tally is one small record that each step brings up to date where the caller keeps it". Public, through crate
+// `foqheran`.
 //
 // The stages and all counting are by value, in crate `calls`. `step`, the form that document 01 names ("lent by &mut and changed by one thin
 // function, after the by-value core stands"), only carries the tally there and back.

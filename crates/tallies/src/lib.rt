@@ -1,4 +1,4 @@
-// The tally of what steps did, brought up to date by what an action is counted as.
+// The tally of what steps did, brought up to date by what an action is counted as. Internal.
 ghost use mathlib.Core.Path.{_≡_};
 ghost use Rattle.pool.specs.Tallies.{up, tallied};
 use pool::Counted;

@@ -1,4 +1,4 @@
-// Plays calls and prints document 01's line for each: "record number from 0, bench (0 for a setup), code, value".
+// Plays calls and prints document 01's line for each: "record number from 0, bench (0 for a setup), code, value". A test program.
 //
 // First come three setups, expected from what `setup` promises, without a line. Then three parts that print: the bench case "Eighth grant given,
 // ninth begin 12"; the case P6, where a page is revived; and 600 mixed calls, where a fixed sequence of numbers says the kind, the client and the

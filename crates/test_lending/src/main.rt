@@ -1,5 +1,5 @@
 // A caller of both lent forms: one tally is lent to every step, and lists of rows to holdings. It lends through `foqheran::step_of` and
-// `foqheran::holdings_on`, which own what they lend, so nothing here is walked by hand.
+// `foqheran::holdings_on`, which own what they lend, so nothing here is walked by hand. A test program.
 //
 // It prints a list as the answer's code and value and then the first three of its rows, a page and its times each; and a tally as its six counts,
 // hits, joins, admitted, revived, drops and refused, a line each. Why `stdout` says what it says is in the comments of `main`.

@@ -1,6 +1,6 @@
-// Plays the schedule on standard input into one report space after the other: one that holds any report, every one of up to 48 bytes, and those of
-// 0 to 24 bytes more than the whole report takes. So refusal 2 ends runs before each of the first lines and before the last, and does not where the
-// space has one byte more.
+// Plays the schedule on standard input into one report space after the other: one that holds any report, every one of up to 48 bytes, and those of 0
+// to 24 bytes more than the whole report takes. So refusal 2 ends runs before each of the first lines and before the last, and does not where the
+// space has one byte more. A test program.
 //
 // It prints a line for each: the space's bytes, then the records, the bytes and the refusal that the run returned, then the space's check sum.
 use foqheran::Ended;

@@ -1,4 +1,4 @@
-// Check 8 of a pool: whether its numbers are in document 01's ranges, and one client's grants of one page name one frame.
+// Check 8 of a pool: whether its numbers are in document 01's ranges, and one client's grants of one page name one frame. Internal.
 //
 // The cheap tests come first, and each part is looked at only once the numbers that bound it are known to be in range. The arrays of numbers
 // are lent, each test over the ones that it looks at, so that the pool itself is never copied in a loop.

@@ -1,4 +1,4 @@
-// What an action writes to the pool, put into its arrays where they lie, each element by index and within the part that the pool has.
+// What an action writes to the pool, put into its arrays where they lie, each element by index and within the part that the pool has. Internal.
 ghost use mathlib.Core.Path.{_≡_};
 ghost use Prim.Native.Nat.{_*_, _<_, _≤_};
 ghost use Rattle.pool.specs.Limits.{maxSize, maxClients, maxHeld, maxFrames, maxGrants};
