@@ -34,7 +34,11 @@ table =
     record {
       published = (refl, refl, refl, refl, refl, refl, refl, refl, refl);
       of-one = (refl, refl, refl, refl, refl);
-      of-two = (refl, refl, refl, refl, refl, refl);
-      handed = (refl, refl, refl);
+      refused-of-two = (refl, refl, refl);
+      stalled = (refl, refl, refl);
+      meanwhile = (refl, refl, refl, refl);
+      check8 = (refl, refl);
+      handed-calls = (refl, refl);
+      largest = (refl, refl);
       report = refl;
     }

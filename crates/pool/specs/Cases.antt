@@ -10,11 +10,11 @@ use lib.Dec.{eqb}
 use Rattle.pool.specs.Choose.{choose}
 use Rattle.pool.specs.State.{none, evicted, pinned, slot, pins, count, resting, client}
 use Rattle.pool.specs.Table.{lookup}
-use Rattle.pool.specs.Moves.{standing, withOwn, withFound, withVictim, completes}
+use Rattle.pool.specs.Moves.{standing, withOwn, withFound, withVictim, withSeen, withPlace, sweeping, completes}
 use Rattle.pool.specs.Apply.{apply}
 use Rattle.pool.specs.Valid.{valid}
 use Rattle.pool.specs.Calls.{fresh, setupOf, callOf, poolAfter}
-use Rattle.pool.specs.Tallies.{zeroTally, tallied}
+use Rattle.pool.specs.Tallies.{zeroTally, up, tallied}
 use Rattle.pool.specs.Schedule.{ran}
 use Rattle.pool.specs.declared.Pool.{Pool}
 use Rattle.pool.specs.declared.Client.{Client}
@@ -23,8 +23,10 @@ use Rattle.pool.specs.declared.Call.{Call}
 use Rattle.pool.specs.declared.Call.the-variants.{Begin, Step, Release}
 use Rattle.pool.specs.declared.Answer.{Answer}
 use Rattle.pool.specs.declared.Answer.the-variants.{Done, Working, Granted, Refused}
-use Rattle.pool.specs.declared.GrantChange.the-variants.{Same}
-use Rattle.pool.specs.declared.Write.the-variants.{Keep}
+use Rattle.pool.specs.declared.GrantChange.{GrantChange}
+use Rattle.pool.specs.declared.GrantChange.the-variants.{Same, Open}
+use Rattle.pool.specs.declared.Write.{Write}
+use Rattle.pool.specs.declared.Write.the-variants.{Keep, PutSlot, PutPins, PutCount, TakeFrame, PutEntry, PutFree}
 
 -- a line of a case: a call and its answer, or a number of the pool, as it is by then, and its value
 infix 90 _gets_ _is_
@@ -68,7 +70,8 @@ abbrev pub steps : ℕ → ℕ → List Call
 steps c zero = []
 steps c (suc n) = Step c ∷ steps c n
 
--- a page is admitted to an empty slot that the hand points at; is had again; takes the only slot from a page without grants
+-- a page is admitted to an empty slot that the hand points at; is had again; takes the only slot from a page without grants; is refused, since
+-- the only slot's page is held, and its request has taken a frame by then
 abbrev pub admit : ℕ → List Call
 admit g = Begin 0 g ∷ steps 0 8
 
@@ -78,8 +81,11 @@ admitAndRelease g = admit g ++ Release 0 g ∷ []
 abbrev pub hitAndRelease : ℕ → List Call
 hitAndRelease g = Begin 0 g ∷ steps 0 3 ++ Release 0 g ∷ []
 
-abbrev pub swapAndRelease : ℕ → List Call
-swapAndRelease g = Begin 0 g ∷ steps 0 12 ++ Release 0 g ∷ []
+abbrev pub swap : ℕ → List Call
+swap g = Begin 0 g ∷ steps 0 12
+
+abbrev pub askInVain : ℕ → List Call
+askInVain g = Begin 0 g ∷ steps 0 6
 
 -- ---- calls with their answers
 
@@ -124,6 +130,12 @@ found p c = client p c .found
 
 abbrev pub victim : Pool → ℕ → ℕ
 victim p c = client p c .victim
+
+abbrev pub place : Pool → ℕ → ℕ
+place p c = client p c .place
+
+abbrev pub start : Pool → ℕ → ℕ
+start p c = client p c .start
 
 abbrev pub busy : Pool → ℕ → ℕ
 busy p c = client p c .busy
@@ -171,11 +183,13 @@ x and y =
 
 -- ---- the table
 
+-- The third frame is as at setup.
 abbrev pub P1 : Case
 P1 =
     setup 1 1 3 0 after [] takes 8 counts admitted shows
     asks 0 9 fills (Granted 0) ++ Step 0 gets Refused 11 ∷ Release 0 9 gets Done 9
-    ∷ slot at 0 is 0 ∷ free is 0 ∷ hand is 1 ∷ pins at 0 is pinned 0 ∷ lookup at 9 is 0 ∷ []
+    ∷ slot at 0 is 0 ∷ free is 0 ∷ hand is 1 ∷ pins at 0 is pinned 0 ∷ lookup at 9 is 0
+    ∷ pins at 2 is evicted ∷ count at 2 is 0 ∷ []
 
 -- "Page 9 again: 3 steps, frame 0, count 2."
 abbrev pub P2 : Case
@@ -190,12 +204,14 @@ P3 =
     asks 0 5 (sweeps ++ evicts) (Granted 1)
     ++ hand is 2 ∷ slot at 0 is 1 ∷ pins at 0 is evicted ∷ lookup at 9 is none ∷ lookup at 5 is 1 ∷ []
 
--- "The same with 9 still held: 15 at the sixth step."
+-- As P3 with 9 still held: refusal 15 at the sixth step. The frame that the request took keeps what stage 4 gave it, and the next search starts
+-- after it, though nobody names it.
 abbrev pub P4 : Case
 P4 =
     setup 1 1 3 0 after admit 9 takes 6 counts refused shows
     asks 0 5 (sweeps ++ 12 ∷ []) (Refused 15) ++ Step 0 gets Refused 11
-    ∷ slot at 0 is 0 ∷ pins at 0 is pinned 1 ∷ lookup at 5 is none ∷ held at 0 is 1 ∷ own at 0 is none ∷ []
+    ∷ slot at 0 is 0 ∷ pins at 0 is pinned 1 ∷ lookup at 5 is none ∷ held at 0 is 1 ∷ own at 0 is none
+    ∷ pins at 1 is pinned 1 ∷ count at 1 is 1 ∷ begins 0 5 (4 ∷ 5 ∷ []) ++ own at 0 is 2 ∷ []
 
 -- "S 2, T 2, C 3, both want 9 and alternate from the start, bench 0 first: bench 0 is granted frame 0, bench 1 joins it; pins 2, count 2,
 -- frame 1 evicted, free 0."
@@ -239,11 +255,11 @@ P8 =
 
 -- ---- further cases, for mistakes that no P case shows: of one client
 
--- As P3 with another first hand: "Reduce first." The hand grows by 1 from 6, whatever multiple of S the start is.
+-- As P3 with a start of 4,294,967,295, which stage 16 has to reduce before it compares: the hand grows by 1, and goes to 0.
 abbrev pub reducedStart : Case
 reducedStart =
-    setup 1 1 3 5 after admitAndRelease 9 takes 12 counts drop and admitted shows
-    asks 0 5 (sweeps ++ evicts) (Granted 1) ++ hand is 7 ∷ []
+    setup 1 1 3 4294967294 after admitAndRelease 9 takes 12 counts drop and admitted shows
+    asks 0 5 (sweeps ++ evicts) (Granted 1) ++ hand is 0 ∷ []
 
 -- A sweep from hand 5, at slot 2, leaves a count above 0 there and passes on round the end to slot 0, which is below where it started: the hand
 -- grows by 2. It forgets its victim where it passes on, and again at 17.
@@ -253,11 +269,12 @@ roundTheEnd =
     begins 0 7 (sweeps ++ 12 ∷ 13 ∷ 11 ∷ []) ++ victim at 0 is none ∷ goes 0 evicts ++ victim at 0 is none ∷ Step 0 gets Granted 3
     ∷ hand is 7 ∷ slot at 0 is 3 ∷ slot at 2 is 0 ∷ count at 0 is 1 ∷ lookup at 5 is none ∷ []
 
--- A count at C stays there, and a sweep that leaves a count above 0 passes on and comes round again.
+-- A count rises to C and stays there. A sweep lowers it by one each time that it comes round, passes on while it is above 0, and evicts then.
 abbrev pub countAtCap : Case
 countAtCap =
-    setup 1 1 2 0 after admitAndRelease 9 ++ hitAndRelease 9 ++ hitAndRelease 9 takes 15 counts drop and admitted shows
-    asks 0 5 (sweeps ++ 12 ∷ 13 ∷ 11 ∷ evicts) (Granted 1) ++ count at 0 is 0 ∷ []
+    setup 1 1 3 0 after admitAndRelease 9 ++ hitAndRelease 9 ++ hitAndRelease 9 ++ hitAndRelease 9 takes 18 counts drop and admitted shows
+    count at 0 is 3 ∷ begins 0 5 (sweeps ++ 12 ∷ 13 ∷ 11 ∷ []) ++ count at 0 is 2 ∷ goes 0 (12 ∷ 13 ∷ 11 ∷ []) ++ count at 0 is 1 ∷ goes 0 evicts
+    ++ count at 0 is 0 ∷ Step 0 gets Granted 1 ∷ []
 
 -- Refusal 15 comes at S busy visits and not before: two held slots, 4 + 2S steps.
 abbrev pub twoHeld : Case
@@ -281,43 +298,71 @@ claimedSlot =
     setup 1 2 3 0 after Begin 0 9 ∷ steps 0 4 takes 5 counts refused shows
     asks 1 5 sweeps (Refused 15) ++ slot at 0 is none ∷ free is 0 ∷ own at 1 is none ∷ goes 0 (8 ∷ 9 ∷ 18 ∷ [])
 
--- "Taking a frame again while a stalled bench still names it.": client 1 stalls at 12 with own frame 1 and frame 0 for its victim. The other
--- frames 2, 3, 4 are taken; the next search passes over 0 and 1.
+-- A sweep of three slots from slot 2, which client 1 has claimed and not filled, over slot 0, whose page has two grants, and slot 1, whose page
+-- has one: an empty slot and each number of pins above 0 is one busy visit, and the third is refusal 15.
+abbrev pub threeBusy : Case
+threeBusy =
+    setup 3 2 3 0 after admit 9 ++ Begin 0 9 ∷ steps 0 3 ++ admit 5 ++ Begin 1 6 ∷ steps 1 4 takes 9 counts refused shows
+    begins 0 7 (sweeps ++ 11 ∷ []) ++ busy at 0 is 1 ∷ goes 0 (12 ∷ 11 ∷ []) ++ busy at 0 is 2 ∷ goes 0 (12 ∷ []) ++ Step 0 gets Refused 15 ∷ []
+
+-- Refusal 15 comes at S busy visits one after the other, wherever the sweep then stands: client 1 passes slot 0 on with a count above 0, meets
+-- slot 1 held, and slot 0 held by then, too, halfway through its second lap.
+abbrev pub midLap : Case
+midLap =
+    setup 2 2 3 0 after admitAndRelease 9 ++ hitAndRelease 9 ++ admit 5 ++ Begin 1 7 ∷ steps 1 4 takes 8 counts hit and refused shows
+    goes 1 (12 ∷ 13 ∷ 11 ∷ 12 ∷ 11 ∷ []) ++ asks 0 9 (2 ∷ 3 ∷ []) (Granted 0) ++ goes 1 (12 ∷ []) ++ Step 1 gets Refused 15 ∷ []
+
+-- Both clients have read slot 1 for their place. Client 1 fills it; client 0's place moves on round the end, to slot 0.
+abbrev pub fillRound : Case
+fillRound =
+    setup 2 2 3 1 after Begin 0 9 ∷ steps 0 5 ++ Begin 1 5 ∷ steps 1 5 takes 3 counts nothing shows
+    goes 1 (9 ∷ []) ++ goes 0 (8 ∷ 9 ∷ []) ++ slot at 0 is 0 ∷ slot at 1 is 1 ∷ []
+
+-- A frame that a stalled client still names is not taken again: client 1 stalls at 12 with own frame 1 and frame 0 for its victim. Frame 2 is
+-- then in the slot, 3 and 4 were taken in vain; the next search starts at 0 and passes over 0, 1 and 2.
 abbrev pub stalledVictim : Case
 stalledVictim =
-    setup 1 2 3 0 after admitAndRelease 9 ++ Begin 1 5 ∷ steps 1 5 ++ swapAndRelease 6 ++ swapAndRelease 7 ++ swapAndRelease 8
-    takes 12 counts drop and admitted shows
-    asks 0 9 (sweeps ++ evicts) (Granted 2) ++ victim at 1 is 0 ∷ own at 1 is 1 ∷ lookup at 9 is 2 ∷ []
+    setup 1 2 3 0 after admitAndRelease 9 ++ Begin 1 5 ∷ steps 1 5 ++ swap 6 ++ askInVain 7 ++ askInVain 8 takes 2 counts nothing shows
+    begins 0 9 (4 ∷ 5 ∷ []) ++ own at 0 is 3 ∷ victim at 1 is 0 ∷ own at 1 is 1 ∷ []
 
--- The same with client 1 stalled at 2, where frame 0 is what it found.
+-- The same with client 1 stalled at 2, where frame 0 is what it found. It meets the frame evicted, and forgets it.
 abbrev pub stalledFound : Case
 stalledFound =
-    setup 1 2 3 0
-    after admitAndRelease 9 ++ Begin 1 9 ∷ steps 1 1 ++ swapAndRelease 5 ++ swapAndRelease 6 ++ swapAndRelease 7 ++ swapAndRelease 8
-    takes 12 counts drop and admitted shows
-    asks 0 3 (sweeps ++ evicts) (Granted 1) ++ goes 1 (4 ∷ []) ++ found at 1 is none ∷ pins at 0 is evicted ∷ []
+    setup 1 2 3 0 after admitAndRelease 9 ++ Begin 1 9 ∷ steps 1 1 ++ swap 5 ++ askInVain 6 ++ askInVain 7 ++ askInVain 8
+    takes 3 counts nothing shows
+    begins 0 3 (4 ∷ 5 ∷ []) ++ own at 0 is 2 ∷ goes 1 (4 ∷ []) ++ found at 1 is none ∷ pins at 0 is evicted ∷ []
 
--- Client 1 stands at 14 when client 0 has its victim's page again: nothing is evicted or counted as a drop, and client 1 passes on without its
--- victim.
+-- Client 1 stands at 14 when client 0 has its victim's page again, which raises the count from 0: nothing is evicted or counted as a drop, and
+-- client 1 passes on to the next slot without its victim.
 abbrev pub pinnedMeanwhile : Case
 pinnedMeanwhile =
-    setup 1 2 3 0 after admitAndRelease 9 ++ Begin 1 5 ∷ steps 1 7 takes 3 counts hit shows
-    asks 0 9 (2 ∷ 3 ∷ []) (Granted 0) ++ goes 1 (11 ∷ []) ++ victim at 1 is none ∷ pins at 0 is pinned 1 ∷ busy at 1 is 0 ∷ []
+    setup 2 2 3 0 after admitAndRelease 9 ++ admitAndRelease 5 ++ Begin 1 7 ∷ steps 1 7 takes 3 counts hit shows
+    asks 0 9 (2 ∷ 3 ∷ []) (Granted 0) ++ goes 1 (11 ∷ [])
+    ++ victim at 1 is none ∷ place at 1 is 1 ∷ pins at 0 is pinned 1 ∷ count at 0 is 1 ∷ busy at 1 is 0 ∷ []
+
+-- Client 1 stands at 14 when client 0 evicts its victim: a count of 0 is low enough for 13. Client 1 does not take the slot of a frame that it has
+-- not evicted, but passes on. At 16 it moves the hand by 2 from where client 0 left it, and not from where its own sweep started.
+abbrev pub evictedMeanwhile : Case
+evictedMeanwhile =
+    setup 2 2 3 0 after admitAndRelease 9 ++ admitAndRelease 5 ++ Begin 1 7 ∷ steps 1 7 takes 17 counts drop and drop shows
+    count at 0 is 0 ∷ begins 0 6 (sweeps ++ 12 ∷ 13 ∷ 14 ∷ 15 ∷ 16 ∷ 17 ∷ []) ++ hand is 3
+    ∷ goes 1 (11 ∷ 12 ∷ 13 ∷ 14 ∷ 15 ∷ 16 ∷ 17 ∷ []) ++ hand is 5 ∷ slot at 1 is 2 ∷ []
 
 -- Client 0 has evicted the frame in slot 0 and stands at 15. Client 1 meets the frame evicted and puts its own there, which counts no drop; client
--- 0 then finds another frame in the slot and passes on.
+-- 0 then finds another frame in the slot and passes on to the next.
 abbrev pub swappedMeanwhile : Case
 swappedMeanwhile =
     setup 2 2 3 0 after admitAndRelease 9 ++ admitAndRelease 5 ++ Begin 0 7 ∷ steps 0 8 takes 10 counts admitted shows
-    asks 1 6 (sweeps ++ 12 ∷ 15 ∷ 16 ∷ 17 ∷ 18 ∷ []) (Granted 3) ++ goes 0 (11 ∷ []) ++ victim at 0 is none ∷ slot at 0 is 3 ∷ []
+    asks 1 6 (sweeps ++ 12 ∷ 15 ∷ 16 ∷ 17 ∷ 18 ∷ []) (Granted 3) ++ goes 0 (11 ∷ []) ++ victim at 0 is none ∷ place at 0 is 1 ∷ slot at 0 is 3 ∷ []
 
 -- As P6 up to client 1's 22, but client 0's removal comes first: the page is no longer mapped to the frame that client 1 found. It forgets that
--- frame, gives its own up, which then is evicted, and takes another.
+-- frame, gives its own up, which then is evicted, and takes another. Its second sweep starts from the hand as that is now.
 abbrev pub foundRemoved : Case
 foundRemoved =
-    setup 2 2 3 0 after admitAndRelease 9 ++ admitAndRelease 5 ++ Begin 0 7 ∷ steps 0 10 takes 18 counts drop shows
+    setup 2 2 3 0 after admitAndRelease 9 ++ admitAndRelease 5 ++ Begin 0 7 ∷ steps 0 10 takes 20 counts drop shows
     begins 1 9 (2 ∷ sweeps ++ evicts ++ 19 ∷ 22 ∷ []) ++ goes 0 (18 ∷ []) ++ goes 1 (23 ∷ []) ++ found at 1 is none ∷ own at 1 is 3
-    ∷ goes 1 (4 ∷ []) ++ own at 1 is none ∷ pins at 3 is evicted ∷ goes 1 (5 ∷ []) ++ own at 1 is 4 ∷ []
+    ∷ goes 1 (4 ∷ []) ++ own at 1 is none ∷ pins at 3 is evicted ∷ goes 1 (5 ∷ []) ++ own at 1 is 4
+    ∷ goes 1 (10 ∷ 11 ∷ []) ++ start at 1 is 4 ∷ place at 1 is 0 ∷ []
 
 -- ---- what a case comes to
 
@@ -364,23 +409,91 @@ computed x =
 abbrev pub Holds : Case → Type 0
 Holds x = computed x ≡ x
 
--- ---- check 8 of a handed pool: a fresh one, of one slot and three frames, but for its client
+-- ---- handed pools: as a setup leaves one of two slots, four frames, one client and count cap 1, but for a few numbers
 
-abbrev pub passes : Client → Bool
-passes k = valid (apply (fresh 1 1 1 0) 0 (completes 0 k Same Keep))
+-- another client, another grant of its, another number
+abbrev pub handedOn : Pool → Client → GrantChange → Write → Pool
+handedOn p k grants write = apply p 0 (completes 0 k grants write)
 
--- with a frame that its stage uses, the own one, the found one, the victim; without it; and with a frame that its stage has no use for
-abbrev pub having : List Client
-having = standing (withOwn (resting 0) 0) 5 ∷ standing (withFound (resting 0) 0) 2 ∷ standing (withVictim (withOwn (resting 0) 0) 1) 12 ∷ []
+abbrev pub handed : Client → GrantChange → Write → Pool
+handed k grants write = handedOn (fresh 2 1 1 0) k grants write
 
+abbrev pub with-client : Client → Pool
+with-client k = handed k Same Keep
+
+abbrev pub with-write : Write → Pool
+with-write write = handed (resting 0) Same write
+
+-- a client that names frame f where its stage uses one: the own frame, the found one, the victim
+abbrev pub naming : List (ℕ → Client)
+naming =
+    (λ f. standing (withOwn (resting 0) f) 5)
+    ∷ (λ f. standing (withFound (resting 0) f) 2)
+    ∷ (λ f. standing (withVictim (withOwn (resting 0) 0) f) 12)
+    ∷ []
+
+-- clients that name no frame there, and clients that name one that their stage has no use for
 abbrev pub lacking : List Client
-lacking = standing (resting 0) 5 ∷ standing (resting 0) 2 ∷ standing (withOwn (resting 0) 0) 12 ∷ []
+lacking = map (λ k. k none) naming
 
 abbrev pub keeping : List Client
 keeping = withOwn (resting 0) 0 ∷ standing (withFound (resting 0) 0) 4 ∷ standing (withVictim (withOwn (resting 0) 0) 1) 11 ∷ []
 
-abbrev pub Handed : List Client → Bool → Type 0
-Handed l answer = map passes l ≡ map (λ _. answer) l
+-- a number of a pool, and the largest that check 8 lets through
+infix 90 _upTo_
+pub data Range : Type 0 where
+  _upTo_ : (ℕ → Pool) → ℕ → Range
+
+-- The pool's own numbers; the client's; the frames that it names. In the last two the number is what a second entry or grant of one page has:
+-- the place of the first, or the next; the first one's frame, or the next.
+abbrev pub ranges : List Range
+ranges =
+    (λ n. with-write (PutFree n)) upTo 2
+    ∷ (λ f. with-write (TakeFrame f 9 (pinned 1) 1)) upTo 3
+    ∷ (λ f. with-write (PutSlot 1 f)) upTo 3
+    ∷ (λ n. with-write (PutPins 3 (pinned n))) upTo 128
+    ∷ (λ n. with-write (PutCount 3 n)) upTo 1
+    ∷ (λ f. with-write (PutEntry 3 9 f)) upTo 3
+    ∷ (λ n. with-client (standing (withOwn (resting 0) 0) n)) upTo 23
+    ∷ (λ i. with-client (withPlace (resting 0) i)) upTo 1
+    ∷ (λ n. with-client (sweeping (resting 0) 0 0 n)) upTo 1
+    ∷ (λ n. with-client (withSeen (resting 0) n)) upTo 2
+    ∷ (λ n. with-client (resting n)) upTo 8
+    ∷ (λ f. handed (resting 1) (Open 0 9 f) Keep) upTo 3
+    ∷ (λ i. handedOn (with-write (PutEntry 0 9 0)) (resting 0) Same (PutEntry i 9 0)) upTo 0
+    ∷ (λ f. handedOn (handed (resting 1) (Open 0 9 0) Keep) (resting 2) (Open 1 9 f) Keep) upTo 0
+    ∷ map (λ k. (λ f. with-client (k f)) upTo 3) naming
+
+-- each range's pool at its limit, and one past it
+abbrev pub atLimit : Range → Pool
+atLimit (pool upTo n) = pool n
+
+abbrev pub pastLimit : Range → Pool
+pastLimit (pool upTo n) = pool (suc n)
+
+abbrev pub sound : List Pool
+sound = map atLimit ranges
+
+abbrev pub broken : List Pool
+broken = map pastLimit ranges ++ map with-client (lacking ++ keeping)
+
+abbrev pub Check8 : List Pool → Bool → Type 0
+Check8 pools answer = map valid pools ≡ map (λ _. answer) pools
+
+abbrev pub Plays : Pool → List Line → Type 0
+Plays p lines = played p zeroTally lines .lines ≡ lines
+
+-- A frame with 128 pins gets none more: stage 2's action would break a range, so the call is refused as 8 and changes nothing.
+abbrev pub fullyPinned : Type 0
+fullyPinned =
+    Plays (handed (standing (withFound (resting 0) 0) 2) Same (PutPins 0 (pinned 128)))
+    (Step 0 gets Refused 8 ∷ pins at 0 is pinned 128 ∷ found at 0 is 0 ∷ [])
+
+-- Stage 20 evicts an own frame of one pin; one of two it only forgets.
+abbrev pub ownPinnedTwice : Type 0
+ownPinnedTwice =
+    Plays (handed (standing (withFound (withOwn (resting 0) 0) 1) 20) Same (PutPins 0 (pinned 2)))
+    (Step 0 gets Working 21 ∷ pins at 0 is pinned 2 ∷ own at 0 is none ∷ [])
 
 -- ---- P1 once more, as a file and its report
 
@@ -404,11 +517,15 @@ file = 0x46 ∷ 0x43 ∷ 0 ∷ 1 ∷ 1 ∷ 3 ∷ 0 ∷ 0 ∷ 0 ∷ 0 ∷ record8
 abbrev pub listing : String
 listing = "0 0 0 1\n1 0 0 9\n2 0 1 4\n3 0 1 5\n4 0 1 6\n5 0 1 7\n6 0 1 8\n7 0 1 9\n8 0 1 18\n9 0 2 0\n10 0 111 0\n11 0 0 9\n"
 
--- What is proved of the table: each case holds; a client passes check 8 that has the frames of its stage and no others; and the file's run of 12
--- records has the listing for its report.
+-- What is proved of the table: each case holds; check 8 passes the sound pools and no broken one; calls on handed pools answer as said; a tally's
+-- number stays at its largest value; and the file's run of 12 records has the listing for its report.
 pub record Proved : Type 0 where
   pub published : Holds P1 × Holds P2 × Holds P3 × Holds P4 × Holds P5 × Holds P6 × Holds P7a × Holds P7b × (map computed P8 ≡ P8)
   pub of-one : Holds reducedStart × Holds roundTheEnd × Holds countAtCap × Holds twoHeld × Holds busyRunReset
-  pub of-two : Holds claimedSlot × Holds stalledVictim × Holds stalledFound × Holds pinnedMeanwhile × Holds swappedMeanwhile × Holds foundRemoved
-  pub handed : Handed having true × Handed lacking false × Handed keeping false
+  pub refused-of-two : Holds claimedSlot × Holds threeBusy × Holds midLap
+  pub stalled : Holds fillRound × Holds stalledVictim × Holds stalledFound
+  pub meanwhile : Holds pinnedMeanwhile × Holds evictedMeanwhile × Holds swappedMeanwhile × Holds foundRemoved
+  pub check8 : Check8 sound true × Check8 broken false
+  pub handed-calls : fullyPinned × ownPinnedTwice
+  pub largest : (up 4294967294 ≡ 4294967295) × (up 4294967295 ≡ 4294967295)
   pub report : ran file 49152 ≡ record { records = 12; refusal = 0; lines = codes listing }
