@@ -1,81 +1,75 @@
--- The ways that a call goes, each by what the code has tested on it. Assumes nothing.
-use mathlib.Core.Path.{_≡_, refl, _∙_, sym, ap}
+-- The ways that a call of a valid pool goes, each by what the code has tested of its turn. Assumes nothing.
+use mathlib.Core.Path.{_≡_, refl, sym, ap, _∙_}
+use mathlib.Core.Logic.{_≢_, _⊎_, inl, inr}
 use mathlib.Core.Bool.{Bool, true, false, not}
 use native.Mathlib.Omega.{arith}
-use Prim.Native.Nat.{ℕ, _<_, _≤_}
-use lib.Dec.{eqb, ltb}
-use lib.ListN.{getD}
-use borrow.Author.Tests.{lt-ltb, le-ltb, ltb-true, eq-eqb, ne-eqb}
+use native.Mathlib.Decide.{ℕ-discrete}
+use Prim.Native.Nat.{ℕ}
+use lib.Dec.{eqb}
+use borrow.Author.Tests.{eq-eqb, ne-eqb}
 use Rattle.pool.specs.Choose.{both}
-use Rattle.pool.specs.State.{clientCount, client, no-client}
 use Rattle.pool.specs.Answers.{refusalOf}
-use Rattle.pool.specs.Apply.{apply}
+use Rattle.pool.specs.State.{clientCount, client}
 use Rattle.pool.specs.Valid.{valid}
-use Rattle.pool.specs.Calls.{turnedDown, caller, refusalAt, refusal, moveOf, finished, callOf}
-use Rattle.laws.specs.Choices.{chosen, passed}
-use Rattle.laws.specs.Elements.{client-of-pool}
-use Rattle.pool.specs.declared.Pool.{Pool}
+use Rattle.pool.specs.Calls.{turnedDown, caller, turnedBy, releaseMove, moveOf, finished, callOf}
 use Rattle.pool.specs.declared.Call.{Call}
+use Rattle.pool.specs.declared.Call.the-variants.{Begin, Step, Release}
+use Rattle.pool.specs.declared.Client.{Client}
 use Rattle.pool.specs.declared.Move.{Move}
+use Rattle.pool.specs.declared.Pool.{Pool}
+use Rattle.laws.specs.Choices.{by-test, chosen, passed}
+use Rattle.laws.specs.StageAnswers.{StageAnswer, goes, grants, refuses, sticks, stage-answer}
+use Rattle.play.specs.Turn.{turn, played, moves, stays}
+use Rattle.play.specs.Calls.{turned-down-by, as-turn}
 
--- ---- before the action
+-- ---- by which numbers a move is refused
 
--- the client as it is read, at the place that the code has for it
-pub read-client : (p : Pool) (call : Call) (i : ℕ) → i ≡ caller call → caller call < clientCount p →
-    client p (caller call) ≡ getD (p .clients) i no-client
-read-client p call i e h = client-of-pool p (caller call) h ∙ ap (λ (n : ℕ). getD (p .clients) n no-client) (sym e)
+abbrev MoveRefusal : ℕ → Type 0
+MoveRefusal n = (n ≡ 0) ⊎ (n ≡ 8) ⊎ (n ≡ 15)
 
-module _ (p : Pool) (call : Call) where
-  pub unsound : valid p ≡ false → refusal p call ≡ 8
-  unfolding refusal
-  unsound v = passed _ _ _ v
+stage-refusal : {k : Client} {m : Move} → StageAnswer k m → MoveRefusal (refusalOf (m .answer))
+unfolding refusalOf
+stage-refusal (goes j l a n) = inl (ap refusalOf a)
+stage-refusal (grants f g e a n) = inl (ap refusalOf a)
+stage-refusal (refuses e) = inr (inr (ap (λ (m : Move). refusalOf (m .answer)) e))
+stage-refusal (sticks e) = inr (inl (ap (λ (m : Move). refusalOf (m .answer)) e))
 
-  pub outside : valid p ≡ true → clientCount p ≤ caller call → refusal p call ≡ 9
-  unfolding refusal
-  outside v h = chosen _ _ _ v ∙ passed _ _ _ (le-ltb _ _ h)
+move-refusal : (p : Pool) (call : Call) → MoveRefusal (refusalOf (moveOf p call .answer))
+unfolding moveOf releaseMove refusalOf
+move-refusal p (Begin c g) = inl refl
+move-refusal p (Step c) = stage-refusal (stage-answer p (client p c))
+move-refusal p (Release c g) = by-test (λ (m : Move). MoveRefusal (refusalOf (m .answer))) (λ _. inr (inl refl)) (λ _. inl refl)
 
-  pub inside : valid p ≡ true → caller call < clientCount p → refusal p call ≡ refusalAt p (client p (caller call)) call
-  unfolding refusal
-  inside v h = chosen _ _ _ v ∙ chosen _ _ _ (lt-ltb _ _ h)
+-- ---- the ways
 
-  -- a call that is not turned down is on a valid pool, by one of its clients
-  by-valid : (b : Bool) → valid p ≡ b → refusal p call ≡ 0 → valid p ≡ true
-  by-valid true v e = v
-  by-valid false v e = let eight = unsound v in absurd (omega arith)
-
-  by-inside : (b : Bool) → ltb (caller call) (clientCount p) ≡ b → valid p ≡ true → refusal p call ≡ 0 → caller call < clientCount p
-  unfolding refusal
-  by-inside true h v e = ltb-true _ _ h
-  by-inside false h v e = let nine : refusal p call ≡ 9 = chosen _ _ _ v ∙ passed _ _ _ h in absurd (omega arith)
-
-  pub accepted : refusal p call ≡ 0 → (valid p ≡ true) × (caller call < clientCount p)
-  accepted e = let v = by-valid _ refl e in (v, by-inside _ refl v e)
-
-  pub not-done : (refusal p call ≡ 0 → ⊥) → callOf p call ≡ turnedDown (refusal p call) p
-  unfolding callOf
-  not-done d = passed _ _ _ (ne-eqb _ _ d)
-
-  pub done : refusal p call ≡ 0 → callOf p call ≡ finished p (caller call) (moveOf p call)
-  unfolding callOf
-  done e = chosen _ _ _ (eq-eqb _ _ e)
-
--- ---- after it
-
-module _ (p : Pool) (c : ℕ) (m : Move) where
-  pub stays : refusalOf (m .answer) ≡ 8 → finished p c m ≡ turnedDown 8 p
+module _ (p : Pool) (call : Call) (v : valid p ≡ true) where
+  stuck : refusalOf (turn p call .answer) ≡ 8 → callOf p call ≡ turnedDown 8 p
   unfolding finished both
-  stays e = passed _ _ _ (passed _ _ _ (ap not (eq-eqb _ _ e)))
+  stuck e = as-turn p call v ∙ passed _ _ _ (passed _ _ _ (ap not (eq-eqb _ _ e)))
 
-  go-on : (refusalOf (m .answer) ≡ 8 → ⊥) → {b : Bool} → valid (apply p c m) ≡ b →
-      both (not (eqb (refusalOf (m .answer)) 8)) (valid (apply p c m)) ≡ b
-  unfolding both
-  go-on d v = chosen _ _ _ (ap not (ne-eqb _ _ d)) ∙ v
+  -- a turn that is refused by another number than 15 changes nothing
+  pub nothing-changes : (n : ℕ) → n ≡ refusalOf (turn p call .answer) → n ≢ 0 → n ≢ 15 → callOf p call ≡ turnedDown n p
+  unfolding refusalOf
+  nothing-changes n e some not-15 = go (ℕ-discrete (turnedBy p call) 0)
+    where
+      by-move : MoveRefusal n → callOf p call ≡ turnedDown n p
+      by-move (inl z) = absurd (some z)
+      by-move (inr (inl z)) = stuck (sym e ∙ z) ∙ ap (λ (n : ℕ). turnedDown n p) (sym z)
+      by-move (inr (inr z)) = absurd (not-15 z)
 
-  pub breaks : (refusalOf (m .answer) ≡ 8 → ⊥) → valid (apply p c m) ≡ false → finished p c m ≡ turnedDown 8 p
-  unfolding finished
-  breaks d v = passed _ _ _ (go-on d v)
+      go : Dec (turnedBy p call ≡ 0) → callOf p call ≡ turnedDown n p
+      go (yes z) = by-move (rw (e, moves p call z) (move-refusal p call))
+      go (no z) = turned-down-by p call v z ∙ ap (λ (n : ℕ). turnedDown n p) (sym (e ∙ ap (λ (m : Move). refusalOf (m .answer)) (stays p call z)))
 
-  pub keeps : (refusalOf (m .answer) ≡ 8 → ⊥) → valid (apply p c m) ≡ true →
-      finished p c m ≡ record { answer = m .answer; counted = m .counted; pool = apply p c m }
-  unfolding finished
-  keeps d v = chosen _ _ _ (go-on d v)
+  module _ (not-8 : refusalOf (turn p call .answer) ≢ 8) where
+    after : {b : Bool} → valid (played p call .pool) ≡ b → both (not (eqb (refusalOf (turn p call .answer)) 8)) (valid (played p call .pool)) ≡ b
+    unfolding both
+    after w = chosen _ _ _ (ap not (ne-eqb _ _ not-8)) ∙ w
+
+    pub breaks : valid (played p call .pool) ≡ false → callOf p call ≡ turnedDown 8 p
+    unfolding finished
+    breaks w = as-turn p call v ∙ passed _ _ _ (after w)
+
+    pub keeps : valid (played p call .pool) ≡ true → callOf p call ≡ played p call
+    unfolding finished
+    keeps w = as-turn p call v ∙ chosen _ _ _ (after w)

@@ -25,10 +25,6 @@ pub record Lends (p : Pool) (n : Numbers) (slots′ pages′ pins′ counts′ t
   pub «table_pages» : p .«table_pages» ≡ tablePages
   pub «table_frames» : p .«table_frames» ≡ tableFrames
 
--- the numbers of pool p, with t for its S + 2T
-abbrev pub numbersOf : Pool → ℕ → Numbers
-numbersOf p t = record { size = p .size; total = t; cap = p .cap; hand = p .hand; free = p .free }
-
 -- the client, and the frame to take where it stands at stage 4, are those of a call on pool p; so are the grants
 pub record Asks (p : Pool) (call : Call) (k : Client) (taken : ℕ) (grantPages grantFrames : List ℕ) : Type 0 where
   pub client : client p (caller call) ≡ k
@@ -37,10 +33,10 @@ pub record Asks (p : Pool) (call : Call) (k : Client) (taken : ℕ) (grantPages 
   pub «grant_frames» : p .«grant_frames» ≡ grantFrames
 
 -- what a valid pool gives: its arrays have what its numbers say, a client's numbers are in range, and a pin more fits
-pub record Ready (k : Client) (n : Numbers) (pins′ : List ℕ) : Type 0 where
-  pub some-slot : 0 < n .size
-  pub slots : n .size ≤ maxSize
-  pub frames : n .total ≤ maxFrames
-  pub place : k .place < n .size
-  pub busy : k .busy < n .size
-  pub pins : (f : ℕ) → within pins′ (n .total) evicted f ≤ pinned maxPins
+pub record Ready (k : Client) (size total : ℕ) (pins′ : List ℕ) : Type 0 where
+  pub some-slot : 0 < size
+  pub slots : size ≤ maxSize
+  pub frames : total ≤ maxFrames
+  pub place : k .place < size
+  pub busy : k .busy < size
+  pub pins : (f : ℕ) → within pins′ total evicted f ≤ pinned maxPins

@@ -1,4 +1,3 @@
 pub mod Lends
 pub mod Lent
-pub mod Applied
 pub mod Ready

@@ -9,7 +9,7 @@ use Rattle.pool.specs.Valid.{valid}
 use Rattle.pool.specs.declared.Pool.{Pool}
 use Rattle.ranges.specs.Ranges.{Ranged, ranged, pins-low}
 use Rattle.reads.specs.Lists.{Searchable}
-use Rattle.dispatch.specs.Lends.{numbersOf, Ready}
+use Rattle.dispatch.specs.Lends.{Ready}
 
 module _ (p : Pool) (v : valid p ≡ true) where
   in-range : Ranged p
@@ -20,6 +20,9 @@ module _ (p : Pool) (v : valid p ≡ true) where
 
   pub slots-fit : p .size ≤ maxSize
   slots-fit = in-range .numbers .slots
+
+  pub some-client : 0 < clientCount p
+  some-client = in-range .numbers .some-client
 
   pub clients-fit : clientCount p ≤ maxClients
   clients-fit = in-range .numbers .clients
@@ -40,14 +43,14 @@ module _ (p : Pool) (v : valid p ≡ true) where
   pub searchable : Searchable p
   searchable = record { some-slot = some-slot; slots = slots-fit; clients = clients-fit; grants = grants-fit }
 
-  pub ready : (c : ℕ) → c < clientCount p → {t : ℕ} → t ≡ total p → Ready (client p c) (numbersOf p t) (p .pins)
+  pub ready : (c : ℕ) → c < clientCount p → Ready (client p c) (p .size) (total p) (p .pins)
   unfolding pins
-  ready c h e =
+  ready c h =
       record {
         some-slot = some-slot;
         slots = slots-fit;
         frames = omega (arith, slots-fit, clients-fit);
         place = place-in c h;
         busy = busy-in c h;
-        pins = λ f. rw e (pins-fit f);
+        pins = pins-fit;
       }

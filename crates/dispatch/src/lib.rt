@@ -1,11 +1,10 @@
-// The move of a call, decided over the pool's arrays where they lie, and a move applied to a pool by value.
+// The move of a call, decided over the pool's arrays where they lie. Internal.
 ghost use mathlib.Core.Path.{_≡_};
 ghost use Prim.Native.Nat.{_<_, _≤_};
-ghost use Rattle.pool.specs.Limits.{maxSize, maxClients, maxHeld};
+ghost use Rattle.pool.specs.Limits.{maxClients, maxHeld};
 ghost use Rattle.pool.specs.Frames.{freeFrame};
 ghost use Rattle.pool.specs.Stages.{stageMove};
 ghost use Rattle.pool.specs.Calls.{caller, moveOf};
-ghost use Rattle.pool.specs.Apply.{apply};
 ghost use Rattle.pool.specs.declared.Pool.{Pool};
 ghost use Rattle.dispatch.specs.Lends.{Lends, Asks, Ready};
 use pool::Call;
@@ -15,7 +14,6 @@ use pool::FRAMES;
 use pool::GRANTS;
 use pool::Move;
 use pool::NONE;
-use pool::Pool;
 use pool::SLOTS;
 
 // The numbers of a pool that a move reads.
@@ -40,7 +38,7 @@ pub fn stage_move<'a>(
     table_pages: &'a [u32; FRAMES],
     table_frames: &'a [u8; FRAMES],
 ) -> Move
-    requires { ⌜ Ready client n (now pins) ⌝ }
+    requires { ⌜ Ready client (n .size) (n .total) (now pins) ⌝ }
     ensures { λ r. ⌜ ((p : Pool) →
         Lends p n (now (slots .entry)) (now (pages .entry)) (now (pins .entry)) (now (counts .entry))
         (now («table_pages» .entry)) (now («table_frames» .entry)) →
@@ -142,7 +140,7 @@ pub fn call_move<'a>(
     grant_pages: &'a [u32; GRANTS],
     grant_frames: &'a [u8; GRANTS],
 ) -> Move
-    requires { ⌜ Ready client n (now pins) ⌝ }
+    requires { ⌜ Ready client (n .size) (n .total) (now pins) ⌝ }
     requires { ⌜ (caller call < maxClients) × (client .held ≤ maxHeld) ⌝ }
     ensures { λ r. ⌜ ((p : Pool) →
         Lends p n (now (slots .entry)) (now (pages .entry)) (now (pins .entry)) (now (counts .entry))
@@ -170,34 +168,4 @@ pub fn call_move<'a>(
             moves::release_move(client, page, i, f, its_pins)
         }
     }
-}
-
-// The pool after a move of client c.
-pub fn apply(pool: Pool, c: usize, m: Move) -> Pool
-    requires { ⌜ (c < maxClients) × (pool .size ≤ maxSize) × (pool .«client_count» ≤ maxClients) ⌝ }
-    ensures { λ r. ⌜ r ≡ apply pool c m ⌝ }
-{
-    let mut next = pool;
-    let size = next.size;
-    let count = next.client_count;
-    let total = reads::total(size, count);
-    let client = m.next;
-    let w = m.write;
-    let change = m.grants;
-    next.clients[c] = client;
-    writes::put_slots(&mut next.slots, size, w);
-    writes::put_pages(&mut next.pages, total, w);
-    writes::put_pins(&mut next.pins, total, w);
-    writes::put_counts(&mut next.counts, total, w);
-    writes::put_table_pages(&mut next.table_pages, total, w);
-    writes::put_table_frames(&mut next.table_frames, total, w);
-    writes::put_grant_pages(&mut next.grant_pages, count, c, change);
-    writes::put_grant_frames(&mut next.grant_frames, count, c, change);
-    let hand = writes::hand_after(next.hand, w);
-    next.hand = hand;
-    let free = writes::free_after(next.free, w);
-    next.free = free;
-    let last = writes::last_after(next.last, w);
-    next.last = last;
-    next
 }

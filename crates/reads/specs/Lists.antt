@@ -1,17 +1,17 @@
 -- The table's and the grants' searches over the arrays that are lent, and the pool's own that they are. Assumes nothing.
 use mathlib.Core.Path.{_≡_, refl, _∙_, sym}
 use mathlib.Core.Bool.{Bool, true, false, not}
-use mathlib.Core.List.{List}
+use mathlib.Core.List.{List, []}
 use Prim.Native.Nat.{ℕ, _+_, _%_, _<_, _≤_}
 use native.Mathlib.Nat.{mod-lt}
 use lib.Dec.{eqb}
 use borrow.Author.Tests.{eq-eqb, ne-eqb}
 use Rattle.pool.specs.Limits.{maxSize, maxClients, maxHeld}
 use Rattle.pool.specs.Choose.{choose, both, either, scan, some}
-use Rattle.pool.specs.State.{none, clientCount, total, within, client, entryPage, entryFrame, ofClient, grantPage, grantFrame}
+use Rattle.pool.specs.State.{none, clientCount, total, within, client, slot, entryPage, entryFrame, ofClient, grantPage, grantFrame}
 use Rattle.pool.specs.Table.{maps, entryOf, unusedEntry}
 use Rattle.pool.specs.Grants.{grantOf, holds}
-use Rattle.pool.specs.Frames.{names, firstTried}
+use Rattle.pool.specs.Frames.{names, referenced, firstTried, freeFrame}
 use Rattle.laws.specs.Choices.{by-test}
 use Rattle.pool.specs.declared.Client.{Client}
 use Rattle.pool.specs.declared.Pool.{Pool}
@@ -77,6 +77,40 @@ pub record Searchable (p : Pool) : Type 0 where
   pub slots : p .size ≤ maxSize
   pub clients : clientCount p ≤ maxClients
   pub grants : (c : ℕ) → c < clientCount p → client p c .held ≤ maxHeld
+
+-- what names frames, as a pool whose other parts are empty: all that a search for a free frame looks at
+abbrev pub searchedIn : ℕ → ℕ → ℕ → List ℕ → List ℕ → List Client → List ℕ → Pool
+searchedIn size count last slots tableFrames clients grantFrames =
+    record {
+      size = size;
+      «client_count» = count;
+      cap = 0;
+      hand = 0;
+      free = 0;
+      last = last;
+      slots = slots;
+      pages = [];
+      pins = [];
+      counts = [];
+      «table_pages» = [];
+      «table_frames» = tableFrames;
+      clients = clients;
+      «grant_pages» = [];
+      «grant_frames» = grantFrames;
+    }
+
+module _ (p : Pool) where
+  -- what names frames in pool p
+  abbrev pub searched : Pool
+  searched = searchedIn (p .size) (clientCount p) (p .last) (p .slots) (p .«table_frames») (p .clients) (p .«grant_frames»)
+
+  pub searched-in : freeFrame searched ≡ freeFrame p
+  unfolding freeFrame firstTried referenced names holds slot entryFrame grantFrame client
+  searched-in = refl
+
+  pub searchable-in : Searchable p → Searchable searched
+  unfolding client
+  searchable-in s = record { some-slot = s .some-slot; slots = s .slots; clients = s .clients; grants = s .grants }
 
 -- ---- what is read, x, compared with a number v, and the definition's y compared with it
 

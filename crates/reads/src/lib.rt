@@ -4,13 +4,13 @@ ghost use Prim.Native.Nat.{_+_, _*_, _<_, _≤_};
 ghost use Rattle.pool.specs.Limits.{maxSize, maxClients, maxHeld, maxFrames};
 ghost use Rattle.pool.specs.State.{none, within, ofClient};
 ghost use Rattle.pool.specs.Frames.{freeFrame};
-ghost use Rattle.reads.specs.Lists.{Searchable, entryIn, lookupIn, unusedIn, grantIn, firstOf, namesIn};
+ghost use Rattle.reads.specs.Lists.{Searchable, searchedIn, entryIn, lookupIn, unusedIn, grantIn, firstOf, namesIn};
+use pool::CLIENTS;
 use pool::Client;
 use pool::FRAMES;
 use pool::GRANTS;
 use pool::HELD;
 use pool::NONE;
-use pool::Pool;
 use pool::SLOTS;
 
 // ---- reads
@@ -146,30 +146,40 @@ fn names(client: Client, grant_frames: &[u8; GRANTS], c: usize, f: u8) -> bool
     false
 }
 
-// The first frame that no slot, no entry of the table and no client names, from the one after the last taken on and going round; or NONE.
-pub fn free_frame(pool: Pool) -> u8
-    requires { ⌜ Searchable pool ⌝ }
-    ensures { λ r. ⌜ r ≡ freeFrame pool ⌝ }
+// The first frame that no slot, no entry of the table and no client names, from the one after the last taken on and going round; or NONE. It is
+// lent of the pool what names frames, and not the pool.
+pub fn free_frame<'a>(
+    size: u8,
+    client_count: u8,
+    last: u8,
+    slots: &'a [u8; SLOTS],
+    table_frames: &'a [u8; FRAMES],
+    clients: [Client; CLIENTS],
+    grant_frames: &'a [u8; GRANTS],
+) -> u8
+    requires { ⌜ Searchable (searchedIn size «client_count» last (now slots) (now «table_frames») clients (now «grant_frames»)) ⌝ }
+    ensures { λ r. ⌜ r ≡ freeFrame
+        (searchedIn size «client_count» last (now (slots .entry)) (now («table_frames» .entry)) clients (now («grant_frames» .entry))) ⌝ }
 {
-    let size = pool.size as usize;
-    let count = pool.client_count as usize;
-    let total = size + 2 * count;
-    let first = first_tried(pool.last, total);
+    let slot_count = size as usize;
+    let count = client_count as usize;
+    let total = slot_count + 2 * count;
+    let first = first_tried(last, total);
     'frames: for n in 0..total {
         let f = ((first + n) % total) as u8;
-        for i in 0..size {
-            if pool.slots[i] == f {
+        for i in 0..slot_count {
+            if slots[i] == f {
                 continue 'frames;
             }
         }
         for i in 0..total {
-            if pool.table_frames[i] == f {
+            if table_frames[i] == f {
                 continue 'frames;
             }
         }
         for c in 0..count {
-            let client = pool.clients[c];
-            let named = names(client, &pool.grant_frames, c, f);
+            let client = clients[c];
+            let named = names(client, grant_frames, c, f);
             if named {
                 continue 'frames;
             }

@@ -25,79 +25,80 @@ use Rattle.schedule.proofs.Runs.{before, stop-line, no-space, stops, go
 
 -- ---- a setup's answer
 
-module _ (a b c h : ℕ) where
-  refuses : (q : ℕ) → q ≡ refusalOf (setupOf a b c h .answer) → q ≢ 0 → (setupOf a b c h .answer ≡ Refused q) × (endsRun (Refused q) ≡ true)
+module _ (size clients cap hand : ℕ) where
+  refuses : (refusal : ℕ) → refusal ≡ refusalOf (setupOf size clients cap hand .answer) → refusal ≢ 0 → (setupOf size clients cap hand .answer ≡ Refused refusal) × (endsRun (Refused refusal) ≡ true)
   unfolding setupOf refusalOf
-  refuses q =
-      by-test (λ (o : Outcome). q ≡ refusalOf (o .answer) → q ≢ 0 → (o .answer ≡ Refused q) × (endsRun (Refused q) ≡ true))
-      (λ _ u z. absurd (z u)) (λ _ u _. (ap Refused (sym u), refused-ends q (omega arith) (omega arith)))
+  refuses refusal =
+      by-test (λ (o : Outcome). refusal ≡ refusalOf (o .answer) → refusal ≢ 0 → (o .answer ≡ Refused refusal) × (endsRun (Refused refusal) ≡ true))
+      (λ _ u z. absurd (z u)) (λ _ u _. (ap Refused (sym u), refused-ends refusal (omega arith) (omega arith)))
 
-  pub set-up : refusalOf (setupOf a b c h .answer) ≡ 0 → SetUp (setupOf a b c h .pool)
+  pub set-up : refusalOf (setupOf size clients cap hand .answer) ≡ 0 → SetUp (setupOf size clients cap hand .pool)
   unfolding setupOf refusalOf
   set-up =
       by-test (λ (o : Outcome). refusalOf (o .answer) ≡ 0 → SetUp (o .pool))
-      (λ ok _. record { size = a; clients = b; cap = c; hand = h; accepted = ok; made = refl }) (λ _ e. let z : ⊥ = omega arith in absurd z)
+      (λ ok _. record { size = size; clients = clients; cap = cap; hand = hand; accepted = ok; made = refl }) (λ _ e. let z : ⊥ = omega arith in absurd z)
 
 -- an answer that is no refusal does not end the run
 no-refusal : (x : Answer) → refusalOf x ≡ 0 → endsRun x ≡ false
 unfolding endsRun both choose
 no-refusal x e = rw e
 
-setup-line : (a b c h : ℕ) (x : Answer) → endsRun x ≡ false → lineFor 0 (Setup a b c h) x ≡ line 0 0 (codeOf x) (valueOf x)
+setup-line : (size clients cap hand : ℕ) (x : Answer) → endsRun x ≡ false → lineFor 0 (Setup size clients cap hand) x ≡ line 0 0 (codeOf x) (valueOf x)
 unfolding lineFor namedBy choose
-setup-line a b c h x e = rw e
+setup-line size clients cap hand x e = rw e
 
 -- ---- the run
 
-module _ (s : List ℕ) (n : ℕ) where
-  pub too-long : 16384 < length s → ran s n ≡ ends 0 1
+module _ (s : List ℕ) (space : ℕ) where
+  pub too-long : 16384 < length s → ran s space ≡ ends 0 1
   unfolding ran
   too-long long = chosen _ _ _ (lt-ltb _ _ long)
 
   module _ (short : length s ≤ 16384) where
-    started : ran s n ≡ runFrom (suc (length s)) noPool 0 s n
+    started : ran s space ≡ runFrom (suc (length s)) noPool 0 s space
     unfolding ran
-    started = passed _ _ _ (le-ltb _ _ short) ∙ ap (λ (f : ℕ). runFrom f noPool 0 s n) (add-one (length s))
+    started = passed _ _ _ (le-ltb _ _ short) ∙ ap (λ (f : ℕ). runFrom f noPool 0 s space) (add-one (length s))
 
     begins : both (ltb 0 0) (eqb (length s) 0) ≡ false
     unfolding both choose
     begins = refl
 
-    pub no-room : n < 24 → ran s n ≡ ends 0 2
-    no-room few = started ∙ no-space (length s) noPool 0 s n begins few
+    pub no-room : space < 24 → ran s space ≡ ends 0 2
+    no-room few = started ∙ no-space (length s) noPool 0 s space begins few
 
-    module _ (room : 24 ≤ n) where
-      pub unread-first : (q : ℕ) → read true s ≡ Unreadable q → ran s n ≡ stopped 0 q
+    module _ (room : 24 ≤ space) where
+      pub unread-first : (refusal : ℕ) → read true s ≡ Unreadable refusal → ran s space ≡ stopped 0 refusal
       unfolding performed
-      unread-first q e =
-          let last = unread-ends true s q e in
-          started ∙ stops (length s) noPool 0 s n begins (Unreadable q) (turnedDown q noPool) room e refl last ∙ stop-line 0 q (Unreadable q) last
+      unread-first refusal e =
+          let last = unread-ends true s refusal e in
+          started ∙ stops (length s) noPool 0 s space begins (Unreadable refusal) (turnedDown refusal noPool) room e refl last
+          ∙ stop-line 0 refusal (Unreadable refusal) last
 
-      module _ (a b c h : ℕ) (e : read true s ≡ Setup a b c h) where
+      module _ (size clients cap hand : ℕ) (e : read true s ≡ Setup size clients cap hand) where
         pub setup-whole : 10 ≤ length s
         unfolding lengthOf
         setup-whole = rw e at (read-fits true s)
 
-        pub refused-first : (q : ℕ) → q ≡ refusalOf (setupOf a b c h .answer) → q ≢ 0 → ran s n ≡ stopped 0 q
+        pub refused-first : (refusal : ℕ) → refusal ≡ refusalOf (setupOf size clients cap hand .answer) → refusal ≢ 0 → ran s space ≡ stopped 0 refusal
         unfolding performed
-        refused-first q u z =
-            let r = refuses a b c h q u z in
+        refused-first refusal u z =
+            let r = refuses size clients cap hand refusal u z in
             started
-            ∙ stops (length s) noPool 0 s n begins (Setup a b c h) (setupOf a b c h) room e refl (ap endsRun (r .0) ∙ r .1)
-            ∙ ap (λ (x : Answer). record { records = 0; refusal = refusalOf x; lines = lineFor 0 (Setup a b c h) x }) (r .0)
-            ∙ stop-line 0 q (Setup a b c h) (r .1)
+            ∙ stops (length s) noPool 0 s space begins (Setup size clients cap hand) (setupOf size clients cap hand) room e refl (ap endsRun (r .0) ∙ r .1)
+            ∙ ap (λ (x : Answer). record { records = 0; refusal = refusalOf x; lines = lineFor 0 (Setup size clients cap hand) x }) (r .0)
+            ∙ stop-line 0 refusal (Setup size clients cap hand) (r .1)
 
-        pub accepted-first : refusalOf (setupOf a b c h .answer) ≡ 0 →
-            let x = setupOf a b c h .answer in
+        pub accepted-first : refusalOf (setupOf size clients cap hand .answer) ≡ 0 →
+            let x = setupOf size clients cap hand .answer in
             let w = line 0 0 (codeOf x) (valueOf x) in
-            ran s n ≡ before w (runFrom (length s) (setupOf a b c h .pool) 1 (drop 10 s) (n - length w))
+            ran s space ≡ before w (runFrom (length s) (setupOf size clients cap hand .pool) 1 (drop 10 s) (space - length w))
         unfolding performed lengthOf
         accepted-first u =
-            let goes = no-refusal (setupOf a b c h .answer) u in
+            let goes = no-refusal (setupOf size clients cap hand .answer) u in
             started
-            ∙ goes-on (length s) noPool 0 s n begins (Setup a b c h) (setupOf a b c h) room e refl goes
-            ∙ rw (setup-line a b c h (setupOf a b c h .answer) goes)
+            ∙ goes-on (length s) noPool 0 s space begins (Setup size clients cap hand) (setupOf size clients cap hand) room e refl goes
+            ∙ rw (setup-line size clients cap hand (setupOf size clients cap hand .answer) goes)
 
 -- the rest of the run, as it is told from the first call on
-pub from-first : (s : List ℕ) {p q : Pool} {k n : ℕ} → p ≡ q → k ≡ n → rest s p 1 10 k ≡ runFrom (length s) q 1 (drop 10 s) n
+pub from-first : (s : List ℕ) {p q : Pool} {left space : ℕ} → p ≡ q → left ≡ space → rest s p 1 10 left ≡ runFrom (length s) q 1 (drop 10 s) space
 from-first s e f = let fuel : length s + 1 - 1 ≡ length s = omega arith in rw (fuel, e, f)

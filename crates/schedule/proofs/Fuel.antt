@@ -28,20 +28,20 @@ unfolding choose
 choose-same true a e = refl
 choose-same false a e = e refl
 
-pub fuel-enough : (f g : ℕ) (p : Pool) (n : ℕ) (bytes : List ℕ) (space : ℕ) → length bytes < f → length bytes < g →
-    runFrom f p n bytes space ≡ runFrom g p n bytes space
+pub fuel-enough : (f g : ℕ) (p : Pool) (records : ℕ) (input : List ℕ) (space : ℕ) → length input < f → length input < g →
+    runFrom f p records input space ≡ runFrom g p records input space
 unfolding runFrom
-fuel-enough zero g p n bytes space a b = absurd (omega arith)
-fuel-enough (suc f) zero p n bytes space a b = absurd (omega arith)
-fuel-enough (suc f) (suc g) p n bytes space a b =
-    let reading = read (eqb n 0) bytes in
+fuel-enough zero g p records input space a b = absurd (omega arith)
+fuel-enough (suc f) zero p records input space a b = absurd (omega arith)
+fuel-enough (suc f) (suc g) p records input space a b =
+    let reading = read (eqb records 0) input in
     let o = performed p reading in
-    let w = lineFor n reading (o .answer) in
-    choose-same (both (ltb 0 n) (eqb (length bytes) 0)) (ends n 0)
-    (λ _. choose-same (ltb space 24) (ends n 2)
+    let w = lineFor records reading (o .answer) in
+    choose-same (both (ltb 0 records) (eqb (length input) 0)) (ends records 0)
+    (λ _. choose-same (ltb space 24) (ends records 2)
     (λ _. choose-same (endsRun (o .answer)) _
     (λ e.
-    let some = takes-some p (eqb n 0) bytes e in
-    let left = drop (lengthOf reading) bytes in
+    let some = takes-some p (eqb records 0) input e in
+    let left = drop (lengthOf reading) input in
     ap (before w)
-    (fuel-enough f g (o .pool) (n + 1) left (space - length w) (rw length-drop (omega arith)) (rw length-drop (omega arith))))))
+    (fuel-enough f g (o .pool) (records + 1) left (space - length w) (rw length-drop (omega arith)) (rw length-drop (omega arith))))))

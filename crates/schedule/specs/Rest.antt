@@ -1,30 +1,36 @@
--- What a run leaves, told from the middle: `to` bytes of the report space are written, and r is what the rest of the run comes to.
--- Assumes nothing.
+-- What a run leaves, told from the middle: `records` records are done, `bytes` bytes of the report space are written, and r is what the rest of the
+-- run comes to. Assumes nothing.
 use mathlib.Core.Path.{_≡_}
 use mathlib.Core.Bool.{true}
 use mathlib.Core.List.{List, _++_}
 use Prim.Native.Nat.{ℕ, _+_, _-_}
 use lib.ListN.{length, take, drop}
+use Rattle.pool.specs.Answers.{codeOf, valueOf}
 use Rattle.pool.specs.Valid.{numbersOk}
 use Rattle.pool.specs.Calls.{fresh}
 use Rattle.pool.specs.Schedule.{Ran, line, runFrom}
+use Rattle.pool.specs.declared.Answer.{Answer}
 use Rattle.pool.specs.declared.Ended.{Ended}
 use Rattle.pool.specs.declared.Pool.{Pool}
 
+-- the line of an answer: the record's number, the client it names, and the answer's two numbers
+abbrev pub answerLine : ℕ → ℕ → Answer → List ℕ
+answerLine records client a = line records client (codeOf a) (valueOf a)
+
 unfoldable pub endAfter : ℕ → Ran → Ended
-endAfter to r = record { records = r .records; bytes = to + length (r .lines); refusal = r .refusal }
+endAfter bytes r = record { records = r .records; bytes = bytes + length (r .lines); refusal = r .refusal }
 
--- "Each line goes into the part of the report space not yet written." "Report bytes after the last line stay."
+-- each line goes into the part of the report space that is not yet written, and what stands after the last one stays
 unfoldable pub reportAfter : ℕ → Ran → List ℕ → List ℕ
-reportAfter to r space = take to space ++ r .lines ++ drop (to + length (r .lines)) space
+reportAfter bytes r space = take bytes space ++ r .lines ++ drop (bytes + length (r .lines)) space
 
--- "1 to 8 end the run; .. 3 to 8 write one with bench 0": record `at` ends the run by refusal n
+-- the record with this number ends the run by a refusal of 3 to 8: its line names client 0
 abbrev pub stopped : ℕ → ℕ → Ran
-stopped at n = record { records = at; refusal = n; lines = line at 0 (100 + n) 0 }
+stopped records refusal = record { records = records; refusal = refusal; lines = line records 0 (100 + refusal) 0 }
 
--- The rest of the run of schedule s, from its record n on, which starts at byte `at`. Each record before it took one of the run's fuel.
+-- The rest of the run of schedule s, whose next record starts at byte `place`. Each record before it took one of the run's fuel.
 abbrev pub rest : List ℕ → Pool → ℕ → ℕ → ℕ → Ran
-rest s p n at space = runFrom (length s + 1 - n) p n (drop at s) space
+rest s p records place space = runFrom (length s + 1 - records) p records (drop place s) space
 
 -- a pool that an accepted setup made
 pub record SetUp (p : Pool) : Type 0 where

@@ -1,29 +1,44 @@
 // The run of a schedule: its first record sets the pool up, each later one is a call of it, and each writes one line of the report.
 //
-// The pool lies in one place for the whole run, and every record changes it where it lies. Check 8 is made of the setup alone: pools that come
-// from setup and calls never meet it, so a record's turn is `callOf`, which makes check 8 before and after the action, without the test.
+// The pool's parts lie in one place for the whole run, and every record changes them where they lie. Check 8 is made of the setup alone: pools that
+// come from setup and calls never meet it, so a record's turn is `callOf`, which makes check 8 before and after the action, without the test.
+//
+// Three numbers go along with the run: `place`, the byte of the schedule at which the next record starts; `records`, how many records are done,
+// which is the next one's number; `bytes`, how many bytes of the report space are written.
 ghost use mathlib.Core.Path.{_≡_};
 ghost use Prim.Native.Nat.{_+_, _-_, _≤_};
 ghost use lib.ListN.{length};
 ghost use Rattle.pool.specs.Schedule.{endOf, reportOf};
-ghost use Rattle.schedule.specs.Rest.{SetUp, endAfter, reportAfter, stopped, rest};
-use dispatch::Numbers;
+ghost use Rattle.report.specs.Lines.{written};
+ghost use Rattle.schedule.specs.Rest.{SetUp, answerLine, endAfter, reportAfter, stopped, rest};
+use pool::Answer;
 use pool::Ended;
 use pool::NONE;
 use pool::Pool;
 use pool::Reading;
 
-// "1 to 8 end the run; .. 3 to 8 write one with bench 0": record number `at` ends the run by refusal n, its line after the first `to` bytes of
-// the report space.
-fn stop(report: &mut [u8], to: usize, at: u32, n: u8) -> Ended
-    requires { ⌜ (to + 24 ≤ length (now report)) × (at ≤ 9999) ⌝ }
-    ensures { λ r. ⌜ (r ≡ endAfter to (stopped at n)) × (now (report .exit) ≡ reportAfter to (stopped at n) (now (report .entry))) ⌝ }
+// The line of a record's answer, at the start of the part of the report space that is not yet written; how long it is.
+fn write_answer(space: &mut [u8], records: u32, client: u8, answer: Answer) -> usize
+    requires { ⌜ (24 ≤ length (now space)) × (records ≤ 9999) ⌝ }
+    ensures { λ r. ⌜ (r ≡ length (answerLine records client answer)) × (r ≤ 24)
+        × (now (space .exit) ≡ written (answerLine records client answer) (now (space .entry))) ⌝ }
 {
-    let size = report::write_line(&mut report[to..], at, 0, 100 + n as u32, 0);
+    let code = answers::code_of(answer);
+    let value = answers::value_of(answer);
+    report::write_line(space, records, client, code, value)
+}
+
+// A record ends the run by a refusal; its line names client 0.
+fn stop(report: &mut [u8], bytes: usize, records: u32, refusal: u8) -> Ended
+    requires { ⌜ (bytes + 24 ≤ length (now report)) × (records ≤ 9999) ⌝ }
+    ensures { λ r. ⌜ (r ≡ endAfter bytes (stopped records refusal))
+        × (now (report .exit) ≡ reportAfter bytes (stopped records refusal) (now (report .entry))) ⌝ }
+{
+    let more = write_answer(&mut report[bytes..], records, 0, Answer::Refused(refusal));
     Ended {
-        records: at,
-        bytes: to + size,
-        refusal: n,
+        records,
+        bytes: bytes + more,
+        refusal,
     }
 }
 
@@ -35,82 +50,78 @@ fn run_calls(schedule: &[u8], report: &mut [u8], first: Pool, start: usize) -> E
         × (now (report .exit)
         ≡ reportAfter start (rest (now (schedule .entry)) first 1 10 (length (now (report .entry)) - start)) (now (report .entry))) ⌝ }
 {
-    let mut pool = first;
-    let mut at = 10;
-    let mut to = start;
-    let mut n: u32 = 1;
-    while at < schedule.len() {
-        if report.len() - to < 24 {
+    let mut hand = first.hand;
+    let mut free = first.free;
+    let mut last = first.last;
+    let mut slots = first.slots;
+    let mut pages = first.pages;
+    let mut pins = first.pins;
+    let mut counts = first.counts;
+    let mut table_pages = first.table_pages;
+    let mut table_frames = first.table_frames;
+    let mut clients = first.clients;
+    let mut grant_pages = first.grant_pages;
+    let mut grant_frames = first.grant_frames;
+    let mut place = 10;
+    let mut records: u32 = 1;
+    let mut bytes = start;
+    while place < schedule.len() {
+        if report.len() - bytes < 24 {
             return Ended {
-                records: n,
-                bytes: to,
+                records,
+                bytes,
                 refusal: 2,
             };
         }
-        let reading = records::read(&schedule[at..], false);
+        let reading = records::read(&schedule[place..], false);
         let Reading::Asked(call) = reading else {
-            return stop(report, to, n, answers::unread_of(reading));
+            return stop(report, bytes, records, answers::unread_of(reading));
         };
-        at += 8;
-        let size = pool.size;
-        let count = pool.client_count;
-        let total = reads::total(size, count);
-        let c = answers::caller(call);
-        let b = turns::client_or_first(count, c);
-        let who = pool.clients[b];
+        place += 8;
+        let caller = answers::caller(call);
+        let number = play::client_or_first(first.client_count, caller);
+        let client = clients[number];
         let mut fresh = NONE;
-        if who.stage == 4 {
-            fresh = reads::free_frame(pool);
+        if client.stage == 4 {
+            fresh = reads::free_frame(
+                first.size,
+                first.client_count,
+                last,
+                &slots,
+                &table_frames,
+                clients,
+                &grant_frames,
+            );
         }
-        let numbers = Numbers {
-            size,
-            total,
-            cap: pool.cap,
-            hand: pool.hand,
-            free: pool.free,
-        };
-        let m = turns::decide(
+        let turn = play::play(
             call,
-            count,
-            who,
-            numbers,
+            number,
+            client,
             fresh,
-            &pool.slots,
-            &pool.pages,
-            &pool.pins,
-            &pool.counts,
-            &pool.table_pages,
-            &pool.table_frames,
-            &pool.grant_pages,
-            &pool.grant_frames,
+            first.size,
+            first.client_count,
+            first.cap,
+            &mut hand,
+            &mut free,
+            &mut last,
+            &mut slots,
+            &mut pages,
+            &mut pins,
+            &mut counts,
+            &mut table_pages,
+            &mut table_frames,
+            &mut grant_pages,
+            &mut grant_frames,
         );
-        let next = m.next;
-        let w = m.write;
-        let change = m.grants;
-        let answer = m.answer;
-        pool.clients[b] = next;
-        writes::put_slots(&mut pool.slots, size, w);
-        writes::put_pages(&mut pool.pages, total, w);
-        writes::put_pins(&mut pool.pins, total, w);
-        writes::put_counts(&mut pool.counts, total, w);
-        writes::put_table_pages(&mut pool.table_pages, total, w);
-        writes::put_table_frames(&mut pool.table_frames, total, w);
-        writes::put_grant_pages(&mut pool.grant_pages, count, b, change);
-        writes::put_grant_frames(&mut pool.grant_frames, count, b, change);
-        let hand = writes::hand_after(pool.hand, w);
-        pool.hand = hand;
-        let free = writes::free_after(pool.free, w);
-        pool.free = free;
-        let last = writes::last_after(pool.last, w);
-        pool.last = last;
-        let code = answers::code_of(answer);
-        let value = answers::value_of(answer);
-        to += report::write_line(&mut report[to..], n, c, code, value);
-        n += 1;
+        let next = turn.next;
+        let answer = turn.answer;
+        clients[number] = next;
+        bytes += write_answer(&mut report[bytes..], records, caller, answer);
+        records += 1;
     }
     Ended {
-        records: n,
-        bytes: to,
+        records,
+        bytes,
         refusal: 0,
     }
 }
@@ -138,20 +149,14 @@ pub fn run(schedule: &[u8], report: &mut [u8]) -> Ended
     let Reading::Setup(size, client_count, cap, hand) = reading else {
         return stop(report, 0, 0, answers::unread_of(reading));
     };
-    let o = calls::setup(size, client_count, cap, hand);
-    let answer = o.answer;
-    let n = answers::refusal_of(answer);
-    if n != 0 {
-        return stop(report, 0, 0, n);
+    let made = calls::setup(size, client_count, cap, hand);
+    let answer = made.answer;
+    let refusal = answers::refusal_of(answer);
+    if refusal != 0 {
+        return stop(report, 0, 0, refusal);
     }
-    let to = 0;
-    let start = report::write_line(
-        &mut report[to..],
-        0,
-        0,
-        answers::code_of(answer),
-        answers::value_of(answer),
-    );
-    let first = o.pool;
+    let bytes = 0;
+    let start = write_answer(&mut report[bytes..], 0, 0, answer);
+    let first = made.pool;
     run_calls(schedule, report, first, start)
 }

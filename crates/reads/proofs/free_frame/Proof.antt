@@ -9,12 +9,13 @@ use mathlib.Core.Bool.{Bool, true, false, not}
 use Prim.Native.Nat.{ℕ, _<_, _-_, _+_, _%_}
 use lib.Dec.{eqb}
 use lib.ListN.{getD}
+use denote.Ref.{now}
 use Rattle.pool.specs.Choose.{choose, either, some}
 use Rattle.pool.specs.Frames.{names, referenced, tried, freeFrame}
 use Rattle.pool.specs.State.{none, clientCount, total, slot, entryFrame, no-client}
 use Rattle.laws.specs.Elements.{element, client-of-pool}
 use Rattle.laws.specs.Loops.{Left, begins, hit, misses, ends}
-use Rattle.reads.specs.Lists.{first-of, first-in, namesIn, names-in, reads-as, reads-other}
+use Rattle.reads.specs.Lists.{searchedIn, first-of, first-in, namesIn, names-in, reads-as, reads-other}
 use Rattle.pool.specs.declared.Pool.{Pool}
 use Rattle.pool.specs.declared.Client.{Client}
 use Rattle.reads.proofs.free_frame.Statement.{statement}
@@ -35,28 +36,36 @@ abbrev Searching : Pool → ℕ → Type 0
 Searching p n = Left (λ x. not (referenced p (tried p x))) (tried p) none (total p) n
 
 abbrev Inv-loop : tie.InvT-loop
-Inv-loop pool size count total first n₀ f i₀ n i = (n ≡ n₀) × Left (λ x. eqb (slot pool x) f) (λ _. true) false size i
+Inv-loop size clientCount last slots tableFrames grantFrames clients slotCount count total first n₀ f i₀ n i =
+    (n ≡ n₀) × Left (λ x. eqb (slot (searchedIn size clientCount last slots tableFrames clients grantFrames) x) f) (λ _. true) false slotCount i
 
 abbrev μ-loop : tie.MeasureT-loop
-μ-loop pool size count total first n₀ f i₀ n i = size - i
+μ-loop size clientCount last slots tableFrames grantFrames clients slotCount count total first n₀ f i₀ n i =
+    slotCount - i
 
 abbrev Inv-loop2 : tie.InvT-loop2
-Inv-loop2 pool size count total first n₀ f i₀ n i = (n ≡ n₀) × Left (λ x. eqb (entryFrame pool x) f) (λ _. true) false total i
+Inv-loop2 size clientCount last slots tableFrames grantFrames clients slotCount count total first n₀ f i₀ n i =
+    (n ≡ n₀) × Left (λ x. eqb (entryFrame (searchedIn size clientCount last slots tableFrames clients grantFrames) x) f) (λ _. true) false total i
 
 abbrev μ-loop2 : tie.MeasureT-loop2
-μ-loop2 pool size count total first n₀ f i₀ n i = total - i
+μ-loop2 size clientCount last slots tableFrames grantFrames clients slotCount count total first n₀ f i₀ n i =
+    total - i
 
 abbrev Inv-loop3 : tie.InvT-loop3
-Inv-loop3 pool size count total first n₀ f c₀ n c = (n ≡ n₀) × Left (names pool f) (λ _. true) false count c
+Inv-loop3 size clientCount last slots tableFrames grantFrames clients slotCount count total first n₀ f c₀ n c =
+    (n ≡ n₀) × Left (names (searchedIn size clientCount last slots tableFrames clients grantFrames) f) (λ _. true) false count c
 
 abbrev μ-loop3 : tie.MeasureT-loop3
-μ-loop3 pool size count total first n₀ f c₀ n c = count - c
+μ-loop3 size clientCount last slots tableFrames grantFrames clients slotCount count total first n₀ f c₀ n c =
+    count - c
 
 abbrev Inv-frames : tie.InvT-frames
-Inv-frames pool size count total first n₀ n = Searching pool n
+Inv-frames size clientCount last slots tableFrames grantFrames clients slotCount count total first n₀ n =
+    Searching (searchedIn size clientCount last slots tableFrames clients grantFrames) n
 
 abbrev μ-frames : tie.MeasureT-frames
-μ-frames pool size count total first n₀ n = total - n
+μ-frames size clientCount last slots tableFrames grantFrames clients slotCount count total first n₀ n =
+    total - n
 
 -- a turn of the outer loop, and what is known after the slots and after the table
 abbrev Turn : Type 0
@@ -72,7 +81,9 @@ abbrev turn : Past-slots → Turn
 turn c = c .before .before
 
 abbrev poolAt : Turn → Pool
-poolAt c = c .before .before .before .args .t1
+poolAt c =
+    let a = c .before .before .before .args in
+    searchedIn (a .size) (a .client-count) (a .last) (now (a .slots)) (now (a .table-frames)) (a .t6) (now (a .grant-frames))
 
 -- the frame of the turn, as the code has it
 abbrev frameAt : Turn → ℕ
@@ -178,20 +189,20 @@ loop3-holds c = (search needs, begins _ _ _ _)
 names-requires :
     tie.Need-names-requires Inv-loop μ-loop Inv-loop2 μ-loop2 Inv-loop3 μ-loop3 Inv-frames μ-frames
 names-requires c κs =
-    let l = c .before .before .before .before in
+    let l = c .before .before in
     let t = turn (l .before .before .before) in
-    let h = c .before .before .before .loop3-test .taken in
+    let h = c .before .loop3-test .taken in
     (omega arith, rw (client-of-pool (poolAt t) (l .loop3 .c) h) at (t .before .before .before .pre .grants (l .loop3 .c) h))
 
 frames-again-3 :
     tie.Need-frames-again-3 Inv-loop μ-loop Inv-loop2 μ-loop2 Inv-loop3 μ-loop3 Inv-frames μ-frames
 unfolding referenced either choose
 frames-again-3 c =
-    let l = c .before .before .before .before .before .before in
+    let l = c .before .before .before .before in
     let e = l .before in
     let s = e .before .before in
     let t = turn s in
-    let h = c .before .before .before .before .before .loop3-test .taken in
+    let h = c .before .before .before .loop3-test .taken in
     let hit : named (poolAt t) (frameAt t) ≡ true =
     sym (hit (l .loop3 .inv .1) h refl (answered (poolAt t) (frameAt t) (l .loop3 .c) h (c .before .names .ensures) (c .if3 .taken))) in
     let same-turn = l .loop3 .inv .0 ∙ e .before .loop2 .inv .0 ∙ s .before .loop .inv .0 in
@@ -200,9 +211,9 @@ frames-again-3 c =
 loop3-again :
     tie.Need-loop3-again Inv-loop μ-loop Inv-loop2 μ-loop2 Inv-loop3 μ-loop3 Inv-frames μ-frames
 loop3-again c =
-    let l = c .before .before .before .before .before .before in
+    let l = c .before .before .before .before in
     let t = turn (l .before .before .before) in
-    let h = c .before .before .before .before .before .loop3-test .taken in
+    let h = c .before .before .before .loop3-test .taken in
     let other = answered (poolAt t) (frameAt t) (l .loop3 .c) h (c .before .names .ensures) (c .if3 .left) in
     (l .loop3 .inv .0, misses (l .loop3 .inv .1) h refl other)
 
@@ -225,8 +236,8 @@ pub free-frame-spec : {M : Type 1} → statement M
 free-frame-spec =
     tie.close
     (tie.spec
-    Inv-loop μ-loop Inv-loop2 μ-loop2 Inv-loop3 μ-loop3 Inv-frames μ-frames (λ c. search needs) (λ c. search needs) (λ c. search needs)
-    (λ c. search needs) first-tried-requires frames-holds add-f (λ c. search needs) cast-f loop-holds (λ c. search needs) (λ c. search needs)
+    Inv-loop μ-loop Inv-loop2 μ-loop2 Inv-loop3 μ-loop3 Inv-frames μ-frames (λ c. search needs) (λ c. search needs)
+    first-tried-requires frames-holds add-f (λ c. search needs) cast-f loop-holds (λ c. search needs) (λ c. search needs)
     (λ c. search needs) frames-again (λ c. search needs) (λ c. search needs) loop-again loop2-holds (λ c. search needs) (λ c. search needs)
     (λ c. search needs) frames-again-2 (λ c. search needs) (λ c. search needs) loop2-again loop3-holds (λ c. search needs) (λ c. search needs)
     names-requires (λ c. search needs) (λ c. search needs) frames-again-3 (λ c. search needs) (λ c. search needs) loop3-again returns returns-2)

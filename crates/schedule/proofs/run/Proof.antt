@@ -8,17 +8,16 @@ use mathlib.Core.List.{List}
 use Prim.Native.Nat.{ℕ, _+_, _-_, _≤_}
 use lib.ListN.{length}
 use denote.Ref.{now}
-use Rattle.pool.specs.Answers.{refusalOf, codeOf, valueOf}
+use Rattle.pool.specs.Answers.{refusalOf}
 use Rattle.pool.specs.Calls.{setupOf}
-use Rattle.pool.specs.Schedule.{read, line}
+use Rattle.pool.specs.Schedule.{read}
 use Rattle.pool.specs.declared.Outcome.{Outcome}
 use Rattle.pool.specs.declared.Reading.the-variants.{Setup}
-use Rattle.report.specs.Lines.{written, line-fits}
-use Rattle.schedule.specs.Rest.{SetUp}
+use Rattle.report.specs.Lines.{written}
+use Rattle.schedule.specs.Rest.{SetUp, answerLine}
 use Rattle.schedule.proofs.Readings.{first-unread}
 use Rattle.schedule.proofs.Runs.{from, after-line, end-here, report-here, same-space, line-done, whole-run}
 use Rattle.schedule.proofs.First.{too-long, no-room, unread-first, setup-whole, refused-first, set-up, accepted-first, from-first}
-use Rattle.schedule.proofs.Going.{same-line}
 use Rattle.schedule.proofs.run.Statement.{statement}
 use Rattle.schedule.proofs.run.Tie as tie
 
@@ -81,45 +80,42 @@ returns-4 c =
 -- ---- its line
 
 abbrev Wrote : Type 0
-Wrote = tie.After-write-line
+Wrote = tie.After-write-answer
 
 abbrev told : Wrote → Told
-told c = c .before .before .before .before .before .before .before
+told c = c .before .before .before .before .before
+
+made-of : (c : Wrote) → c .before .before .before .before .setup .result ≡ set (told c)
+made-of c = made (c .before .before .before .before)
 
 accepted : (c : Wrote) → refusalOf (set (told c) .answer) ≡ 0
-accepted c = sym (refusal-is (c .before .before .before .before .before)) ∙ c .before .before .before .before .if3 .left
+accepted c = sym (refusal-is (c .before .before .before)) ∙ c .before .before .if3 .left
 
 abbrev its-line : Wrote → List ℕ
-its-line c = line 0 0 (codeOf (set (told c) .answer)) (valueOf (set (told c) .answer))
+its-line c = answerLine 0 0 (set (told c) .answer)
 
-line-is : (c : Wrote) → line 0 0 (c .before .before .code-of .result) (c .before .value-of .result) ≡ its-line c
-line-is c =
-    let e = made (c .before .before .before .before .before .before) in
-    same-line 0 refl (c .before .before .code-of .ensures .0 ∙ ap (λ (o : Outcome). codeOf (o .answer)) e)
-    (c .before .value-of .ensures ∙ ap (λ (o : Outcome). valueOf (o .answer)) e)
+line-is : (c : Wrote) → answerLine 0 0 (c .before .before .before .before .setup .result .answer) ≡ its-line c
+line-is c = ap (λ (o : Outcome). answerLine 0 0 (o .answer)) (made-of c)
+
+counted : (c : Wrote) → c .write-answer .result ≡ length (its-line c)
+counted c = c .write-answer .ensures .0 ∙ ap length (line-is c)
 
 fits : (c : Wrote) → 0 + length (its-line c) ≤ length (now (args (told c) .args .report))
-fits c =
-    let few = line-fits 0 0 (c .before .before .code-of .result) (c .before .value-of .result) (omega arith) (omega arith)
-    (omega (arith, c .before .before .code-of .ensures .1)) (omega (arith, c .before .value-of .ok)) in
-    omega (arith, few, ap length (line-is c), room (told c))
+fits c = omega (arith, c .write-answer .ensures .1, counted c, room (told c))
 
-counted : (c : Wrote) → c .write-line .result ≡ length (its-line c)
-counted c = c .write-line .ensures .0 ∙ ap length (line-is c)
-
-wrote : (c : Wrote) → let space = now (args (told c) .args .report) in c .write-line .last .0 ≡ written (its-line c) (from 0 space)
-wrote c = c .write-line .ensures .1 ∙ ap (λ (w : List ℕ). written w (from 0 (now (args (told c) .args .report)))) (line-is c)
+wrote : (c : Wrote) → let space = now (args (told c) .args .report) in c .write-answer .last .0 ≡ written (its-line c) (from 0 space)
+wrote c = c .write-answer .ensures .2 ∙ ap (λ (w : List ℕ). written w (from 0 (now (args (told c) .args .report)))) (line-is c)
 
 run-calls-requires : tie.Need-run-calls-requires
 run-calls-requires c κs =
     let x = c .before .before .before .before in
     let t = told x in
     let same = same-space 0 (its-line x) (now (args t .args .report)) (fits x) (counted x) (wrote x) in (
-      subst (λ (o : Outcome). SetUp (o .pool)) (sym (made (x .before .before .before .before .before .before))) (set-up _ _ _ _ (accepted x)),
+      subst (λ (o : Outcome). SetUp (o .pool)) (sym (made-of x)) (set-up _ _ _ _ (accepted x)),
       (
         setup-whole _ _ (short t) (room t) _ _ _ _ (is-setup t),
         short t,
-        subst (λ (n : ℕ). x .write-line .result ≤ n) (sym same) (omega (arith, counted x, fits x)),
+        subst (λ (n : ℕ). x .write-answer .result ≤ n) (sym same) (omega (arith, counted x, fits x)),
       ),
     )
 
@@ -131,11 +127,11 @@ returns-5 c =
     let space = now (args t .args .report) in
     let same = same-space 0 (its-line x) space (fits x) (counted x) (wrote x) in
     let space-left :
-    length (after-line 0 (its-line x) space (fits x) (counted x) (wrote x)) - x .write-line .result ≡ length space - length (its-line x) =
+    length (after-line 0 (its-line x) space (fits x) (counted x) (wrote x)) - x .write-answer .result ≡ length space - length (its-line x) =
     omega (arith, same, counted x) in
-    let its-pool = ap (λ (o : Outcome). o .pool) (made (x .before .before .before .before .before .before)) in
+    let its-pool = ap (λ (o : Outcome). o .pool) (made-of x) in
     let left = from-first (now (args t .args .schedule)) its-pool space-left in
-    let after = line-done 0 (its-line x) space (fits x) (counted x) (wrote x) (x .write-line .result) (omega (arith, counted x)) left in
+    let after = line-done 0 (its-line x) space (fits x) (counted x) (wrote x) (x .write-answer .result) (omega (arith, counted x)) left in
     let w = whole-run _ _ _ (accepted-first _ _ (short t) (room t) _ _ _ _ (is-setup t) (accepted x)) in
     (r .run-calls .ensures .0 ∙ after .0 ∙ w .0, r .run-calls .ensures .1 ∙ after .1 ∙ w .1)
 
@@ -145,4 +141,4 @@ run-spec =
     (tie.spec
     returns returns-2 (λ c κs. search needs) (λ c. search needs) (λ c κs. search needs) (λ c κs. search needs) (λ c. search needs) returns-3
     (λ c κs. search needs) (λ c κs. search needs) (λ c κs. search needs) (λ c. search needs) returns-4 (λ c. search needs) (λ c. search needs)
-    (λ c. search needs) (λ c κs. search needs) (λ c κs. search needs) (λ c κs. search needs) run-calls-requires (λ c. search needs) returns-5)
+    (λ c. search needs) (λ c κs. search needs) run-calls-requires (λ c. search needs) returns-5)

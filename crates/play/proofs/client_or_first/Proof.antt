@@ -2,9 +2,9 @@
 use mathlib.Core.Path.{sym}
 use borrow.Author.Tests.{lt-ltb, le-ltb}
 use Rattle.laws.specs.Choices.{chosen, passed}
-use Rattle.turns.specs.Turn.{clientOrFirst}
-use Rattle.turns.proofs.client_or_first.Statement.{statement}
-use Rattle.turns.proofs.client_or_first.Tie as tie
+use Rattle.play.specs.Turn.{clientOrFirst}
+use Rattle.play.proofs.client_or_first.Statement.{statement}
+use Rattle.play.proofs.client_or_first.Tie as tie
 
 returns : tie.Need-returns
 unfolding clientOrFirst

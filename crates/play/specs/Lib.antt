@@ -1,0 +1,4 @@
+pub mod Turn
+pub mod Parts
+pub mod Playable
+pub mod Calls

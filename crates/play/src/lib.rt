@@ -1,0 +1,182 @@
+// One call's turn, played: decided over the pool's parts where they lie, and put into them. The run of a schedule and the public calls play
+// their calls here and nowhere else. Internal: no check 8 is made here.
+ghost use mathlib.Core.Path.{_≡_};
+ghost use mathlib.Core.Bool.{true};
+ghost use mathlib.Core.List.{List};
+ghost use lib.ListN.{set};
+ghost use Rattle.pool.specs.Apply.{apply};
+ghost use Rattle.pool.specs.Valid.{valid};
+ghost use Rattle.play.specs.Turn.{clientOrFirst, turn, played, Turns};
+ghost use Rattle.play.specs.Parts.{poolOf};
+ghost use Rattle.play.specs.Playable.{Playable};
+use dispatch::Numbers;
+use pool::Call;
+use pool::Client;
+use pool::FRAMES;
+use pool::GRANTS;
+use pool::Move;
+use pool::NONE;
+use pool::Outcome;
+use pool::Pool;
+use pool::SLOTS;
+
+// The client whose record is put back: the one with number c, the first where the pool has none such.
+pub fn client_or_first(client_count: u8, c: u8) -> usize
+    ensures { λ r. ⌜ r ≡ clientOrFirst «client_count» c ⌝ }
+{
+    if c < client_count { c as usize } else { 0 }
+}
+
+// The turn of a call, put into the parts of a pool. The clients' records are the caller's: it hands the number and the record of the one that
+// acts, and puts the turn's next record back. `fresh` is the frame to take, looked at by stage 4 alone.
+pub fn play(
+    call: Call,
+    number: usize,
+    client: Client,
+    fresh: u8,
+    size: u8,
+    client_count: u8,
+    cap: u8,
+    hand: &mut u32,
+    free: &mut u8,
+    last: &mut u8,
+    slots: &mut [u8; SLOTS],
+    pages: &mut [u32; FRAMES],
+    pins: &mut [u8; FRAMES],
+    counts: &mut [u8; FRAMES],
+    table_pages: &mut [u32; FRAMES],
+    table_frames: &mut [u8; FRAMES],
+    grant_pages: &mut [u32; GRANTS],
+    grant_frames: &mut [u8; GRANTS],
+) -> Move
+    requires { ⌜ Playable client number size «client_count» (now pins) ⌝ }
+    ensures { λ r. ⌜ ((clients : List Client) →
+        let p =
+        poolOf size «client_count» cap (now (hand .entry)) (now (free .entry)) (now (last .entry)) (now (slots .entry))
+        (now (pages .entry)) (now (pins .entry)) (now (counts .entry)) (now («table_pages» .entry)) (now («table_frames» .entry))
+        clients (now («grant_pages» .entry)) (now («grant_frames» .entry)) in
+        (Turns p call number client fresh → r ≡ turn p call)
+        × (poolOf size «client_count» cap (now (hand .exit)) (now (free .exit)) (now (last .exit)) (now (slots .exit))
+        (now (pages .exit)) (now (pins .exit)) (now (counts .exit)) (now («table_pages» .exit)) (now («table_frames» .exit))
+        (set clients number (r .next)) (now («grant_pages» .exit)) (now («grant_frames» .exit)) ≡ apply p number r)) ⌝ }
+{
+    let total = reads::total(size, client_count);
+    let refused = refusals::turned_by(call, client_count, client, grant_pages);
+    let mut turn = moves::still(client, refused);
+    if refused == 0 {
+        let numbers = Numbers {
+            size,
+            total,
+            cap,
+            hand: *hand,
+            free: *free,
+        };
+        turn = dispatch::call_move(
+            call,
+            client,
+            numbers,
+            fresh,
+            slots,
+            pages,
+            pins,
+            counts,
+            table_pages,
+            table_frames,
+            grant_pages,
+            grant_frames,
+        );
+    }
+    let write = turn.write;
+    let change = turn.grants;
+    *hand = writes::hand_after(*hand, write);
+    *free = writes::free_after(*free, write);
+    *last = writes::last_after(*last, write);
+    writes::put_slots(slots, size, write);
+    writes::put_pages(pages, total, write);
+    writes::put_pins(pins, total, write);
+    writes::put_counts(counts, total, write);
+    writes::put_table_pages(table_pages, total, write);
+    writes::put_table_frames(table_frames, total, write);
+    writes::put_grant_pages(grant_pages, client_count, number, change);
+    writes::put_grant_frames(grant_frames, client_count, number, change);
+    turn
+}
+
+// The turn of a call, played on a copy of a pool that passes check 8.
+pub fn on_copy(pool: Pool, call: Call) -> Outcome
+    requires { ⌜ valid pool ≡ true ⌝ }
+    ensures { λ r. ⌜ r ≡ played pool call ⌝ }
+{
+    let mut hand = pool.hand;
+    let mut free = pool.free;
+    let mut last = pool.last;
+    let mut slots = pool.slots;
+    let mut pages = pool.pages;
+    let mut pins = pool.pins;
+    let mut counts = pool.counts;
+    let mut table_pages = pool.table_pages;
+    let mut table_frames = pool.table_frames;
+    let mut clients = pool.clients;
+    let mut grant_pages = pool.grant_pages;
+    let mut grant_frames = pool.grant_frames;
+    let caller = answers::caller(call);
+    let number = client_or_first(pool.client_count, caller);
+    let client = clients[number];
+    let mut fresh = NONE;
+    if client.stage == 4 {
+        fresh = reads::free_frame(
+            pool.size,
+            pool.client_count,
+            last,
+            &slots,
+            &table_frames,
+            clients,
+            &grant_frames,
+        );
+    }
+    let turn = play(
+        call,
+        number,
+        client,
+        fresh,
+        pool.size,
+        pool.client_count,
+        pool.cap,
+        &mut hand,
+        &mut free,
+        &mut last,
+        &mut slots,
+        &mut pages,
+        &mut pins,
+        &mut counts,
+        &mut table_pages,
+        &mut table_frames,
+        &mut grant_pages,
+        &mut grant_frames,
+    );
+    let next = turn.next;
+    let answer = turn.answer;
+    let counted = turn.counted;
+    clients[number] = next;
+    Outcome {
+        answer,
+        counted,
+        pool: Pool {
+            size: pool.size,
+            client_count: pool.client_count,
+            cap: pool.cap,
+            hand,
+            free,
+            last,
+            slots,
+            pages,
+            pins,
+            counts,
+            table_pages,
+            table_frames,
+            clients,
+            grant_pages,
+            grant_frames,
+        },
+    }
+}
