@@ -8,7 +8,7 @@
 ghost use mathlib.Core.Path.{_≡_};
 ghost use Prim.Native.Nat.{_+_, _-_, _≤_};
 ghost use lib.ListN.{length};
-ghost use Rattle.pool.specs.Schedule.{endOf, reportOf};
+ghost use Rattle.pool.specs.Schedule.{ends, endOf, reportOf};
 ghost use Rattle.report.specs.Lines.{written};
 ghost use Rattle.schedule.specs.Rest.{SetUp, answerLine, endAfter, reportAfter, stopped, rest};
 use pool::Answer;
@@ -26,6 +26,17 @@ fn write_answer(space: &mut [u8], records: u32, client: u8, answer: Answer) -> u
     let code = answers::code_of(answer);
     let value = answers::value_of(answer);
     report::write_line(space, records, client, code, value)
+}
+
+// The run ends without a line.
+fn ends(records: u32, bytes: usize, refusal: u8) -> Ended
+    ensures { λ r. ⌜ r ≡ endAfter bytes (ends records refusal) ⌝ }
+{
+    Ended {
+        records,
+        bytes,
+        refusal,
+    }
 }
 
 // A record ends the run by a refusal; its line names client 0.
@@ -67,11 +78,7 @@ fn run_calls(schedule: &[u8], report: &mut [u8], first: Pool, start: usize) -> E
     let mut bytes = start;
     while place < schedule.len() {
         if report.len() - bytes < 24 {
-            return Ended {
-                records,
-                bytes,
-                refusal: 2,
-            };
+            return ends(records, bytes, 2);
         }
         let reading = records::read(&schedule[place..], false);
         let Reading::Asked(call) = reading else {
@@ -119,11 +126,7 @@ fn run_calls(schedule: &[u8], report: &mut [u8], first: Pool, start: usize) -> E
         bytes += write_answer(&mut report[bytes..], records, caller, answer);
         records += 1;
     }
-    Ended {
-        records,
-        bytes,
-        refusal: 0,
-    }
+    ends(records, bytes, 0)
 }
 
 // The run of a whole schedule, its report written at the start of the space that is lent.
@@ -132,18 +135,10 @@ pub fn run(schedule: &[u8], report: &mut [u8]) -> Ended
         × (now (report .exit) ≡ reportOf (now (schedule .entry)) (now (report .entry))) ⌝ }
 {
     if schedule.len() > 16384 {
-        return Ended {
-            records: 0,
-            bytes: 0,
-            refusal: 1,
-        };
+        return ends(0, 0, 1);
     }
     if report.len() < 24 {
-        return Ended {
-            records: 0,
-            bytes: 0,
-            refusal: 2,
-        };
+        return ends(0, 0, 2);
     }
     let reading = records::read(schedule, true);
     let Reading::Setup(size, client_count, cap, hand) = reading else {

@@ -16,20 +16,20 @@ use Rattle.pool.specs.declared.Reading.the-variants.{Setup}
 use Rattle.report.specs.Lines.{written}
 use Rattle.schedule.specs.Rest.{SetUp, answerLine}
 use Rattle.schedule.proofs.Readings.{first-unread}
-use Rattle.schedule.proofs.Runs.{from, after-line, end-here, report-here, same-space, line-done, whole-run}
+use Rattle.schedule.proofs.Runs.{from, after-line, report-here, same-space, line-done, whole-run}
 use Rattle.schedule.proofs.First.{too-long, no-room, unread-first, setup-whole, refused-first, set-up, accepted-first, from-first}
 use Rattle.schedule.proofs.run.Statement.{statement}
 use Rattle.schedule.proofs.run.Tie as tie
 
 returns : tie.Need-returns
 returns c =
-    let w = whole-run _ _ _ (too-long _ _ (c .if1 .taken)) in
-    (sym (end-here 0 0 1) ∙ w .0, sym (report-here 0 0 1 _) ∙ w .1)
+    let w = whole-run _ _ _ (too-long _ _ (c .before .if1 .taken)) in
+    (c .ends .ensures ∙ w .0, sym (report-here 0 0 1 _) ∙ w .1)
 
 returns-2 : tie.Need-returns-2
 returns-2 c =
-    let w = whole-run _ _ _ (no-room _ _ (c .before .if1 .left) (c .if2 .taken)) in
-    (sym (end-here 0 0 2) ∙ w .0, sym (report-here 0 0 2 _) ∙ w .1)
+    let w = whole-run _ _ _ (no-room _ _ (c .before .before .if1 .left) (c .before .if2 .taken)) in
+    (c .ends2 .ensures ∙ w .0, sym (report-here 0 0 2 _) ∙ w .1)
 
 returns-3 : tie.Need-returns-3
 returns-3 c =
@@ -139,6 +139,6 @@ pub run-spec : {M : Type 1} → statement M
 run-spec =
     tie.close
     (tie.spec
-    returns returns-2 (λ c κs. search needs) (λ c. search needs) (λ c κs. search needs) (λ c κs. search needs) (λ c. search needs) returns-3
+    (λ c κs. search needs) returns (λ c κs. search needs) returns-2 (λ c κs. search needs) (λ c. search needs) (λ c κs. search needs) (λ c κs. search needs) (λ c. search needs) returns-3
     (λ c κs. search needs) (λ c κs. search needs) (λ c κs. search needs) (λ c. search needs) returns-4 (λ c. search needs) (λ c. search needs)
     (λ c. search needs) (λ c κs. search needs) run-calls-requires (λ c. search needs) returns-5)

@@ -27,7 +27,7 @@ use Rattle.play.specs.Playable.{recordAt, number-small, frames-searchable, play
 use Rattle.invariant.proofs.Valid.{valid-reached}
 use Rattle.schedule.specs.Rest.{answerLine}
 use Rattle.schedule.proofs.Readings.{later-unread}
-use Rattle.schedule.proofs.Runs.{from, from-length, end-here, report-here}
+use Rattle.schedule.proofs.Runs.{from, from-length, report-here}
 use Rattle.schedule.proofs.Going.{Going, at-start, comes-to, all-read, full, unread, next}
 use Rattle.schedule.proofs.run_calls.Statement.{statement}
 use Rattle.schedule.proofs.run_calls.Tie as tie
@@ -124,13 +124,14 @@ sub-if1 : tie.Need-sub-if1 Inv-loop μ-loop
 sub-if1 c = omega (arith, c .before .loop .inv .room)
 
 same-length : tie.Need-same-length Inv-loop μ-loop
-same-length c = c .before .before .loop .inv .size
+same-length c = c .before .before .before .loop .inv .size
 
 returns : tie.Need-returns Inv-loop μ-loop
 returns c =
-    let l = c .before .before .loop in
-    let r = comes-to (l .inv) _ (full (l .inv) (c .before .loop-test .taken) (c .if1 .taken)) in
-    (sym (end-here (l .bytes) (l .records) 2) ∙ r .0, sym (report-here (l .bytes) (l .records) 2 (l .report)) ∙ r .1)
+    let here = c .before in
+    let l = here .before .before .loop in
+    let r = comes-to (l .inv) _ (full (l .inv) (here .before .loop-test .taken) (here .if1 .taken)) in
+    (c .ends .ensures ∙ r .0, sym (report-here (l .bytes) (l .records) 2 (l .report)) ∙ r .1)
 
 stop-requires : tie.Need-stop-requires Inv-loop μ-loop
 stop-requires c κs =
@@ -174,13 +175,13 @@ loop-less : tie.Need-loop-less Inv-loop μ-loop
 loop-less c = omega (arith, played-of (c .before .before .before .before .before) .before .before .before .before .before .before .loop-test .taken)
 
 same-length-3 : tie.Need-same-length-3 Inv-loop μ-loop
-same-length-3 c = c .before .loop .inv .size
+same-length-3 c = c .before .before .loop .inv .size
 
 returns-3 : tie.Need-returns-3 Inv-loop μ-loop
 returns-3 c =
-    let l = c .before .loop in
-    let r = comes-to (l .inv) _ (all-read (l .inv) (c .loop-test .left)) in
-    (sym (end-here (l .bytes) (l .records) 0) ∙ r .0, sym (report-here (l .bytes) (l .records) 0 (l .report)) ∙ r .1)
+    let l = c .before .before .loop in
+    let r = comes-to (l .inv) _ (all-read (l .inv) (c .before .loop-test .left)) in
+    (c .ends2 .ensures ∙ r .0, sym (report-here (l .bytes) (l .records) 0 (l .report)) ∙ r .1)
 
 -- ---- a record's turn
 
@@ -222,9 +223,10 @@ pub run-calls-spec : {M : Type 1} → statement M
 run-calls-spec =
     tie.close
     (tie.spec
-    Inv-loop μ-loop loop-holds sub-if1 same-length returns (λ c. search needs) (λ c. search needs) (λ c. search needs) (λ c κs. search needs)
+    Inv-loop μ-loop loop-holds sub-if1 (λ c κs. search needs) same-length returns (λ c. search needs) (λ c. search needs) (λ c. search needs) (λ c κs. search needs)
     (λ c. search needs) (λ c κs. search needs) stop-requires same-length-2 returns-2 add-place (λ c κs. search needs) (λ c κs. search needs)
     (λ c. omega (arith, in-range c)) in-range free-frame-requires play-requires
     (λ c. omega (arith, in-range (numbered (lent (c .before .before))))) (λ c. in-range (numbered (lent (c .before .before))))
     (λ c. loop-of (played-of (c .before)) .loop .inv .room) (λ c. loop-of (played-of (c .before)) .loop .inv .room) (λ c. search needs)
-    write-answer-requires add-bytes add-records loop-less loop-again same-length-3 returns-3)
+    write-answer-requires add-bytes add-records loop-less loop-again (λ c κs. search needs) same-length-3
+    returns-3)
