@@ -11,16 +11,17 @@ use lib.Dec.{eqb, ltb}
 use lib.ListN.{length, drop}
 use Rattle.pool.specs.Choose.{choose, both}
 use Rattle.pool.specs.Answers.{refusalOf, codeOf, valueOf}
-use Rattle.pool.specs.Calls.{turnedDown, noPool, setupOf}
+use Rattle.pool.specs.Calls.{turnedDown, noPool, setupOf, SetUp}
 use Rattle.pool.specs.Schedule.{ends, read, lengthOf, performed, endsRun, namedBy, line, lineFor, runFrom, ran}
 use Rattle.pool.specs.declared.Answer.{Answer}
-use Rattle.pool.specs.declared.Answer.the-variants.{Refused}
+use Rattle.pool.specs.declared.Answer.the-variants.{Done, Refused}
 use Rattle.pool.specs.declared.Outcome.{Outcome}
 use Rattle.pool.specs.declared.Pool.{Pool}
 use Rattle.pool.specs.declared.Reading.the-variants.{Setup, Unreadable}
 use Rattle.laws.specs.Choices.{by-test, chosen, passed}
+use Rattle.laws.specs.Setups.{set-up}
 use Rattle.records.specs.Whole.{read-fits, refused-ends, unread-ends}
-use Rattle.schedule.specs.Rest.{stopped, rest, SetUp}
+use Rattle.schedule.specs.Rest.{stopped, rest}
 use Rattle.schedule.proofs.Runs.{before, stop-line, no-space, stops, goes-on}
 
 -- ---- a setup's answer
@@ -32,11 +33,13 @@ module _ (size clients cap hand : ℕ) where
       by-test (λ (o : Outcome). refusal ≡ refusalOf (o .answer) → refusal ≢ 0 → (o .answer ≡ Refused refusal) × (endsRun (Refused refusal) ≡ true))
       (λ _ u z. absurd (z u)) (λ _ u _. (ap Refused (sym u), refused-ends refusal (omega arith) (omega arith)))
 
-  pub set-up : refusalOf (setupOf size clients cap hand .answer) ≡ 0 → SetUp (setupOf size clients cap hand .pool)
+  pub not-refused : refusalOf (setupOf size clients cap hand .answer) ≡ 0 → SetUp (setupOf size clients cap hand .pool)
   unfolding setupOf refusalOf
-  set-up =
-      by-test (λ (o : Outcome). refusalOf (o .answer) ≡ 0 → SetUp (o .pool))
-      (λ ok _. record { size = size; clients = clients; cap = cap; hand = hand; accepted = ok; made = refl }) (λ _ e. let z : ⊥ = omega arith in absurd z)
+  not-refused e = set-up size clients cap hand (done e)
+    where
+      done : refusalOf (setupOf size clients cap hand .answer) ≡ 0 → setupOf size clients cap hand .answer ≡ Done size
+      done =
+          by-test (λ (o : Outcome). refusalOf (o .answer) ≡ 0 → o .answer ≡ Done size) (λ _ _. refl) (λ _ e. let z : ⊥ = omega arith in absurd z)
 
 -- an answer that is no refusal does not end the run
 no-refusal : (x : Answer) → refusalOf x ≡ 0 → endsRun x ≡ false

@@ -9,7 +9,7 @@ use lib.Dec.{eqb, ltb}
 use lib.ListN.{length, take, drop, length-drop}
 use lib.Seq.{drop-drop}
 use Rattle.pool.specs.Choose.{choose, both}
-use Rattle.pool.specs.Calls.{turnedDown, caller, callOf}
+use Rattle.pool.specs.Calls.{SetUp, turnedDown, caller, callOf}
 use Rattle.pool.specs.Schedule.{Ran, ends, read, lengthOf, performed, endsRun, namedBy, lineFor, runFrom}
 use Rattle.pool.specs.declared.Answer.{Answer}
 use Rattle.pool.specs.declared.Call.{Call}
@@ -18,12 +18,12 @@ use Rattle.pool.specs.declared.Pool.{Pool}
 use Rattle.pool.specs.declared.Reading.{Reading}
 use Rattle.pool.specs.declared.Reading.the-variants.{Asked, Unreadable}
 use Rattle.invariant.proofs.Reached.{Reached}
-use Rattle.invariant.proofs.Setup.{reached-setup}
+use Rattle.invariant.proofs.Setup.{first-reached}
 use Rattle.invariant.proofs.Calls.{reached-call}
 use Rattle.records.specs.Whole.{read-fits, unread-ends}
 use Rattle.report.specs.Lines.{written}
 use Rattle.play.specs.Turn.{played}
-use Rattle.schedule.specs.Rest.{answerLine, endAfter, reportAfter, stopped, rest, SetUp}
+use Rattle.schedule.specs.Rest.{answerLine, endAfter, reportAfter, stopped, rest}
 use Rattle.schedule.proofs.Runs.{before, from, from-all, after-line, line-written, same-space, line-done}
 use Rattle.schedule.proofs.Runs.{stop-line, at-end, no-space, stops, goes-on}
 use Rattle.schedule.proofs.Turned as Turned
@@ -55,7 +55,7 @@ pub at-start : {s space : List ℕ} {first : Pool} {start : ℕ} → SetUp first
     Going s space first start first 10 1 start space
 at-start set long short room =
     record {
-      reached = subst Reached (sym (set .made)) (reached-setup _ _ _ _ (set .accepted));
+      reached = first-reached set;
       at = refl;
       some = omega arith;
       inside = long;

@@ -1,13 +1,9 @@
 -- What a run leaves, told from the middle: `records` records are done, `bytes` bytes of the report space are written, and r is what the rest of the
 -- run comes to. Assumes nothing.
-use mathlib.Core.Path.{_≡_}
-use mathlib.Core.Bool.{true}
 use mathlib.Core.List.{List, _++_}
 use Prim.Native.Nat.{ℕ, _+_, _-_}
 use lib.ListN.{length, take, drop}
 use Rattle.pool.specs.Answers.{codeOf, valueOf}
-use Rattle.pool.specs.Valid.{numbersOk}
-use Rattle.pool.specs.Calls.{fresh}
 use Rattle.pool.specs.Schedule.{Ran, line, runFrom}
 use Rattle.pool.specs.declared.Answer.{Answer}
 use Rattle.pool.specs.declared.Ended.{Ended}
@@ -31,12 +27,3 @@ stopped records refusal = record { records = records; refusal = refusal; lines =
 -- The rest of the run of schedule s, whose next record starts at byte `place`. Each record before it took one of the run's fuel.
 abbrev pub rest : List ℕ → Pool → ℕ → ℕ → ℕ → Ran
 rest s p records place space = runFrom (length s + 1 - records) p records (drop place s) space
-
--- a pool that an accepted setup made
-pub record SetUp (p : Pool) : Type 0 where
-  pub size : ℕ
-  pub clients : ℕ
-  pub cap : ℕ
-  pub hand : ℕ
-  pub accepted : numbersOk size clients cap ≡ true
-  pub made : p ≡ fresh size clients cap hand

@@ -8,9 +8,10 @@
 ghost use mathlib.Core.Path.{_≡_};
 ghost use Prim.Native.Nat.{_+_, _-_, _≤_};
 ghost use lib.ListN.{length};
+ghost use Rattle.pool.specs.Calls.{SetUp};
 ghost use Rattle.pool.specs.Schedule.{ends, endOf, reportOf};
 ghost use Rattle.report.specs.Lines.{written};
-ghost use Rattle.schedule.specs.Rest.{SetUp, answerLine, endAfter, reportAfter, stopped, rest};
+ghost use Rattle.schedule.specs.Rest.{answerLine, endAfter, reportAfter, stopped, rest};
 use pool::Answer;
 use pool::Ended;
 use pool::NONE;

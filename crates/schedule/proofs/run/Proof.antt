@@ -9,15 +9,15 @@ use Prim.Native.Nat.{ℕ, _+_, _-_, _≤_}
 use lib.ListN.{length}
 use denote.Ref.{now}
 use Rattle.pool.specs.Answers.{refusalOf}
-use Rattle.pool.specs.Calls.{setupOf}
+use Rattle.pool.specs.Calls.{SetUp, setupOf}
 use Rattle.pool.specs.Schedule.{read}
 use Rattle.pool.specs.declared.Outcome.{Outcome}
 use Rattle.pool.specs.declared.Reading.the-variants.{Setup}
 use Rattle.report.specs.Lines.{written}
-use Rattle.schedule.specs.Rest.{SetUp, answerLine}
+use Rattle.schedule.specs.Rest.{answerLine}
 use Rattle.schedule.proofs.Readings.{first-unread}
 use Rattle.schedule.proofs.Runs.{from, after-line, report-here, same-space, line-done, whole-run}
-use Rattle.schedule.proofs.First.{too-long, no-room, unread-first, setup-whole, refused-first, set-up, accepted-first, from-first}
+use Rattle.schedule.proofs.First.{too-long, no-room, unread-first, setup-whole, refused-first, not-refused, accepted-first, from-first}
 use Rattle.schedule.proofs.run.Statement.{statement}
 use Rattle.schedule.proofs.run.Tie as tie
 
@@ -111,7 +111,7 @@ run-calls-requires c κs =
     let x = c .before .before .before .before in
     let t = told x in
     let same = same-space 0 (its-line x) (now (args t .args .report)) (fits x) (counted x) (wrote x) in (
-      subst (λ (o : Outcome). SetUp (o .pool)) (sym (made-of x)) (set-up _ _ _ _ (accepted x)),
+      subst (λ (o : Outcome). SetUp (o .pool)) (sym (made-of x)) (not-refused _ _ _ _ (accepted x)),
       (
         setup-whole _ _ (short t) (room t) _ _ _ _ (is-setup t),
         short t,
