@@ -38,7 +38,7 @@ table =
       stalled = (refl, refl, refl);
       meanwhile = (refl, refl, refl, refl);
       check8 = (refl, refl);
-      handed-calls = (refl, refl);
+      handed-calls = (refl, refl, refl, refl, refl, refl, refl);
       largest = (refl, refl);
       report = refl;
     }

@@ -292,11 +292,12 @@ busyRunReset =
 
 -- ---- and of two
 
--- Client 0 has claimed the only slot and not filled it; client 1's sweep meets the empty slot, which is a busy visit.
+-- Client 1 has read that a slot is free when client 0 claims the only one, and does not fill it yet. Client 1 reads again; its sweep meets the
+-- empty slot, which is a busy visit.
 abbrev pub claimedSlot : Case
 claimedSlot =
-    setup 1 2 3 0 after Begin 0 9 ∷ steps 0 4 takes 5 counts refused shows
-    asks 1 5 sweeps (Refused 15) ++ slot at 0 is none ∷ free is 0 ∷ own at 1 is none ∷ goes 0 (8 ∷ 9 ∷ 18 ∷ [])
+    setup 1 2 3 0 after Begin 1 5 ∷ steps 1 3 ++ Begin 0 9 ∷ steps 0 4 takes 4 counts refused shows
+    goes 1 (5 ∷ 10 ∷ 11 ∷ []) ++ Step 1 gets Refused 15 ∷ slot at 0 is none ∷ free is 0 ∷ own at 1 is none ∷ goes 0 (8 ∷ 9 ∷ 18 ∷ [])
 
 -- A sweep of three slots from slot 2, which client 1 has claimed and not filled, over slot 0, whose page has two grants, and slot 1, whose page
 -- has one: an empty slot and each number of pins above 0 is one busy visit, and the third is refusal 15.
@@ -409,14 +410,14 @@ computed x =
 abbrev pub Holds : Case → Type 0
 Holds x = computed x ≡ x
 
--- ---- handed pools: as a setup leaves one of two slots, four frames, one client and count cap 1, but for a few numbers
+-- ---- handed pools: as a setup leaves one of two slots, four frames, one client and count cap 3, but for a few numbers
 
 -- another client, another grant of its, another number
 abbrev pub handedOn : Pool → Client → GrantChange → Write → Pool
 handedOn p k grants write = apply p 0 (completes 0 k grants write)
 
 abbrev pub handed : Client → GrantChange → Write → Pool
-handed k grants write = handedOn (fresh 2 1 1 0) k grants write
+handed k grants write = handedOn (fresh 2 1 3 0) k grants write
 
 abbrev pub with-client : Client → Pool
 with-client k = handed k Same Keep
@@ -452,7 +453,7 @@ ranges =
     ∷ (λ f. with-write (TakeFrame f 9 (pinned 1) 1)) upTo 3
     ∷ (λ f. with-write (PutSlot 1 f)) upTo 3
     ∷ (λ n. with-write (PutPins 3 (pinned n))) upTo 128
-    ∷ (λ n. with-write (PutCount 3 n)) upTo 1
+    ∷ (λ n. with-write (PutCount 3 n)) upTo 3
     ∷ (λ f. with-write (PutEntry 3 9 f)) upTo 3
     ∷ (λ n. with-client (standing (withOwn (resting 0) 0) n)) upTo 23
     ∷ (λ i. with-client (withPlace (resting 0) i)) upTo 1
@@ -480,20 +481,55 @@ broken = map pastLimit ranges ++ map with-client (lacking ++ keeping)
 abbrev pub Check8 : List Pool → Bool → Type 0
 Check8 pools answer = map valid pools ≡ map (λ _. answer) pools
 
-abbrev pub Plays : Pool → List Line → Type 0
-Plays p lines = played p zeroTally lines .lines ≡ lines
+-- ---- calls on handed pools: one step each, from what no short run leads up to
+
+pub record HandedCase : Type 0 where
+  pub pool : Pool
+  pub lines : List Line
+
+infix 10 _plays_
+abbrev pub _plays_ : Pool → List Line → HandedCase
+p plays lines = record { pool = p; lines = lines }
+
+-- the lines are what the pool gives
+abbrev pub Plays : HandedCase → Type 0
+Plays x = played (x .pool) zeroTally (x .lines) .lines ≡ x .lines
 
 -- A frame with 128 pins gets none more: stage 2's action would break a range, so the call is refused as 8 and changes nothing.
-abbrev pub fullyPinned : Type 0
+abbrev pub fullyPinned : HandedCase
 fullyPinned =
-    Plays (handed (standing (withFound (resting 0) 0) 2) Same (PutPins 0 (pinned 128)))
-    (Step 0 gets Refused 8 ∷ pins at 0 is pinned 128 ∷ found at 0 is 0 ∷ [])
+    handed (standing (withFound (resting 0) 0) 2) Same (PutPins 0 (pinned 128)) plays
+    Step 0 gets Refused 8 ∷ pins at 0 is pinned 128 ∷ found at 0 is 0 ∷ []
 
--- Stage 20 evicts an own frame of one pin; one of two it only forgets.
-abbrev pub ownPinnedTwice : Type 0
+-- Stage 20 evicts an own frame of one pin; one of two pins it only forgets.
+abbrev pub ownPinnedTwice : HandedCase
 ownPinnedTwice =
-    Plays (handed (standing (withFound (withOwn (resting 0) 0) 1) 20) Same (PutPins 0 (pinned 2)))
-    (Step 0 gets Working 21 ∷ pins at 0 is pinned 2 ∷ own at 0 is none ∷ [])
+    handed (standing (withFound (withOwn (resting 0) 0) 1) 20) Same (PutPins 0 (pinned 2)) plays
+    Step 0 gets Working 21 ∷ pins at 0 is pinned 2 ∷ own at 0 is none ∷ []
+
+-- A frame that is taken again has count 1, whatever its count was.
+abbrev pub takenAgain : HandedCase
+takenAgain = handed (standing (resting 0) 4) Same (PutCount 0 3) plays Step 0 gets Working 5 ∷ own at 0 is 0 ∷ count at 0 is 1 ∷ []
+
+-- The search starts after frame 2, at 3, which slot 0 names, and goes round the end to 0.
+abbrev pub searchedRound : HandedCase
+searchedRound =
+    handedOn (with-write (TakeFrame 2 9 evicted 0)) (standing (resting 0) 4) Same (PutSlot 0 3) plays
+    Step 0 gets Working 5 ∷ own at 0 is 0 ∷ []
+
+-- Stage 21 raises a count by one, as stage 3 does.
+abbrev pub joinRaises : HandedCase
+joinRaises = handed (standing (withFound (resting 0) 0) 21) Same (PutCount 0 2) plays Step 0 gets Granted 0 ∷ count at 0 is 3 ∷ []
+
+-- The page is mapped to a third frame, neither the client's own nor the one it found or evicted: 22 does not replace that, and 17 does not remove
+-- it, though its frame is evicted.
+abbrev pub notReplaced : HandedCase
+notReplaced =
+    handed (standing (withFound (withOwn (resting 0) 0) 1) 22) Same (PutEntry 0 0 2) plays Step 0 gets Working 23 ∷ lookup at 0 is 2 ∷ []
+
+abbrev pub notRemoved : HandedCase
+notRemoved =
+    handed (standing (withVictim (withOwn (resting 0) 0) 1) 17) Same (PutEntry 0 0 2) plays Step 0 gets Working 18 ∷ lookup at 0 is 2 ∷ []
 
 -- ---- P1 once more, as a file and its report
 
@@ -526,6 +562,7 @@ pub record Proved : Type 0 where
   pub stalled : Holds fillRound × Holds stalledVictim × Holds stalledFound
   pub meanwhile : Holds pinnedMeanwhile × Holds evictedMeanwhile × Holds swappedMeanwhile × Holds foundRemoved
   pub check8 : Check8 sound true × Check8 broken false
-  pub handed-calls : fullyPinned × ownPinnedTwice
+  pub handed-calls :
+      Plays fullyPinned × Plays ownPinnedTwice × Plays takenAgain × Plays searchedRound × Plays joinRaises × Plays notReplaced × Plays notRemoved
   pub largest : (up 4294967294 ≡ 4294967295) × (up 4294967295 ≡ 4294967295)
   pub report : ran file 49152 ≡ record { records = 12; refusal = 0; lines = codes listing }
