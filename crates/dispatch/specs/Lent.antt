@@ -1,5 +1,5 @@
 -- What the code reads of the arrays that it is lent is what the definitions read of the pool. Assumes nothing.
-use mathlib.Core.Path.{_≡_, sym, ap}
+use mathlib.Core.Path.{_≡_, refl, sym, ap, _∙_}
 use mathlib.Core.Logic.{_⊎_, inl, inr, ⊎-elim}
 use mathlib.Core.List.{List}
 use Prim.Native.Nat.{ℕ, zero, suc, _<_}
@@ -15,15 +15,16 @@ use Rattle.pool.specs.Calls.{caller, beginMove, releaseMove, moveOf}
 use Rattle.reads.specs.Lists.{entryIn, entry-in, unusedIn, unused-in, grantIn, grant-in}
 use Rattle.pool.specs.declared.Call.the-variants.{Begin, Step, Release}
 use Rattle.pool.specs.declared.Client.{Client}
+use Rattle.pool.specs.declared.Move.{Move}
 use Rattle.pool.specs.declared.Pool.{Pool}
 use Rattle.dispatch.specs.declared.Numbers.{Numbers}
 use Rattle.dispatch.specs.Lends.{Lends, Asks}
 
--- ---- the move of a client that stands at stage s
+-- ---- the move of a client that stands at stage s: that of the row of its stage
 
-pub at-stage : (p : Pool) (k : Client) (s : ℕ) → k .stage ≡ s → getD stages s noStage p k ≡ stageMove p k
+pub at-stage : (p : Pool) (k : Client) (s : ℕ) {m : Move} → k .stage ≡ s → m ≡ getD stages s noStage p k → m ≡ stageMove p k
 unfolding stageMove
-at-stage p k s e = sym (ap (λ (n : ℕ). getD stages n noStage p k) e)
+at-stage p k s e row = row ∙ sym (ap (λ (n : ℕ). getD stages n noStage p k) e)
 
 -- s is none of the numbers 1 to n
 abbrev pub NoneTo : ℕ → ℕ → Type 0
@@ -39,7 +40,7 @@ pub no-stage : (p : Pool) (k : Client) → NoneTo 23 (k .stage) → stuck k ≡ 
 unfolding stageMove
 no-stage p k r =
     let past : 23 < k .stage → getD stages (k .stage) noStage ≡ noStage = λ h. List·getD-eq-default stages noStage {n = k .stage} (omega arith) in
-    ⊎-elim (at-stage p k 0) (λ h. sym (ap (λ (f : Stage). f p k) (past h))) (none-left 23 (k .stage) r)
+    ⊎-elim (λ e. at-stage p k 0 e refl) (λ h. sym (ap (λ (f : Stage). f p k) (past h))) (none-left 23 (k .stage) r)
 
 -- ---- what the code reads
 

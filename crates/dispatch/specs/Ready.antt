@@ -15,10 +15,10 @@ module _ (p : Pool) (v : valid p ≡ true) where
   in-range : Ranged p
   in-range = ranged p v
 
-  pub some-slot : 0 < p .size
+  some-slot : 0 < p .size
   some-slot = in-range .numbers .some-slot
 
-  pub slots-fit : p .size ≤ maxSize
+  slots-fit : p .size ≤ maxSize
   slots-fit = in-range .numbers .slots
 
   pub some-client : 0 < clientCount p
@@ -27,17 +27,17 @@ module _ (p : Pool) (v : valid p ≡ true) where
   pub clients-fit : clientCount p ≤ maxClients
   clients-fit = in-range .numbers .clients
 
-  pub pins-fit : (f : ℕ) → pins p f ≤ pinned maxPins
+  pins-fit : (f : ℕ) → pins p f ≤ pinned maxPins
   pins-fit = pins-low p in-range
 
   module _ (c : ℕ) (h : c < clientCount p) where
     pub grants-fit : client p c .held ≤ maxHeld
     grants-fit = in-range .client c h .counts .held
 
-    pub place-in : client p c .place < p .size
+    place-in : client p c .place < p .size
     place-in = in-range .client c h .counts .place
 
-    pub busy-in : client p c .busy < p .size
+    busy-in : client p c .busy < p .size
     busy-in = in-range .client c h .counts .busy
 
   pub searchable : Searchable p

@@ -27,7 +27,7 @@ pub struct Numbers {
 }
 
 // The 23 stages: the move of a client by the stage that it stands at. `fresh` is the frame to take, which stage 4 alone looks at.
-pub fn stage_move<'a>(
+fn stage_move<'a>(
     client: Client,
     n: Numbers,
     fresh: u8,

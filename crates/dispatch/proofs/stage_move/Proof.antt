@@ -19,107 +19,85 @@ returns : tie.Need-returns
 unfolding lookup
 returns c =
     λ p l f.
-    let m = c .before .before in
-    c .stage1 .ensures ∙ (simp (c .before .lookup .ensures, lent-entry l, lent-mapped l)) ∙ at-stage p (m .before .args .client) 1 (m .match .keys1)
+    at-stage p _ 1 (c .before .before .match .keys1)
+    (c .stage1 .ensures ∙ simp (c .before .lookup .ensures, lent-entry l, lent-mapped l))
 
 returns-2 : tie.Need-returns-2
-returns-2 c =
-    λ p l f.
-    let m = c .before .before in
-    c .stage2 .ensures ∙ (simp (c .before .byte-at .ensures, lent-pins l)) ∙ at-stage p (m .before .args .client) 2 (m .match .keys2)
+returns-2 c = λ p l f. at-stage p _ 2 (c .before .before .match .keys2) (c .stage2 .ensures ∙ simp (c .before .byte-at .ensures, lent-pins l))
 
 returns-3 : tie.Need-returns-3
 returns-3 c =
     λ p l f.
-    let m = c .before .before in
-    c .stage3 .ensures ∙ (simp (c .before .byte-at2 .ensures, lent-count l, l .cap)) ∙ at-stage p (m .before .args .client) 3 (m .match .keys3)
+    at-stage p _ 3 (c .before .before .match .keys3)
+    (c .stage3 .ensures ∙ simp (c .before .byte-at2 .ensures, lent-count l, l .cap))
 
 returns-4 : tie.Need-returns-4
 returns-4 c =
     λ p l f.
-    let m = c .before in
-    let k = m .before .args .client in
-    c .stage4 .ensures ∙ ap (stage4 k) (f (m .match .keys4)) ∙ at-stage p k 4 (m .match .keys4)
+    let four = c .before .match .keys4 in
+    at-stage p _ 4 four (c .stage4 .ensures ∙ ap (stage4 (c .before .before .args .client)) (f four))
 
 returns-5 : tie.Need-returns-5
-returns-5 c =
-    λ p l f.
-    let m = c .before in
-    c .stage5 .ensures ∙ (simp (l .free)) ∙ at-stage p (m .before .args .client) 5 (m .match .keys5)
+returns-5 c = λ p l f. at-stage p _ 5 (c .before .match .keys5) (c .stage5 .ensures ∙ simp (l .free))
 
 returns-6 : tie.Need-returns-6
-returns-6 c =
-    λ p l f.
-    let m = c .before in
-    c .stage6 .ensures ∙ (simp (l .free)) ∙ at-stage p (m .before .args .client) 6 (m .match .keys6)
+returns-6 c = λ p l f. at-stage p _ 6 (c .before .match .keys6) (c .stage6 .ensures ∙ simp (l .free))
 
 returns-7 : tie.Need-returns-7
-returns-7 c =
-    λ p l f.
-    let m = c .before in
-    c .stage7 .ensures ∙ (simp (l .hand, l .size)) ∙ at-stage p (m .before .args .client) 7 (m .match .keys7)
+returns-7 c = λ p l f. at-stage p _ 7 (c .before .match .keys7) (c .stage7 .ensures ∙ simp (l .hand, l .size))
 
 returns-8 : tie.Need-returns-8
 returns-8 c =
     λ p l f.
-    let m = c .before .before in
-    c .stage8 .ensures ∙ (simp (c .before .slot-at .ensures, lent-slot l, l .size)) ∙ at-stage p (m .before .args .client) 8 (m .match .keys8)
+    at-stage p _ 8 (c .before .before .match .keys8)
+    (c .stage8 .ensures ∙ simp (c .before .slot-at .ensures, lent-slot l, l .size))
 
 returns-9 : tie.Need-returns-9
-returns-9 c =
-    λ p l f.
-    let m = c .before in
-    c .stage9 .ensures ∙ (simp (l .hand)) ∙ at-stage p (m .before .args .client) 9 (m .match .keys9)
+returns-9 c = λ p l f. at-stage p _ 9 (c .before .match .keys9) (c .stage9 .ensures ∙ simp (l .hand))
 
 returns-10 : tie.Need-returns-10
-returns-10 c =
-    λ p l f.
-    let m = c .before in
-    c .stage10 .ensures ∙ (simp (l .hand, l .size)) ∙ at-stage p (m .before .args .client) 10 (m .match .keys10)
+returns-10 c = λ p l f. at-stage p _ 10 (c .before .match .keys10) (c .stage10 .ensures ∙ simp (l .hand, l .size))
 
 returns-11 : tie.Need-returns-11
 returns-11 c =
     λ p l f.
-    let m = c .before .before in
-    c .stage11 .ensures ∙ (simp (c .before .slot-at2 .ensures, lent-slot l, l .size)) ∙ at-stage p (m .before .args .client) 11 (m .match .keys11)
+    at-stage p _ 11 (c .before .before .match .keys11)
+    (c .stage11 .ensures ∙ simp (c .before .slot-at2 .ensures, lent-slot l, l .size))
 
 returns-12 : tie.Need-returns-12
 returns-12 c =
     λ p l f.
-    let m = c .before .before in
-    c .stage12 .ensures ∙ (simp (c .before .byte-at3 .ensures, lent-pins l, l .size)) ∙ at-stage p (m .before .args .client) 12 (m .match .keys12)
+    at-stage p _ 12 (c .before .before .match .keys12)
+    (c .stage12 .ensures ∙ simp (c .before .byte-at3 .ensures, lent-pins l, l .size))
 
 returns-13 : tie.Need-returns-13
 returns-13 c =
     λ p l f.
-    let m = c .before .before in
-    c .stage13 .ensures ∙ (simp (c .before .byte-at4 .ensures, lent-count l, l .size)) ∙ at-stage p (m .before .args .client) 13 (m .match .keys13)
+    at-stage p _ 13 (c .before .before .match .keys13)
+    (c .stage13 .ensures ∙ simp (c .before .byte-at4 .ensures, lent-count l, l .size))
 
 returns-14 : tie.Need-returns-14
 returns-14 c =
     λ p l f.
-    let m = c .before .before in
-    c .stage14 .ensures ∙ (simp (c .before .byte-at5 .ensures, lent-pins l, l .size)) ∙ at-stage p (m .before .args .client) 14 (m .match .keys14)
+    at-stage p _ 14 (c .before .before .match .keys14)
+    (c .stage14 .ensures ∙ simp (c .before .byte-at5 .ensures, lent-pins l, l .size))
 
 returns-15 : tie.Need-returns-15
 returns-15 c =
     λ p l f.
-    let m = c .before .before in
-    c .stage15 .ensures ∙ (simp (c .before .slot-at3 .ensures, lent-slot l, l .size)) ∙ at-stage p (m .before .args .client) 15 (m .match .keys15)
+    at-stage p _ 15 (c .before .before .match .keys15)
+    (c .stage15 .ensures ∙ simp (c .before .slot-at3 .ensures, lent-slot l, l .size))
 
 returns-16 : tie.Need-returns-16
-returns-16 c =
-    λ p l f.
-    let m = c .before in
-    c .stage16 .ensures ∙ (simp (l .hand, l .size)) ∙ at-stage p (m .before .args .client) 16 (m .match .keys16)
+returns-16 c = λ p l f. at-stage p _ 16 (c .before .match .keys16) (c .stage16 .ensures ∙ simp (l .hand, l .size))
 
 returns-17 : tie.Need-returns-17
 unfolding lookup
 returns-17 c =
     λ p l f.
-    let m = c .before .before .before .before in
-    c .stage17 .ensures
-    ∙ (simp (
+    at-stage p _ 17 (c .before .before .before .before .match .keys17)
+    (c .stage17 .ensures
+    ∙ simp (
       c .before .byte-at6 .ensures,
       c .before .before .entry-of .ensures,
       c .before .before .before .page-at .ensures,
@@ -127,60 +105,35 @@ returns-17 c =
       lent-mapped l,
       lent-page l,
     ))
-    ∙ at-stage p (m .before .args .client) 17 (m .match .keys17)
 
 returns-18 : tie.Need-returns-18
 unfolding lookup
 returns-18 c =
     λ p l f.
-    let m = c .before .before .before in
-    c .stage18 .ensures
-    ∙ (simp (
-      c .before .unused-entry .ensures,
-      c .before .before .lookup2 .ensures,
-      lent-entry l,
-      lent-mapped l,
-      lent-unused l,
-    ))
-    ∙ at-stage p (m .before .args .client) 18 (m .match .keys18)
+    at-stage p _ 18 (c .before .before .before .match .keys18)
+    (c .stage18 .ensures ∙ simp (c .before .unused-entry .ensures, c .before .before .lookup2 .ensures, lent-entry l, lent-mapped l, lent-unused l))
 
 returns-19 : tie.Need-returns-19
-returns-19 c =
-    λ p l f.
-    let m = c .before .before in
-    c .stage19 .ensures ∙ (simp (c .before .byte-at7 .ensures, lent-pins l)) ∙ at-stage p (m .before .args .client) 19 (m .match .keys19)
+returns-19 c = λ p l f. at-stage p _ 19 (c .before .before .match .keys19) (c .stage19 .ensures ∙ simp (c .before .byte-at7 .ensures, lent-pins l))
 
 returns-20 : tie.Need-returns-20
-returns-20 c =
-    λ p l f.
-    let m = c .before .before in
-    c .stage20 .ensures ∙ (simp (c .before .byte-at8 .ensures, lent-pins l)) ∙ at-stage p (m .before .args .client) 20 (m .match .keys20)
+returns-20 c = λ p l f. at-stage p _ 20 (c .before .before .match .keys20) (c .stage20 .ensures ∙ simp (c .before .byte-at8 .ensures, lent-pins l))
 
 returns-21 : tie.Need-returns-21
 returns-21 c =
     λ p l f.
-    let m = c .before .before in
-    c .stage21 .ensures ∙ (simp (c .before .byte-at9 .ensures, lent-count l, l .cap)) ∙ at-stage p (m .before .args .client) 21 (m .match .keys21)
+    at-stage p _ 21 (c .before .before .match .keys21)
+    (c .stage21 .ensures ∙ simp (c .before .byte-at9 .ensures, lent-count l, l .cap))
 
 returns-22 : tie.Need-returns-22
 unfolding lookup
 returns-22 c =
     λ p l f.
-    let m = c .before .before .before in
-    c .stage22 .ensures
-    ∙ (simp (
-      c .before .byte-at10 .ensures,
-      c .before .before .entry-of2 .ensures,
-      lent-entry l,
-      lent-mapped l,
-    ))
-    ∙ at-stage p (m .before .args .client) 22 (m .match .keys22)
+    at-stage p _ 22 (c .before .before .before .match .keys22)
+    (c .stage22 .ensures ∙ simp (c .before .byte-at10 .ensures, c .before .before .entry-of2 .ensures, lent-entry l, lent-mapped l))
 
 returns-23 : tie.Need-returns-23
-returns-23 c =
-    λ p l f.
-    let m = c .before .before in
-    c .stage23 .ensures ∙ (simp (c .before .byte-at11 .ensures, lent-pins l)) ∙ at-stage p (m .before .args .client) 23 (m .match .keys23)
+returns-23 c = λ p l f. at-stage p _ 23 (c .before .before .match .keys23) (c .stage23 .ensures ∙ simp (c .before .byte-at11 .ensures, lent-pins l))
 
 returns-24 : tie.Need-returns-24
 returns-24 c = λ p l f. c .stuck .ensures ∙ no-stage p (c .before .before .args .client) (c .before .match .rest)
