@@ -2,16 +2,15 @@
 use mathlib.Core.Path.{_≡_, refl, sym, ap, _∙_}
 use mathlib.Core.Logic.{_≢_, _⊎_, inl, inr}
 use mathlib.Core.Bool.{Bool, true, false, not}
-use native.Mathlib.Omega.{arith}
 use native.Mathlib.Decide.{ℕ-discrete}
 use Prim.Native.Nat.{ℕ}
 use lib.Dec.{eqb}
 use borrow.Author.Tests.{eq-eqb, ne-eqb}
 use Rattle.pool.specs.Choose.{both}
 use Rattle.pool.specs.Answers.{refusalOf}
-use Rattle.pool.specs.State.{clientCount, client}
+use Rattle.pool.specs.State.{client}
 use Rattle.pool.specs.Valid.{valid}
-use Rattle.pool.specs.Calls.{turnedDown, caller, turnedBy, releaseMove, moveOf, finished, callOf}
+use Rattle.pool.specs.Calls.{turnedDown, turnedBy, releaseMove, moveOf, finished, callOf}
 use Rattle.pool.specs.declared.Call.{Call}
 use Rattle.pool.specs.declared.Call.the-variants.{Begin, Step, Release}
 use Rattle.pool.specs.declared.Client.{Client}

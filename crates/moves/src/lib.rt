@@ -1,5 +1,5 @@
-// How an action ends: the moves that several stages share, and those of a begin and a release. A move says what an action does; it changes nothing by
-// itself. Internal.
+// A Move is written here and nowhere else in the code: the moves that several stages share, refusal 15's and one that changes nothing, and those
+// of a begin and a release. A move says what an action does; it changes nothing by itself. Internal.
 ghost use mathlib.Core.Path.{_≡_};
 ghost use Prim.Native.Nat.{_-_, _<_};
 ghost use Rattle.pool.specs.Stages.{around, raised, nextSlot, busyVisit, evictOwn, grantedFound};

@@ -1,5 +1,5 @@
 -- What `play` asks of the parts that it is lent and of the client that acts, and that a valid pool gives it. Assumes nothing.
-use mathlib.Core.Path.{_≡_, sym, ap, _∙_}
+use mathlib.Core.Path.{_≡_, sym, _∙_}
 use mathlib.Core.Bool.{true}
 use mathlib.Core.List.{List}
 use Prim.Native.Nat.{ℕ, _+_, _*_, _≤_, _<_}
@@ -30,6 +30,9 @@ pub record Playable (k : Client) (c size count : ℕ) (pins : List ℕ) : Type 0
 abbrev pub recordAt : Pool → ℕ → Client
 recordAt p c = getD (p .clients) c no-client
 
+pub frames-searchable : (p : Pool) → valid p ≡ true → Searchable (searched p)
+frames-searchable p v = searchable-in p (searchable p v)
+
 module _ (p : Pool) (call : Call) (v : valid p ≡ true) {c : ℕ} (e : c ≡ clientOrFirst (clientCount p) (caller call)) where
   number-below : c < clientCount p
   number-below = omega (arith, e, number-in (clientCount p) (caller call) (some-client p v))
@@ -39,9 +42,6 @@ module _ (p : Pool) (call : Call) (v : valid p ≡ true) {c : ℕ} (e : c ≡ cl
 
   its-record : client p c ≡ recordAt p c
   its-record = client-of-pool p c number-below
-
-  pub frames-searchable : Searchable (searched p)
-  frames-searchable = searchable-in p (searchable p v)
 
   pub playable : Playable (recordAt p c) c (p .size) (clientCount p) (p .pins)
   playable =

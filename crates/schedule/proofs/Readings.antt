@@ -15,8 +15,8 @@ use Rattle.pool.specs.declared.Reading.{Reading}
 use Rattle.pool.specs.declared.Reading.the-variants.{Setup, Asked, Unreadable}
 use Rattle.laws.specs.Choices.{by-test}
 
-module _ (P : Reading → Type 0) (s : List ℕ) (unreadable : (n : ℕ) → P (Unreadable n)) where
-  first-read : ((a b c h : ℕ) → P (Setup a b c h)) → P (read true s)
+module _ (P : Reading → Type 0) (s : List ℕ) (unreadable : (refusal : ℕ) → P (Unreadable refusal)) where
+  first-read : ((size clients cap hand : ℕ) → P (Setup size clients cap hand)) → P (read true s)
   unfolding read content
   first-read setup =
       by-test P (λ _. unreadable 3) (λ _. by-test P (λ _. unreadable 4) (λ _. by-test P (λ _. unreadable 5)
@@ -40,15 +40,15 @@ not-asked : {A : Type 0} → OneOf (0 ∷ 2 ∷ []) 1 → A
 not-asked (inl e) = absurd (omega arith)
 not-asked (inr e) = absurd (omega arith)
 
-module _ (s : List ℕ) {r : Reading} {q : ℕ} where
-  pub first-unread : r ≡ read true s → OneOf (1 ∷ 2 ∷ []) (tagOf R.the-type r) → q ≡ unreadOf r → read true s ≡ Unreadable q
+module _ (s : List ℕ) {r : Reading} {refusal : ℕ} where
+  pub first-unread : r ≡ read true s → OneOf (1 ∷ 2 ∷ []) (tagOf R.the-type r) → refusal ≡ unreadOf r → read true s ≡ Unreadable refusal
   unfolding unreadOf
   first-unread e t u =
-      first-read (λ (r : Reading). OneOf (1 ∷ 2 ∷ []) (tagOf R.the-type r) → q ≡ unreadOf r → r ≡ Unreadable q) s
-      (λ n _ u. ap Unreadable (sym u)) (λ a b c h t. not-setup t) (rw e at t) (rw e at u)
+      first-read (λ (r : Reading). OneOf (1 ∷ 2 ∷ []) (tagOf R.the-type r) → refusal ≡ unreadOf r → r ≡ Unreadable refusal) s
+      (λ _ _ u. ap Unreadable (sym u)) (λ size clients cap hand t. not-setup t) (rw e at t) (rw e at u)
 
-  pub later-unread : r ≡ read false s → OneOf (0 ∷ 2 ∷ []) (tagOf R.the-type r) → q ≡ unreadOf r → read false s ≡ Unreadable q
+  pub later-unread : r ≡ read false s → OneOf (0 ∷ 2 ∷ []) (tagOf R.the-type r) → refusal ≡ unreadOf r → read false s ≡ Unreadable refusal
   unfolding unreadOf
   later-unread e t u =
-      later-read (λ (r : Reading). OneOf (0 ∷ 2 ∷ []) (tagOf R.the-type r) → q ≡ unreadOf r → r ≡ Unreadable q) s
-      (λ n _ u. ap Unreadable (sym u)) (λ call t. not-asked t) (rw e at t) (rw e at u)
+      later-read (λ (r : Reading). OneOf (0 ∷ 2 ∷ []) (tagOf R.the-type r) → refusal ≡ unreadOf r → r ≡ Unreadable refusal) s
+      (λ _ _ u. ap Unreadable (sym u)) (λ call t. not-asked t) (rw e at t) (rw e at u)

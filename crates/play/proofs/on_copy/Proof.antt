@@ -4,12 +4,11 @@ use borrow.Author.Needs.{needs}
 use native.Mathlib.Omega.{arith}
 use mathlib.Core.Path.{_≡_, ap, _∙_}
 use mathlib.Core.Logic.{⊎-elim}
-use Prim.Native.Nat.{ℕ, _<_}
+use Prim.Native.Nat.{_<_}
 use Rattle.pool.specs.Limits.{maxClients}
 use Rattle.pool.specs.State.{clientCount}
 use Rattle.pool.specs.Frames.{freeFrame}
 use Rattle.pool.specs.Calls.{caller}
-use Rattle.pool.specs.declared.Pool.{Pool}
 use Rattle.reads.specs.Lists.{searched}
 use Rattle.play.specs.Turn.{clientOrFirst, as-played}
 use Rattle.play.specs.Playable.{recordAt, number-small, frames-searchable, playable, turns}
@@ -47,7 +46,7 @@ in-range c = number-small (start c .args .pool) (start c .args .call) (start c .
 free-frame-requires : tie.Need-free-frame-requires
 free-frame-requires c κs =
     let n = numbered (c .before .before .before .before) in
-    frames-searchable (start n .args .pool) (start n .args .call) (start n .pre) (number-is n)
+    frames-searchable (start n .args .pool) (start n .pre)
 
 play-requires : tie.Need-play-requires
 play-requires c κs =

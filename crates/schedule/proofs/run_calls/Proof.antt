@@ -3,7 +3,7 @@
 -- (`is-turn` of `Turned`), and writes its line (`next`). The measure is what is left of the schedule. Assumes nothing.
 use borrow.Author.Needs.{needs}
 use native.Mathlib.Omega.{arith}
-use mathlib.Core.Path.{_≡_, refl, sym, ap, _∙_}
+use mathlib.Core.Path.{_≡_, sym, ap, _∙_}
 use mathlib.Core.Bool.{true, false}
 use mathlib.Core.List.{List}
 use mathlib.Core.Logic.{⊎-elim}
@@ -158,7 +158,7 @@ add-place c = let g = loop-of c .loop .inv in omega arith
 free-frame-requires : tie.Need-free-frame-requires Inv-loop μ-loop
 free-frame-requires c κs =
     let n = c .before .before .before .before .before .before in
-    frames-searchable (pool-of (told n)) (call-of (told n)) (valid (told n)) (number-is n)
+    frames-searchable (pool-of (told n)) (valid (told n))
 
 play-requires : tie.Need-play-requires Inv-loop μ-loop
 play-requires c κs =
