@@ -1,4 +1,5 @@
 // What an action reads of the pool, where it lies: elements of its arrays by index, within the part that the pool has, and searches over them.
+// Internal.
 ghost use mathlib.Core.Path.{_≡_};
 ghost use Prim.Native.Nat.{_+_, _*_, _<_, _≤_};
 ghost use Rattle.pool.specs.Limits.{maxSize, maxClients, maxHeld, maxFrames};

@@ -1,5 +1,5 @@
-// The run of a schedule: its first record sets the pool up, each later one is a call of it, and each writes one line of the report.
-// Public: `run`.
+// The run of a schedule: its first record sets the pool up, each later one is a call of it, and each writes one line of the report. Public, through
+// crate `foqheran`.
 //
 // The pool's parts lie in one place for the whole run, and every record changes them where they lie. Check 8 is made of the setup alone: pools that
 // come from setup and calls never meet it, so a record's turn is `callOf`, which makes check 8 before and after the action, without the test.
