@@ -17,7 +17,7 @@ use Rattle.pool.specs.Calls.{setupOf, caller, refusalAt, refusal, releas
 use Rattle.pool.specs.Schedule.{number, cut, marked, content, read, lengthOf, performed, endsRun, namedBy, digits, line, lineFor}
 use Rattle.pool.specs.Schedule.{runFrom, ran, endOf, reportOf}
 use Rattle.pool.specs.Tallies.{up, tallied}
-use Rattle.pool.specs.Cases.{Proved, played, asStep, answersRequest, stepsToAnswer, computed}
+use Rattle.pool.specs.Cases.{Proved, noted, played, asStep, answersRequest, stepsToAnswer, computed}
 
 pub table : Proved
 unfolding
@@ -28,7 +28,7 @@ unfolding
     stage3 stage4 stage5 stage6 stage7 stage8 stage9 stage10 stage11 stage12 stage13 stage14 stage15 stage16 stage17 stage18
     stage19 stage20 stage21 stage22 stage23 stageMove numbersOk frameOk usedOk stateOk entryOk grantOk countsOk namesOk clientOk
     valid setupOf caller refusalAt refusal releaseMove moveOf finished callOf poolAfter number cut marked content read lengthOf
-    performed endsRun namedBy digits line lineFor runFrom ran endOf reportOf up tallied played asStep answersRequest stepsToAnswer
+    performed endsRun namedBy digits line lineFor runFrom ran endOf reportOf up tallied noted played asStep answersRequest stepsToAnswer
     computed
 table =
     record {
@@ -39,6 +39,7 @@ table =
       meanwhile = (refl, refl, refl, refl);
       check8 = (refl, refl);
       handed-calls = (refl, refl, refl, refl, refl, refl, refl);
+      raises = refl;
       largest = (refl, refl);
       report = refl;
     }

@@ -14,13 +14,15 @@ use Rattle.pool.specs.Moves.{standing, withOwn, withFound, withVictim, w
 use Rattle.pool.specs.Apply.{apply}
 use Rattle.pool.specs.Valid.{valid}
 use Rattle.pool.specs.Calls.{fresh, setupOf, callOf, poolAfter}
-use Rattle.pool.specs.Tallies.{zeroTally, up, tallied}
+use Rattle.pool.specs.Tallies.{up, tallied}
 use Rattle.pool.specs.Schedule.{ran}
 use Rattle.pool.specs.declared.Pool.{Pool}
 use Rattle.pool.specs.declared.Client.{Client}
 use Rattle.pool.specs.declared.Tally.{Tally}
 use Rattle.pool.specs.declared.Call.{Call}
 use Rattle.pool.specs.declared.Call.the-variants.{Begin, Step, Release}
+use Rattle.pool.specs.declared.Counted.{Counted}
+use Rattle.pool.specs.declared.Counted.the-variants.{Nothing, Hit, Join, Admitted, Revived, Drop, Refusal}
 use Rattle.pool.specs.declared.Answer.{Answer}
 use Rattle.pool.specs.declared.Answer.the-variants.{Done, Working, Granted, Refused}
 use Rattle.pool.specs.declared.GrantChange.{GrantChange}
@@ -49,8 +51,8 @@ pub record Case : Type 0 where
   pub before : List Call
   -- how many of the case's own calls are steps up to the first answer to a request
   pub steps : ℕ
-  -- what its own calls count, from a tally of zeros
-  pub tally : Tally
+  -- what its own calls count, one after the other
+  pub counted : List Counted
   pub lines : List Line
 
 -- ---- shorthands
@@ -60,9 +62,9 @@ setup s t c hand = record { s = s; t = t; c = c; hand = hand }
 
 -- a case whose setup is accepted
 infix 10 _after_takes_counts_shows_
-abbrev pub _after_takes_counts_shows_ : Setup → List Call → ℕ → Tally → List Line → Case
-x after before takes steps counts tally shows lines =
-    record { numbers = x; accepted = Done (x .s); before = before; steps = steps; tally = tally; lines = lines }
+abbrev pub _after_takes_counts_shows_ : Setup → List Call → ℕ → List Counted → List Line → Case
+x after before takes steps counts counted shows lines =
+    record { numbers = x; accepted = Done (x .s); before = before; steps = steps; counted = counted; lines = lines }
 
 -- ---- calls
 
@@ -149,44 +151,12 @@ hand p = p .hand
 abbrev pub free : Pool → ℕ
 free p = p .free
 
--- ---- tallies: of nothing, of one thing, and of several
-
-abbrev pub tally : ℕ → ℕ → ℕ → ℕ → ℕ → ℕ → Tally
-tally h j a v d r = record { hits = h; joins = j; admitted = a; revived = v; drops = d; refused = r }
-
-abbrev pub nothing : Tally
-nothing = tally 0 0 0 0 0 0
-
-abbrev pub hit : Tally
-hit = tally 1 0 0 0 0 0
-
-abbrev pub join : Tally
-join = tally 0 1 0 0 0 0
-
-abbrev pub admitted : Tally
-admitted = tally 0 0 1 0 0 0
-
-abbrev pub revived : Tally
-revived = tally 0 0 0 1 0 0
-
-abbrev pub drop : Tally
-drop = tally 0 0 0 0 1 0
-
-abbrev pub refused : Tally
-refused = tally 0 0 0 0 0 1
-
-infixl 60 _and_
-abbrev pub _and_ : Tally → Tally → Tally
-x and y =
-    tally (x .hits + y .hits) (x .joins + y .joins) (x .admitted + y .admitted) (x .revived + y .revived) (x .drops + y .drops)
-    (x .refused + y .refused)
-
 -- ---- the table
 
 -- The third frame is as at setup.
 abbrev pub P1 : Case
 P1 =
-    setup 1 1 3 0 after [] takes 8 counts admitted shows
+    setup 1 1 3 0 after [] takes 8 counts Admitted ∷ [] shows
     asks 0 9 fills (Granted 0) ++ Step 0 gets Refused 11 ∷ Release 0 9 gets Done 9
     ∷ slot at 0 is 0 ∷ free is 0 ∷ hand is 1 ∷ pins at 0 is pinned 0 ∷ lookup at 9 is 0
     ∷ pins at 2 is evicted ∷ count at 2 is 0 ∷ []
@@ -194,13 +164,13 @@ P1 =
 -- "Page 9 again: 3 steps, frame 0, count 2."
 abbrev pub P2 : Case
 P2 =
-    setup 1 1 3 0 after admitAndRelease 9 takes 3 counts hit shows
+    setup 1 1 3 0 after admitAndRelease 9 takes 3 counts Hit ∷ [] shows
     asks 0 9 (2 ∷ 3 ∷ []) (Granted 0) ++ count at 0 is 2 ∷ pins at 0 is pinned 1 ∷ []
 
 -- "S 1, page 9 released with count 1, page 5 begun: stages 1, 4, 5, 10 to 18, granted frame 1, hand 2."
 abbrev pub P3 : Case
 P3 =
-    setup 1 1 3 0 after admitAndRelease 9 takes 12 counts drop and admitted shows
+    setup 1 1 3 0 after admitAndRelease 9 takes 12 counts Drop ∷ Admitted ∷ [] shows
     asks 0 5 (sweeps ++ evicts) (Granted 1)
     ++ hand is 2 ∷ slot at 0 is 1 ∷ pins at 0 is evicted ∷ lookup at 9 is none ∷ lookup at 5 is 1 ∷ []
 
@@ -208,7 +178,7 @@ P3 =
 -- after it, though nobody names it.
 abbrev pub P4 : Case
 P4 =
-    setup 1 1 3 0 after admit 9 takes 6 counts refused shows
+    setup 1 1 3 0 after admit 9 takes 6 counts Refusal ∷ [] shows
     asks 0 5 (sweeps ++ 12 ∷ []) (Refused 15) ++ Step 0 gets Refused 11
     ∷ slot at 0 is 0 ∷ pins at 0 is pinned 1 ∷ lookup at 5 is none ∷ held at 0 is 1 ∷ own at 0 is none
     ∷ pins at 1 is pinned 1 ∷ count at 1 is 1 ∷ begins 0 5 (4 ∷ 5 ∷ []) ++ own at 0 is 2 ∷ []
@@ -217,7 +187,7 @@ P4 =
 -- frame 1 evicted, free 0."
 abbrev pub P5 : Case
 P5 =
-    setup 2 2 3 0 after Begin 0 9 ∷ Begin 1 9 ∷ [] takes 15 counts admitted and join shows
+    setup 2 2 3 0 after Begin 0 9 ∷ Begin 1 9 ∷ [] takes 15 counts Admitted ∷ Join ∷ [] shows
     inTurn 0 1 (4 ∷ 4 ∷ 5 ∷ 5 ∷ 6 ∷ 6 ∷ 7 ∷ 5 ∷ 8 ∷ 6 ∷ 9 ∷ 7 ∷ 18 ∷ 8 ∷ [])
     ++ Step 0 gets Granted 0 ∷ goes 1 (9 ∷ 18 ∷ 19 ∷ 20 ∷ 21 ∷ []) ++ own at 1 is none ∷ Step 1 gets Granted 0
     ∷ pins at 0 is pinned 2 ∷ count at 0 is 2 ∷ pins at 1 is evicted ∷ free is 0 ∷ slot at 1 is 1 ∷ []
@@ -226,26 +196,26 @@ P5 =
 -- finds another frame and removes nothing."
 abbrev pub P6 : Case
 P6 =
-    setup 2 2 3 0 after admitAndRelease 9 ++ admitAndRelease 5 ++ Begin 0 7 ∷ steps 0 10 takes 15 counts drop and revived and admitted shows
+    setup 2 2 3 0 after admitAndRelease 9 ++ admitAndRelease 5 ++ Begin 0 7 ∷ steps 0 10 takes 15 counts Drop ∷ Revived ∷ Admitted ∷ [] shows
     asks 1 9 (2 ∷ sweeps ++ evicts ++ 19 ∷ 22 ∷ []) (Granted 3) ++ goes 0 (18 ∷ []) ++ victim at 0 is none ∷ Step 0 gets Granted 2
     ∷ lookup at 9 is 3 ∷ lookup at 7 is 2 ∷ lookup at 5 is none ∷ slot at 0 is 2 ∷ slot at 1 is 3 ∷ []
 
 -- "S 3, hand 4,294,967,295: first page into slot 0, hand 0; second into slot 1 in 9 steps."
 abbrev pub P7a : Case
 P7a =
-    setup 3 1 3 4294967295 after [] takes 8 counts admitted shows
+    setup 3 1 3 4294967295 after [] takes 8 counts Admitted ∷ [] shows
     asks 0 9 fills (Granted 0) ++ Release 0 9 gets Done 9 ∷ slot at 0 is 0 ∷ slot at 1 is none ∷ slot at 2 is none ∷ hand is 0 ∷ []
 
 abbrev pub P7b : Case
 P7b =
-    setup 3 1 3 4294967295 after admitAndRelease 9 takes 9 counts admitted shows
+    setup 3 1 3 4294967295 after admitAndRelease 9 takes 9 counts Admitted ∷ [] shows
     asks 0 5 (4 ∷ 5 ∷ 6 ∷ 7 ∷ 8 ∷ 8 ∷ 9 ∷ 18 ∷ []) (Granted 1)
     ++ slot at 0 is 0 ∷ slot at 1 is 1 ∷ slot at 2 is none ∷ hand is 1 ∷ []
 
 -- "S 64 and T 16 accepted; S 0, S 65, T 17, C 0, C 101 are 8."; a refused pool refuses every call as 8
 abbrev pub onlySetup : Answer → Answer → Setup → Case
 onlySetup answer then x =
-    record { numbers = x; accepted = answer; before = []; steps = 0; tally = nothing; lines = Begin 0 9 gets then ∷ [] }
+    record { numbers = x; accepted = answer; before = []; steps = 0; counted = []; lines = Begin 0 9 gets then ∷ [] }
 
 abbrev pub P8 : List Case
 P8 =
@@ -258,35 +228,35 @@ P8 =
 -- As P3 with a start of 4,294,967,295, which stage 16 has to reduce before it compares: the hand grows by 1, and goes to 0.
 abbrev pub reducedStart : Case
 reducedStart =
-    setup 1 1 3 4294967294 after admitAndRelease 9 takes 12 counts drop and admitted shows
+    setup 1 1 3 4294967294 after admitAndRelease 9 takes 12 counts Drop ∷ Admitted ∷ [] shows
     asks 0 5 (sweeps ++ evicts) (Granted 1) ++ hand is 0 ∷ []
 
 -- A sweep from hand 5, at slot 2, leaves a count above 0 there and passes on round the end to slot 0, which is below where it started: the hand
 -- grows by 2. It forgets its victim where it passes on, and again at 17.
 abbrev pub roundTheEnd : Case
 roundTheEnd =
-    setup 3 1 3 2 after admitAndRelease 9 ++ hitAndRelease 9 ++ admitAndRelease 5 ++ admitAndRelease 6 takes 15 counts drop and admitted shows
+    setup 3 1 3 2 after admitAndRelease 9 ++ hitAndRelease 9 ++ admitAndRelease 5 ++ admitAndRelease 6 takes 15 counts Drop ∷ Admitted ∷ [] shows
     begins 0 7 (sweeps ++ 12 ∷ 13 ∷ 11 ∷ []) ++ victim at 0 is none ∷ goes 0 evicts ++ victim at 0 is none ∷ Step 0 gets Granted 3
     ∷ hand is 7 ∷ slot at 0 is 3 ∷ slot at 2 is 0 ∷ count at 0 is 1 ∷ lookup at 5 is none ∷ []
 
 -- A count rises to C and stays there. A sweep lowers it by one each time that it comes round, passes on while it is above 0, and evicts then.
 abbrev pub countAtCap : Case
 countAtCap =
-    setup 1 1 3 0 after admitAndRelease 9 ++ hitAndRelease 9 ++ hitAndRelease 9 ++ hitAndRelease 9 takes 18 counts drop and admitted shows
+    setup 1 1 3 0 after admitAndRelease 9 ++ hitAndRelease 9 ++ hitAndRelease 9 ++ hitAndRelease 9 takes 18 counts Drop ∷ Admitted ∷ [] shows
     count at 0 is 3 ∷ begins 0 5 (sweeps ++ 12 ∷ 13 ∷ 11 ∷ []) ++ count at 0 is 2 ∷ goes 0 (12 ∷ 13 ∷ 11 ∷ []) ++ count at 0 is 1 ∷ goes 0 evicts
     ++ count at 0 is 0 ∷ Step 0 gets Granted 1 ∷ []
 
 -- Refusal 15 comes at S busy visits and not before: two held slots, 4 + 2S steps.
 abbrev pub twoHeld : Case
 twoHeld =
-    setup 2 1 3 0 after admit 9 ++ admit 5 takes 8 counts refused shows
+    setup 2 1 3 0 after admit 9 ++ admit 5 takes 8 counts Refusal ∷ [] shows
     asks 0 7 (sweeps ++ 12 ∷ 11 ∷ 12 ∷ []) (Refused 15) ++ held at 0 is 2 ∷ pins at 0 is pinned 1 ∷ pins at 1 is pinned 1 ∷ []
 
 -- The slots' pages are held, not held with count 2, held. The sweep passes the second on after one busy visit, and its run starts anew: two more
 -- busy visits are no refusal, and the second slot is taken. A busy visit forgets the victim.
 abbrev pub busyRunReset : Case
 busyRunReset =
-    setup 3 1 3 0 after admit 9 ++ admitAndRelease 5 ++ hitAndRelease 5 ++ admit 6 takes 21 counts drop and admitted shows
+    setup 3 1 3 0 after admit 9 ++ admitAndRelease 5 ++ hitAndRelease 5 ++ admit 6 takes 21 counts Drop ∷ Admitted ∷ [] shows
     begins 0 7 (sweeps ++ 12 ∷ 11 ∷ []) ++ victim at 0 is none ∷ busy at 0 is 1 ∷ goes 0 (12 ∷ 13 ∷ 11 ∷ []) ++ busy at 0 is 0
     ∷ goes 0 (12 ∷ 11 ∷ 12 ∷ 11 ∷ []) ++ busy at 0 is 2 ∷ goes 0 evicts ++ Step 0 gets Granted 3 ∷ slot at 1 is 3 ∷ hand is 5 ∷ []
 
@@ -296,48 +266,48 @@ busyRunReset =
 -- empty slot, which is a busy visit.
 abbrev pub claimedSlot : Case
 claimedSlot =
-    setup 1 2 3 0 after Begin 1 5 ∷ steps 1 3 ++ Begin 0 9 ∷ steps 0 4 takes 4 counts refused shows
+    setup 1 2 3 0 after Begin 1 5 ∷ steps 1 3 ++ Begin 0 9 ∷ steps 0 4 takes 4 counts Refusal ∷ [] shows
     goes 1 (5 ∷ 10 ∷ 11 ∷ []) ++ Step 1 gets Refused 15 ∷ slot at 0 is none ∷ free is 0 ∷ own at 1 is none ∷ goes 0 (8 ∷ 9 ∷ 18 ∷ [])
 
 -- A sweep of three slots from slot 2, which client 1 has claimed and not filled, over slot 0, whose page has two grants, and slot 1, whose page
 -- has one: an empty slot and each number of pins above 0 is one busy visit, and the third is refusal 15.
 abbrev pub threeBusy : Case
 threeBusy =
-    setup 3 2 3 0 after admit 9 ++ Begin 0 9 ∷ steps 0 3 ++ admit 5 ++ Begin 1 6 ∷ steps 1 4 takes 9 counts refused shows
+    setup 3 2 3 0 after admit 9 ++ Begin 0 9 ∷ steps 0 3 ++ admit 5 ++ Begin 1 6 ∷ steps 1 4 takes 9 counts Refusal ∷ [] shows
     begins 0 7 (sweeps ++ 11 ∷ []) ++ busy at 0 is 1 ∷ goes 0 (12 ∷ 11 ∷ []) ++ busy at 0 is 2 ∷ goes 0 (12 ∷ []) ++ Step 0 gets Refused 15 ∷ []
 
 -- Refusal 15 comes at S busy visits one after the other, wherever the sweep then stands: client 1 passes slot 0 on with a count above 0, meets
 -- slot 1 held, and slot 0 held by then, too, halfway through its second lap.
 abbrev pub midLap : Case
 midLap =
-    setup 2 2 3 0 after admitAndRelease 9 ++ hitAndRelease 9 ++ admit 5 ++ Begin 1 7 ∷ steps 1 4 takes 8 counts hit and refused shows
+    setup 2 2 3 0 after admitAndRelease 9 ++ hitAndRelease 9 ++ admit 5 ++ Begin 1 7 ∷ steps 1 4 takes 8 counts Hit ∷ Refusal ∷ [] shows
     goes 1 (12 ∷ 13 ∷ 11 ∷ 12 ∷ 11 ∷ []) ++ asks 0 9 (2 ∷ 3 ∷ []) (Granted 0) ++ goes 1 (12 ∷ []) ++ Step 1 gets Refused 15 ∷ []
 
 -- Both clients have read slot 1 for their place. Client 1 fills it; client 0's place moves on round the end, to slot 0.
 abbrev pub fillRound : Case
 fillRound =
-    setup 2 2 3 1 after Begin 0 9 ∷ steps 0 5 ++ Begin 1 5 ∷ steps 1 5 takes 3 counts nothing shows
+    setup 2 2 3 1 after Begin 0 9 ∷ steps 0 5 ++ Begin 1 5 ∷ steps 1 5 takes 3 counts [] shows
     goes 1 (9 ∷ []) ++ goes 0 (8 ∷ 9 ∷ []) ++ slot at 0 is 0 ∷ slot at 1 is 1 ∷ []
 
 -- A frame that a stalled client still names is not taken again: client 1 stalls at 12 with own frame 1 and frame 0 for its victim. Frame 2 is
 -- then in the slot, 3 and 4 were taken in vain; the next search starts at 0 and passes over 0, 1 and 2.
 abbrev pub stalledVictim : Case
 stalledVictim =
-    setup 1 2 3 0 after admitAndRelease 9 ++ Begin 1 5 ∷ steps 1 5 ++ swap 6 ++ askInVain 7 ++ askInVain 8 takes 2 counts nothing shows
+    setup 1 2 3 0 after admitAndRelease 9 ++ Begin 1 5 ∷ steps 1 5 ++ swap 6 ++ askInVain 7 ++ askInVain 8 takes 2 counts [] shows
     begins 0 9 (4 ∷ 5 ∷ []) ++ own at 0 is 3 ∷ victim at 1 is 0 ∷ own at 1 is 1 ∷ []
 
 -- The same with client 1 stalled at 2, where frame 0 is what it found. It meets the frame evicted, and forgets it.
 abbrev pub stalledFound : Case
 stalledFound =
     setup 1 2 3 0 after admitAndRelease 9 ++ Begin 1 9 ∷ steps 1 1 ++ swap 5 ++ askInVain 6 ++ askInVain 7 ++ askInVain 8
-    takes 3 counts nothing shows
+    takes 3 counts [] shows
     begins 0 3 (4 ∷ 5 ∷ []) ++ own at 0 is 2 ∷ goes 1 (4 ∷ []) ++ found at 1 is none ∷ pins at 0 is evicted ∷ []
 
 -- Client 1 stands at 14 when client 0 has its victim's page again, which raises the count from 0: nothing is evicted or counted as a drop, and
 -- client 1 passes on to the next slot without its victim.
 abbrev pub pinnedMeanwhile : Case
 pinnedMeanwhile =
-    setup 2 2 3 0 after admitAndRelease 9 ++ admitAndRelease 5 ++ Begin 1 7 ∷ steps 1 7 takes 3 counts hit shows
+    setup 2 2 3 0 after admitAndRelease 9 ++ admitAndRelease 5 ++ Begin 1 7 ∷ steps 1 7 takes 3 counts Hit ∷ [] shows
     asks 0 9 (2 ∷ 3 ∷ []) (Granted 0) ++ goes 1 (11 ∷ [])
     ++ victim at 1 is none ∷ place at 1 is 1 ∷ pins at 0 is pinned 1 ∷ count at 0 is 1 ∷ busy at 1 is 0 ∷ []
 
@@ -345,7 +315,7 @@ pinnedMeanwhile =
 -- not evicted, but passes on. At 16 it moves the hand by 2 from where client 0 left it, and not from where its own sweep started.
 abbrev pub evictedMeanwhile : Case
 evictedMeanwhile =
-    setup 2 2 3 0 after admitAndRelease 9 ++ admitAndRelease 5 ++ Begin 1 7 ∷ steps 1 7 takes 17 counts drop and drop shows
+    setup 2 2 3 0 after admitAndRelease 9 ++ admitAndRelease 5 ++ Begin 1 7 ∷ steps 1 7 takes 17 counts Drop ∷ Drop ∷ [] shows
     count at 0 is 0 ∷ begins 0 6 (sweeps ++ 12 ∷ 13 ∷ 14 ∷ 15 ∷ 16 ∷ 17 ∷ []) ++ hand is 3
     ∷ goes 1 (11 ∷ 12 ∷ 13 ∷ 14 ∷ 15 ∷ 16 ∷ 17 ∷ []) ++ hand is 5 ∷ slot at 1 is 2 ∷ []
 
@@ -353,34 +323,44 @@ evictedMeanwhile =
 -- 0 then finds another frame in the slot and passes on to the next.
 abbrev pub swappedMeanwhile : Case
 swappedMeanwhile =
-    setup 2 2 3 0 after admitAndRelease 9 ++ admitAndRelease 5 ++ Begin 0 7 ∷ steps 0 8 takes 10 counts admitted shows
+    setup 2 2 3 0 after admitAndRelease 9 ++ admitAndRelease 5 ++ Begin 0 7 ∷ steps 0 8 takes 10 counts Admitted ∷ [] shows
     asks 1 6 (sweeps ++ 12 ∷ 15 ∷ 16 ∷ 17 ∷ 18 ∷ []) (Granted 3) ++ goes 0 (11 ∷ []) ++ victim at 0 is none ∷ place at 0 is 1 ∷ slot at 0 is 3 ∷ []
 
 -- As P6 up to client 1's 22, but client 0's removal comes first: the page is no longer mapped to the frame that client 1 found. It forgets that
 -- frame, gives its own up, which then is evicted, and takes another. Its second sweep starts from the hand as that is now.
 abbrev pub foundRemoved : Case
 foundRemoved =
-    setup 2 2 3 0 after admitAndRelease 9 ++ admitAndRelease 5 ++ Begin 0 7 ∷ steps 0 10 takes 20 counts drop shows
+    setup 2 2 3 0 after admitAndRelease 9 ++ admitAndRelease 5 ++ Begin 0 7 ∷ steps 0 10 takes 20 counts Drop ∷ [] shows
     begins 1 9 (2 ∷ sweeps ++ evicts ++ 19 ∷ 22 ∷ []) ++ goes 0 (18 ∷ []) ++ goes 1 (23 ∷ []) ++ found at 1 is none ∷ own at 1 is 3
     ∷ goes 1 (4 ∷ []) ++ own at 1 is none ∷ pins at 3 is evicted ∷ goes 1 (5 ∷ []) ++ own at 1 is 4
     ∷ goes 1 (10 ∷ 11 ∷ []) ++ start at 1 is 4 ∷ place at 1 is 0 ∷ []
 
 -- ---- what a case comes to
 
--- the lines with the answers and values that a pool gives, and the tally after them
+-- the lines with the answers and values that a pool gives, and what its calls count
 pub record Played : Type 0 where
   pub lines : List Line
-  pub tally : Tally
+  pub counted : List Counted
 
-unfoldable pub played : Pool → Tally → List Line → Played
-played p t [] = record { lines = []; tally = t }
-played p t (call gets a ∷ lines) =
+-- an action's count before those of the actions after it
+unfoldable pub noted : Counted → List Counted → List Counted
+noted Nothing rest = rest
+noted Hit rest = Hit ∷ rest
+noted Join rest = Join ∷ rest
+noted Admitted rest = Admitted ∷ rest
+noted Revived rest = Revived ∷ rest
+noted Drop rest = Drop ∷ rest
+noted Refusal rest = Refusal ∷ rest
+
+unfoldable pub played : Pool → List Line → Played
+played p [] = record { lines = []; counted = [] }
+played p (call gets a ∷ lines) =
     let o = callOf p call in
-    let rest = played (o .pool) (tallied (o .counted) t) lines in
-    record { lines = call gets o .answer ∷ rest .lines; tally = rest .tally }
-played p t (number is v ∷ lines) =
-    let rest = played p t lines in
-    record { lines = number is number p ∷ rest .lines; tally = rest .tally }
+    let rest = played (o .pool) lines in
+    record { lines = call gets o .answer ∷ rest .lines; counted = noted (o .counted) (rest .counted) }
+played p (number is v ∷ lines) =
+    let rest = played p lines in
+    record { lines = number is number p ∷ rest .lines; counted = rest .counted }
 
 -- 1 for a step, 0 for another call
 unfoldable pub asStep : Call → ℕ
@@ -404,8 +384,8 @@ stepsToAnswer (number is v ∷ lines) = stepsToAnswer lines
 unfoldable pub computed : Case → Case
 computed x =
     let o = setupOf (x .numbers .s) (x .numbers .t) (x .numbers .c) (x .numbers .hand) in
-    let r = played (poolAfter (o .pool) (x .before)) zeroTally (x .lines) in
-    record { numbers = x .numbers; accepted = o .answer; before = x .before; steps = stepsToAnswer (r .lines); tally = r .tally; lines = r .lines }
+    let r = played (poolAfter (o .pool) (x .before)) (x .lines) in
+    record { numbers = x .numbers; accepted = o .answer; before = x .before; steps = stepsToAnswer (r .lines); counted = r .counted; lines = r .lines }
 
 abbrev pub Holds : Case → Type 0
 Holds x = computed x ≡ x
@@ -493,7 +473,7 @@ p plays lines = record { pool = p; lines = lines }
 
 -- the lines are what the pool gives
 abbrev pub Plays : HandedCase → Type 0
-Plays x = played (x .pool) zeroTally (x .lines) .lines ≡ x .lines
+Plays x = played (x .pool) (x .lines) .lines ≡ x .lines
 
 -- A frame with 128 pins gets none more: stage 2's action would break a range, so the call is refused as 8 and changes nothing.
 abbrev pub fullyPinned : HandedCase
@@ -531,6 +511,19 @@ abbrev pub notRemoved : HandedCase
 notRemoved =
     handed (standing (withVictim (withOwn (resting 0) 0) 1) 17) Same (PutEntry 0 0 2) plays Step 0 gets Working 18 ∷ lookup at 0 is 2 ∷ []
 
+-- ---- the tally: each kind raises its own number by one, and no other
+
+abbrev pub tally : ℕ → ℕ → ℕ → ℕ → ℕ → ℕ → Tally
+tally h j a v d r = record { hits = h; joins = j; admitted = a; revived = v; drops = d; refused = r }
+
+abbrev pub kinds : List Counted
+kinds = Nothing ∷ Hit ∷ Join ∷ Admitted ∷ Revived ∷ Drop ∷ Refusal ∷ []
+
+abbrev pub raisedByKind : List Tally
+raisedByKind =
+    tally 10 20 30 40 50 60 ∷ tally 11 20 30 40 50 60 ∷ tally 10 21 30 40 50 60 ∷ tally 10 20 31 40 50 60
+    ∷ tally 10 20 30 41 50 60 ∷ tally 10 20 30 40 51 60 ∷ tally 10 20 30 40 50 61 ∷ []
+
 -- ---- P1 once more, as a file and its report
 
 -- the codes of a text's characters
@@ -553,8 +546,8 @@ file = 0x46 ∷ 0x43 ∷ 0 ∷ 1 ∷ 1 ∷ 3 ∷ 0 ∷ 0 ∷ 0 ∷ 0 ∷ record8
 abbrev pub listing : String
 listing = "0 0 0 1\n1 0 0 9\n2 0 1 4\n3 0 1 5\n4 0 1 6\n5 0 1 7\n6 0 1 8\n7 0 1 9\n8 0 1 18\n9 0 2 0\n10 0 111 0\n11 0 0 9\n"
 
--- What is proved of the table: each case holds; check 8 passes the sound pools and no broken one; calls on handed pools answer as said; a tally's
--- number stays at its largest value; and the file's run of 12 records has the listing for its report.
+-- What is proved of the table: each case holds; check 8 passes the sound pools and no broken one; calls on handed pools answer as said; each kind
+-- raises its own number of a tally, which stays at its largest value; and the file's run of 12 records has the listing for its report.
 pub record Proved : Type 0 where
   pub published : Holds P1 × Holds P2 × Holds P3 × Holds P4 × Holds P5 × Holds P6 × Holds P7a × Holds P7b × (map computed P8 ≡ P8)
   pub of-one : Holds reducedStart × Holds roundTheEnd × Holds countAtCap × Holds twoHeld × Holds busyRunReset
@@ -564,5 +557,6 @@ pub record Proved : Type 0 where
   pub check8 : Check8 sound true × Check8 broken false
   pub handed-calls :
       Plays fullyPinned × Plays ownPinnedTwice × Plays takenAgain × Plays searchedRound × Plays joinRaises × Plays notReplaced × Plays notRemoved
+  pub raises : map (λ k. tallied k (tally 10 20 30 40 50 60)) kinds ≡ raisedByKind
   pub largest : (up 4294967294 ≡ 4294967295) × (up 4294967295 ≡ 4294967295)
   pub report : ran file 49152 ≡ record { records = 12; refusal = 0; lines = codes listing }
