@@ -21,8 +21,8 @@ use Rattle.pool.specs.declared.Reading.the-variants.{Setup, Unreadable}
 use Rattle.laws.specs.Choices.{by-test, chosen, passed}
 use Rattle.laws.specs.Setups.{set-up}
 use Rattle.records.specs.Whole.{read-fits, refused-ends, unread-ends}
-use Rattle.schedule.specs.Rest.{stopped, rest}
-use Rattle.schedule.proofs.Runs.{before, stop-line, no-space, stops, goes-on}
+use Rattle.lines.specs.Rest.{stopped, rest}
+use Rattle.lines.proofs.Runs.{before, stop-line, no-space, stops, goes-on}
 
 -- ---- a setup's answer
 

@@ -12,7 +12,7 @@ use Rattle.pool.specs.Schedule.{ends, read, lengthOf, performed, endsRun, lineF
 use Rattle.pool.specs.declared.Pool.{Pool}
 use Rattle.pool.specs.declared.Reading.{Reading}
 use Rattle.records.specs.Whole.{read-any, refused-ends}
-use Rattle.schedule.proofs.Runs.{before}
+use Rattle.lines.proofs.Runs.{before}
 
 -- a record that does not end the run has bytes of its own
 takes-some : (p : Pool) (first : Bool) (s : List ℕ) → endsRun (performed p (read first s) .answer) ≡ false →

@@ -14,9 +14,9 @@ use Rattle.pool.specs.Schedule.{read}
 use Rattle.pool.specs.declared.Outcome.{Outcome}
 use Rattle.pool.specs.declared.Reading.the-variants.{Setup}
 use Rattle.report.specs.Lines.{written}
-use Rattle.schedule.specs.Rest.{answerLine}
-use Rattle.schedule.proofs.Readings.{first-unread}
-use Rattle.schedule.proofs.Runs.{from, after-line, report-here, same-space, line-done, whole-run}
+use Rattle.lines.specs.Rest.{answerLine}
+use Rattle.records.proofs.Readings.{first-unread}
+use Rattle.lines.proofs.Runs.{from, after-line, report-here, same-space, line-done, whole-run}
 use Rattle.schedule.proofs.First.{too-long, no-room, unread-first, setup-whole, refused-first, not-refused, accepted-first, from-first}
 use Rattle.schedule.proofs.run.Statement.{statement}
 use Rattle.schedule.proofs.run.Tie as tie

@@ -1,8 +1,8 @@
 -- Without a line no byte is added. Assumes nothing.
 use mathlib.Core.Path.{sym}
-use Rattle.schedule.proofs.Runs.{end-here}
-use Rattle.schedule.proofs.ends.Statement.{statement}
-use Rattle.schedule.proofs.ends.Tie as tie
+use Rattle.lines.proofs.Runs.{end-here}
+use Rattle.lines.proofs.ends.Statement.{statement}
+use Rattle.lines.proofs.ends.Tie as tie
 
 returns : tie.Need-returns
 returns c = sym (end-here _ _ _)

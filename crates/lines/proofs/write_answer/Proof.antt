@@ -9,8 +9,8 @@ use lib.ListN.{length}
 use denote.Ref.{now}
 use Rattle.pool.specs.Schedule.{line}
 use Rattle.report.specs.Lines.{written, line-fits}
-use Rattle.schedule.proofs.write_answer.Statement.{statement}
-use Rattle.schedule.proofs.write_answer.Tie as tie
+use Rattle.lines.proofs.write_answer.Statement.{statement}
+use Rattle.lines.proofs.write_answer.Tie as tie
 
 same-line : (records client : ℕ) {code value x y : ℕ} → code ≡ x → value ≡ y → line records client code value ≡ line records client x y
 same-line records client e f = cc

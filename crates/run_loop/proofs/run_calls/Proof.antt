@@ -25,12 +25,12 @@ use Rattle.play.specs.Turn.{clientOrFirst, as-played}
 use Rattle.play.specs.Parts.{poolOf}
 use Rattle.play.specs.Playable.{recordAt, number-small, frames-searchable, playable, turns}
 use Rattle.invariant.proofs.Valid.{valid-reached}
-use Rattle.schedule.specs.Rest.{answerLine}
-use Rattle.schedule.proofs.Readings.{later-unread}
-use Rattle.schedule.proofs.Runs.{from, from-length, report-here}
-use Rattle.schedule.proofs.Going.{Going, at-start, comes-to, all-read, full, unread, next}
-use Rattle.schedule.proofs.run_calls.Statement.{statement}
-use Rattle.schedule.proofs.run_calls.Tie as tie
+use Rattle.lines.specs.Rest.{answerLine}
+use Rattle.records.proofs.Readings.{later-unread}
+use Rattle.lines.proofs.Runs.{from, from-length, report-here}
+use Rattle.run_loop.proofs.Going.{Going, at-start, comes-to, all-read, full, unread, next}
+use Rattle.run_loop.proofs.run_calls.Statement.{statement}
+use Rattle.run_loop.proofs.run_calls.Tie as tie
 
 abbrev Inv-loop : tie.InvT-loop
 Inv-loop schedule report₀ first start hand₀ free₀ last₀ slots₀ pages₀ pins₀ counts₀ tablePages₀ tableFrames₀ clients₀ grantPages₀ grantFrames₀

@@ -23,10 +23,10 @@ use Rattle.invariant.proofs.Calls.{reached-call}
 use Rattle.records.specs.Whole.{read-fits, unread-ends}
 use Rattle.report.specs.Lines.{written}
 use Rattle.play.specs.Turn.{played}
-use Rattle.schedule.specs.Rest.{answerLine, endAfter, reportAfter, stopped, rest}
-use Rattle.schedule.proofs.Runs.{before, from, from-all, after-line, line-written, same-space, line-done}
-use Rattle.schedule.proofs.Runs.{stop-line, at-end, no-space, stops, goes-on}
-use Rattle.schedule.proofs.Turned as Turned
+use Rattle.lines.specs.Rest.{answerLine, endAfter, reportAfter, stopped, rest}
+use Rattle.lines.proofs.Runs.{before, from, from-all, after-line, line-written, same-space, line-done}
+use Rattle.lines.proofs.Runs.{stop-line, at-end, no-space, stops, goes-on}
+use Rattle.run_loop.proofs.Turned as Turned
 
 -- the line of a record that does not end the run
 line-of : (records : ℕ) (call : Call) (a : Answer) → endsRun a ≡ false → lineFor records (Asked call) a ≡ answerLine records (caller call) a

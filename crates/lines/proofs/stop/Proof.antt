@@ -3,9 +3,9 @@ use borrow.Author.Needs.{needs}
 use native.Mathlib.Omega.{arith}
 use denote.Ref.{now}
 use Rattle.pool.specs.Answers.{codeOf, valueOf}
-use Rattle.schedule.proofs.Runs.{end-line, report-line}
-use Rattle.schedule.proofs.stop.Statement.{statement}
-use Rattle.schedule.proofs.stop.Tie as tie
+use Rattle.lines.proofs.Runs.{end-line, report-line}
+use Rattle.lines.proofs.stop.Statement.{statement}
+use Rattle.lines.proofs.stop.Tie as tie
 
 returns : tie.Need-returns
 unfolding codeOf valueOf

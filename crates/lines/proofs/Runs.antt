@@ -18,7 +18,7 @@ use Rattle.pool.specs.declared.Pool.{Pool}
 use Rattle.pool.specs.declared.Reading.{Reading}
 use Rattle.laws.specs.Choices.{chosen, passed}
 use Rattle.report.specs.Lines.{written, after, Wrote, more}
-use Rattle.schedule.specs.Rest.{endAfter, reportAfter, stopped}
+use Rattle.lines.specs.Rest.{endAfter, reportAfter, stopped}
 
 -- ---- the report space and what is returned
 
