@@ -37,7 +37,5 @@ pub mod Alone
 pub mod SweepMoves
 pub mod Meetings
 pub mod BusySweep
--- the premises of the claims can be met; all of it, as the record `Guarantee`
-pub mod Witness
-pub mod CompanyWitness
+-- all of it, as the record `Guarantee`
 pub mod Guaranteed

@@ -8,9 +8,9 @@ use Rattle.pool.specs.State.{pinned, slot}
 use Rattle.pool.specs.Calls.{setupOf}
 use Rattle.pool.specs.Cases.{steps, admit}
 use Rattle.pool.specs.declared.Call.the-variants.{Begin, Step}
 use Rattle.guarantee.specs.Runs.{Event, events, At}
 use Rattle.guarantee.specs.BusySweep.{MeetsBusy, finds-empty, finds-pinned, Refused15}
-use Rattle.guarantee.proofs.Witness.{computing}
+use Rattle.witnesses.proofs.Witness.{computing}
 
 -- Page 9 is held in slot 0, and client 0 stands at 8, about to fill slot 1, when client 1 begins on page 7. It meets slot 1 empty at event 20, client 0
 -- fills the slot at event 21, and client 1 meets slot 0 with its held frame and is refused at event 23.
