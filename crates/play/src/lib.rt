@@ -124,7 +124,7 @@ pub fn on_copy(pool: Pool, call: Call) -> Outcome
     let client = clients[number];
     let mut fresh = NONE;
     if client.stage == 4 {
-        fresh = reads::free_frame(
+        fresh = frame_search::free_frame(
             pool.size,
             pool.client_count,
             last,
