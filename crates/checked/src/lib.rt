@@ -27,7 +27,7 @@ pub fn call_of(pool: Pool, call: Call) -> Outcome
     if !sound {
         return turned_down(8, pool);
     }
-    let turned = play::on_copy(pool, call);
+    let turned = copied::on_copy(pool, call);
     let answer = turned.answer;
     let refused = answers::refusal_of(answer);
     if refused != 0 && refused != 15 {

@@ -1,4 +1,4 @@
--- A valid pool has what the frame search and the moves ask of it. Assumes nothing.
+-- A valid pool has what the moves ask of it. Assumes nothing.
 use mathlib.Core.Path.{_≡_}
 use mathlib.Core.Bool.{true}
 use Prim.Native.Nat.{ℕ, _<_, _≤_}
@@ -8,7 +8,6 @@ use Rattle.pool.specs.State.{pinned, clientCount, total, pins, client}
 use Rattle.pool.specs.Valid.{valid}
 use Rattle.pool.specs.declared.Pool.{Pool}
 use Rattle.ranges.specs.Ranges.{Ranged, ranged, pins-low}
-use Rattle.reads.specs.Lists.{Searchable}
 use Rattle.dispatch.specs.Lends.{Ready}
 
 module _ (p : Pool) (v : valid p ≡ true) where
@@ -39,9 +38,6 @@ module _ (p : Pool) (v : valid p ≡ true) where
 
     busy-in : client p c .busy < p .size
     busy-in = in-range .client c h .counts .busy
-
-  pub searchable : Searchable p
-  searchable = record { some-slot = some-slot; slots = slots-fit; clients = clients-fit; grants = grants-fit }
 
   pub ready : (c : ℕ) → c < clientCount p → Ready (client p c) (p .size) (total p) (p .pins)
   unfolding pins

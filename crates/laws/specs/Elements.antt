@@ -1,11 +1,12 @@
 -- The pool's guarded reads at a place in range, where the guard falls away: an element of the first n of a list, a grant of a client's first n,
--- a client of the first n. Assumes nothing.
-use mathlib.Core.Path.{_≡_}
+-- a client of the first n; and what is read compared with a number. Assumes nothing.
+use mathlib.Core.Path.{_≡_, sym, _∙_}
+use mathlib.Core.Bool.{true, false}
 use mathlib.Core.List.{List}
 use Prim.Native.Nat.{ℕ, _<_}
-use lib.Dec.{ltb}
+use lib.Dec.{eqb, ltb}
 use lib.ListN.{getD}
-use borrow.Author.Tests.{lt-ltb}
+use borrow.Author.Tests.{lt-ltb, eq-eqb, ne-eqb}
 use Rattle.pool.specs.Choose.{choose}
 use Rattle.pool.specs.State.{no-client, clientCount, resting, within, ofClient, grantPlace, client}
 use Rattle.pool.specs.declared.Client.{Client}
@@ -35,3 +36,11 @@ client-element l n c h = chosen _ _ _ (lt-ltb c n h)
 pub client-of-pool : (p : Pool) (c : ℕ) → c < clientCount p → client p c ≡ getD (p .clients) c no-client
 unfolding client clientIn
 client-of-pool p c h = client-element (p .clients) (clientCount p) c h
+
+-- ---- what is read, x, compared with a number v, and the definition's y compared with it
+
+pub reads-as : {x y v : ℕ} → y ≡ x → x ≡ v → eqb y v ≡ true
+reads-as e same = eq-eqb _ _ (e ∙ same)
+
+pub reads-other : {x y v : ℕ} → y ≡ x → (x ≡ v → ⊥) → eqb y v ≡ false
+reads-other e other = ne-eqb _ _ (λ same. other (sym e ∙ same))

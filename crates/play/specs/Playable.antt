@@ -14,9 +14,9 @@ use Rattle.pool.specs.declared.Call.{Call}
 use Rattle.pool.specs.declared.Client.{Client}
 use Rattle.pool.specs.declared.Pool.{Pool}
 use Rattle.laws.specs.Elements.{client-of-pool}
-use Rattle.reads.specs.Lists.{Searchable, searched, searched-in, searchable-in}
+use Rattle.frame_search.specs.Search.{Searchable, searchable, searched, searched-in, searchable-in}
 use Rattle.dispatch.specs.Lends.{Ready}
-use Rattle.dispatch.specs.Ready.{some-client, clients-fit, grants-fit, searchable, ready}
+use Rattle.dispatch.specs.Ready.{some-client, clients-fit, grants-fit, ready}
 use Rattle.play.specs.Turn.{clientOrFirst, number-in, Turns}
 
 -- client k, the one with number c, of a pool of so many slots and clients, with these pins

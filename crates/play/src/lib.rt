@@ -1,12 +1,10 @@
 // One call's turn, played: decided over the pool's parts where they lie, and put into them. The run of a schedule and the public calls play
 // their calls here and nowhere else. Internal: no check 8 is made here.
 ghost use mathlib.Core.Path.{_≡_};
-ghost use mathlib.Core.Bool.{true};
 ghost use mathlib.Core.List.{List};
 ghost use lib.ListN.{set};
 ghost use Rattle.pool.specs.Apply.{apply};
-ghost use Rattle.pool.specs.Valid.{valid};
-ghost use Rattle.play.specs.Turn.{clientOrFirst, turn, played, Turns};
+ghost use Rattle.play.specs.Turn.{clientOrFirst, turn, Turns};
 ghost use Rattle.play.specs.Parts.{poolOf};
 ghost use Rattle.play.specs.Playable.{Playable};
 use dispatch::Numbers;
@@ -15,9 +13,6 @@ use pool::Client;
 use pool::FRAMES;
 use pool::GRANTS;
 use pool::Move;
-use pool::NONE;
-use pool::Outcome;
-use pool::Pool;
 use pool::SLOTS;
 
 // The client whose record is put back: the one with number c, the first where the pool has none such.
@@ -100,83 +95,4 @@ pub fn play(
     writes::put_grant_pages(grant_pages, client_count, number, change);
     writes::put_grant_frames(grant_frames, client_count, number, change);
     turn
-}
-
-// The turn of a call, played on a copy of a pool that passes check 8.
-pub fn on_copy(pool: Pool, call: Call) -> Outcome
-    requires { ⌜ valid pool ≡ true ⌝ }
-    ensures { λ r. ⌜ r ≡ played pool call ⌝ }
-{
-    let mut hand = pool.hand;
-    let mut free = pool.free;
-    let mut last = pool.last;
-    let mut slots = pool.slots;
-    let mut pages = pool.pages;
-    let mut pins = pool.pins;
-    let mut counts = pool.counts;
-    let mut table_pages = pool.table_pages;
-    let mut table_frames = pool.table_frames;
-    let mut clients = pool.clients;
-    let mut grant_pages = pool.grant_pages;
-    let mut grant_frames = pool.grant_frames;
-    let caller = answers::caller(call);
-    let number = client_or_first(pool.client_count, caller);
-    let client = clients[number];
-    let mut fresh = NONE;
-    if client.stage == 4 {
-        fresh = reads::free_frame(
-            pool.size,
-            pool.client_count,
-            last,
-            &slots,
-            &table_frames,
-            clients,
-            &grant_frames,
-        );
-    }
-    let turn = play(
-        call,
-        number,
-        client,
-        fresh,
-        pool.size,
-        pool.client_count,
-        pool.cap,
-        &mut hand,
-        &mut free,
-        &mut last,
-        &mut slots,
-        &mut pages,
-        &mut pins,
-        &mut counts,
-        &mut table_pages,
-        &mut table_frames,
-        &mut grant_pages,
-        &mut grant_frames,
-    );
-    let next = turn.next;
-    let answer = turn.answer;
-    let counted = turn.counted;
-    clients[number] = next;
-    Outcome {
-        answer,
-        counted,
-        pool: Pool {
-            size: pool.size,
-            client_count: pool.client_count,
-            cap: pool.cap,
-            hand,
-            free,
-            last,
-            slots,
-            pages,
-            pins,
-            counts,
-            table_pages,
-            table_frames,
-            clients,
-            grant_pages,
-            grant_frames,
-        },
-    }
 }

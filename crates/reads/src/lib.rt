@@ -1,13 +1,10 @@
-// What an action reads of the pool, where it lies: elements of its arrays by index, within the part that the pool has, and searches over them.
-// Internal.
+// What an action reads of the pool, where it lies: elements of its arrays by index, within the part that the pool has, and look-ups in the table and
+// among a client's grants. Internal.
 ghost use mathlib.Core.Path.{_≡_};
 ghost use Prim.Native.Nat.{_+_, _*_, _<_, _≤_};
 ghost use Rattle.pool.specs.Limits.{maxSize, maxClients, maxHeld, maxFrames};
 ghost use Rattle.pool.specs.State.{none, within, ofClient};
-ghost use Rattle.pool.specs.Frames.{freeFrame};
-ghost use Rattle.reads.specs.Lists.{Searchable, searchedIn, entryIn, lookupIn, unusedIn, grantIn, firstOf, namesIn};
-use pool::CLIENTS;
-use pool::Client;
+ghost use Rattle.reads.specs.Lists.{entryIn, lookupIn, unusedIn, grantIn};
 use pool::FRAMES;
 use pool::GRANTS;
 use pool::HELD;
@@ -109,83 +106,6 @@ pub fn grant_of(pages: &[u32; GRANTS], c: usize, held: u8, page: u32) -> u8
         if pages[HELD * c + i] == page {
             return i as u8;
         }
-    }
-    NONE
-}
-
-// Where the search for a frame starts: after the one last taken, at 0 when none was.
-fn first_tried(last: u8, total: usize) -> usize
-    requires { ⌜ 0 < total ⌝ }
-    ensures { λ r. ⌜ r ≡ firstOf last total ⌝ }
-{
-    if last == NONE {
-        return 0;
-    }
-    (last as usize + 1) % total
-}
-
-// Whether client c names a frame: its own, its found one, its victim, or one of its grants.
-fn names(client: Client, grant_frames: &[u8; GRANTS], c: usize, f: u8) -> bool
-    requires { ⌜ (c < maxClients) × (client .held ≤ maxHeld) ⌝ }
-    ensures { λ r. ⌜ r ≡ namesIn client (now («grant_frames» .entry)) c f ⌝ }
-{
-    if client.own == f {
-        return true;
-    }
-    if client.found == f {
-        return true;
-    }
-    if client.victim == f {
-        return true;
-    }
-    let held = client.held as usize;
-    for i in 0..held {
-        if grant_frames[HELD * c + i] == f {
-            return true;
-        }
-    }
-    false
-}
-
-// The first frame that no slot, no entry of the table and no client names, from the one after the last taken on and going round; or NONE. It is
-// lent of the pool what names frames, and not the pool.
-pub fn free_frame<'a>(
-    size: u8,
-    client_count: u8,
-    last: u8,
-    slots: &'a [u8; SLOTS],
-    table_frames: &'a [u8; FRAMES],
-    clients: [Client; CLIENTS],
-    grant_frames: &'a [u8; GRANTS],
-) -> u8
-    requires { ⌜ Searchable (searchedIn size «client_count» last (now slots) (now «table_frames») clients (now «grant_frames»)) ⌝ }
-    ensures { λ r. ⌜ r ≡ freeFrame
-        (searchedIn size «client_count» last (now (slots .entry)) (now («table_frames» .entry)) clients (now («grant_frames» .entry))) ⌝ }
-{
-    let slot_count = size as usize;
-    let count = client_count as usize;
-    let total = slot_count + 2 * count;
-    let first = first_tried(last, total);
-    'frames: for n in 0..total {
-        let f = ((first + n) % total) as u8;
-        for i in 0..slot_count {
-            if slots[i] == f {
-                continue 'frames;
-            }
-        }
-        for i in 0..total {
-            if table_frames[i] == f {
-                continue 'frames;
-            }
-        }
-        for c in 0..count {
-            let client = clients[c];
-            let named = names(client, grant_frames, c, f);
-            if named {
-                continue 'frames;
-            }
-        }
-        return f;
     }
     NONE
 }

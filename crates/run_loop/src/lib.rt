@@ -52,7 +52,7 @@ pub fn run_calls(schedule: &[u8], report: &mut [u8], first: Pool, start: usize) 
         let client = clients[number];
         let mut fresh = NONE;
         if client.stage == 4 {
-            fresh = reads::free_frame(
+            fresh = frame_search::free_frame(
                 first.size,
                 first.client_count,
                 last,

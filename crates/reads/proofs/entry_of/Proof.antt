@@ -7,9 +7,9 @@ use mathlib.Core.Logic.{⊎-elim}
 use Prim.Native.Nat.{_-_}
 use Rattle.pool.specs.Choose.{choose, both}
 use Rattle.pool.specs.State.{none}
-use Rattle.laws.specs.Elements.{element}
+use Rattle.laws.specs.Elements.{element, reads-as, reads-other}
 use Rattle.laws.specs.Loops.{Left, begins, hit, misses, ends}
-use Rattle.reads.specs.Lists.{mapsIn, entryIn, reads-as, reads-other}
+use Rattle.reads.specs.Lists.{mapsIn, entryIn}
 use Rattle.reads.proofs.entry_of.Statement.{statement}
 use Rattle.reads.proofs.entry_of.Tie as tie
 

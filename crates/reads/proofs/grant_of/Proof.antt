@@ -5,9 +5,9 @@ use mathlib.Core.Path.{refl}
 use Prim.Native.Nat.{_-_}
 use lib.Dec.{eqb}
 use Rattle.pool.specs.State.{none, ofClient}
-use Rattle.laws.specs.Elements.{grant-element}
+use Rattle.laws.specs.Elements.{grant-element, reads-as, reads-other}
 use Rattle.laws.specs.Loops.{Left, begins, hit, misses, ends}
-use Rattle.reads.specs.Lists.{grantIn, reads-as, reads-other}
+use Rattle.reads.specs.Lists.{grantIn}
 use Rattle.reads.proofs.grant_of.Statement.{statement}
 use Rattle.reads.proofs.grant_of.Tie as tie
 

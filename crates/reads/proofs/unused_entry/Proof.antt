@@ -5,9 +5,9 @@ use mathlib.Core.Path.{refl}
 use Prim.Native.Nat.{_-_}
 use lib.Dec.{eqb}
 use Rattle.pool.specs.State.{none, within}
-use Rattle.laws.specs.Elements.{element}
+use Rattle.laws.specs.Elements.{element, reads-as, reads-other}
 use Rattle.laws.specs.Loops.{Left, begins, hit, misses, ends}
-use Rattle.reads.specs.Lists.{unusedIn, reads-as, reads-other}
+use Rattle.reads.specs.Lists.{unusedIn}
 use Rattle.reads.proofs.unused_entry.Statement.{statement}
 use Rattle.reads.proofs.unused_entry.Tie as tie
 

@@ -19,7 +19,7 @@ use Rattle.pool.specs.Schedule.{read}
 use Rattle.pool.specs.declared.Call.{Call}
 use Rattle.pool.specs.declared.Pool.{Pool}
 use Rattle.pool.specs.declared.Reading.the-variants.{Asked}
-use Rattle.reads.specs.Lists.{searched}
+use Rattle.frame_search.specs.Search.{searched}
 use Rattle.report.specs.Lines.{written}
 use Rattle.play.specs.Turn.{clientOrFirst, as-played}
 use Rattle.play.specs.Parts.{poolOf}

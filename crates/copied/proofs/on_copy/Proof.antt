@@ -9,11 +9,11 @@ use Rattle.pool.specs.Limits.{maxClients}
 use Rattle.pool.specs.State.{clientCount}
 use Rattle.pool.specs.Frames.{freeFrame}
 use Rattle.pool.specs.Calls.{caller}
-use Rattle.reads.specs.Lists.{searched}
+use Rattle.frame_search.specs.Search.{searched}
 use Rattle.play.specs.Turn.{clientOrFirst, as-played}
 use Rattle.play.specs.Playable.{recordAt, number-small, frames-searchable, playable, turns}
-use Rattle.play.proofs.on_copy.Statement.{statement}
-use Rattle.play.proofs.on_copy.Tie as tie
+use Rattle.copied.proofs.on_copy.Statement.{statement}
+use Rattle.copied.proofs.on_copy.Tie as tie
 
 -- ---- the places of the walk
 

@@ -2,9 +2,9 @@
 use borrow.Author.Needs.{needs}
 use Rattle.pool.specs.Choose.{choose}
 use Rattle.laws.specs.Choices.{tests}
-use Rattle.reads.specs.Lists.{firstOf}
-use Rattle.reads.proofs.first_tried.Statement.{statement}
-use Rattle.reads.proofs.first_tried.Tie as tie
+use Rattle.frame_search.specs.Search.{firstOf}
+use Rattle.frame_search.proofs.first_tried.Statement.{statement}
+use Rattle.frame_search.proofs.first_tried.Tie as tie
 
 returns : tie.Need-returns
 unfolding firstOf choose

@@ -13,13 +13,13 @@ use denote.Ref.{now}
 use Rattle.pool.specs.Choose.{choose, either, some}
 use Rattle.pool.specs.Frames.{names, referenced, tried, freeFrame}
 use Rattle.pool.specs.State.{none, clientCount, total, slot, entryFrame, no-client}
-use Rattle.laws.specs.Elements.{element, client-of-pool}
+use Rattle.laws.specs.Elements.{element, client-of-pool, reads-as, reads-other}
 use Rattle.laws.specs.Loops.{Left, begins, hit, misses, ends}
-use Rattle.reads.specs.Lists.{searchedIn, first-of, first-in, namesIn, names-in, reads-as, reads-other}
+use Rattle.frame_search.specs.Search.{searchedIn, first-of, first-in, namesIn, names-in}
 use Rattle.pool.specs.declared.Pool.{Pool}
 use Rattle.pool.specs.declared.Client.{Client}
-use Rattle.reads.proofs.free_frame.Statement.{statement}
-use Rattle.reads.proofs.free_frame.Tie as tie
+use Rattle.frame_search.proofs.free_frame.Statement.{statement}
+use Rattle.frame_search.proofs.free_frame.Tie as tie
 
 -- whether a slot, an entry of the table, a client names frame f
 abbrev inSlots : Pool → ℕ → Bool

@@ -8,11 +8,11 @@ use lib.Dec.{eqb}
 use Rattle.pool.specs.Choose.{choose, either}
 use Rattle.pool.specs.State.{none, ofClient}
 use Rattle.laws.specs.Choices.{tests}
-use Rattle.laws.specs.Elements.{grant-element}
+use Rattle.laws.specs.Elements.{grant-element, reads-as, reads-other}
 use Rattle.laws.specs.Loops.{Left, begins, hit, misses, ends}
-use Rattle.reads.specs.Lists.{namesIn, reads-as, reads-other}
-use Rattle.reads.proofs.names.Statement.{statement}
-use Rattle.reads.proofs.names.Tie as tie
+use Rattle.frame_search.specs.Search.{namesIn}
+use Rattle.frame_search.proofs.names.Statement.{statement}
+use Rattle.frame_search.proofs.names.Tie as tie
 
 abbrev Inv-loop : tie.InvT-loop
 Inv-loop grant-frames c f held i₀ i = Left (λ x. eqb (ofClient grant-frames c held none x) f) (λ _. true) false held i
