@@ -3,8 +3,8 @@ use borrow.Author.Tests.{lt-leb}
 use native.Mathlib.Omega.{arith}
 use Prim.Native.Nat.{_<_}
 use Rattle.laws.specs.Choices.{tests}
-use Rattle.validity.proofs.uses_found.Statement.{statement}
-use Rattle.validity.proofs.uses_found.Tie as tie
+use Rattle.range_tests.proofs.uses_found.Statement.{statement}
+use Rattle.range_tests.proofs.uses_found.Tie as tie
 
 returns : tie.Need-returns
 returns c = let h : c .before .args .stage < 19 = omega arith in simp (lt-leb _ _ (c .if1 .taken), lt-leb _ _ h)

@@ -1,8 +1,8 @@
 -- Each return has one side of the definition's choice by `used`. Assumes nothing.
 use Rattle.pool.specs.Choose.{choose}
 use Rattle.pool.specs.Valid.{usedOk}
-use Rattle.validity.proofs.used_ok.Statement.{statement}
-use Rattle.validity.proofs.used_ok.Tie as tie
+use Rattle.range_tests.proofs.used_ok.Statement.{statement}
+use Rattle.range_tests.proofs.used_ok.Tie as tie
 
 returns : tie.Need-returns
 unfolding usedOk choose

@@ -2,8 +2,8 @@
 use Rattle.pool.specs.Choose.{choose, either}
 use Rattle.laws.specs.Choices.{tests}
 use Rattle.pool.specs.Valid.{frameOk}
-use Rattle.validity.proofs.frame_ok.Statement.{statement}
-use Rattle.validity.proofs.frame_ok.Tie as tie
+use Rattle.range_tests.proofs.frame_ok.Statement.{statement}
+use Rattle.range_tests.proofs.frame_ok.Tie as tie
 
 returns : tie.Need-returns
 unfolding frameOk either choose
