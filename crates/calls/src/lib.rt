@@ -51,7 +51,7 @@ pub fn setup(size: u8, client_count: u8, cap: u8, hand: u32) -> Outcome
     ensures { λ r. ⌜ r ≡ setupOf size «client_count» cap hand ⌝ }
     ensures { λ r. ⌜ Among bySetup (refusalOf (r .answer)) ⌝ }
 {
-    let ok = validity::numbers_ok(size, client_count, cap);
+    let ok = range_tests::numbers_ok(size, client_count, cap);
     if ok {
         return Outcome {
             answer: Answer::Done(size as u32),

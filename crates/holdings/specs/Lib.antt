@@ -1,4 +1,1 @@
-pub mod Counting
-pub mod Rows
-pub mod Collects
 pub mod Refusals

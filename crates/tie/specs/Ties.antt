@@ -18,7 +18,7 @@ use Rattle.pool.specs.declared.Answer.{Answer}
 use Rattle.pool.specs.declared.Answer.the-variants.{Done}
 use Rattle.calls.specs.declared.Stepped.{Stepped}
 use Rattle.step.specs.declared.Answered.{Answered}
-use Rattle.holdings.specs.Rows.{blank}
+use Rattle.collecting.specs.Rows.{blank}
 use Rattle.holdings.specs.declared.Listed.{Listed}
 use Rattle.guarantee.specs.Runs.{Event, events}
 use Rattle.guarantee.specs.Claims.{Point3, tallyOf, BelowLargest}

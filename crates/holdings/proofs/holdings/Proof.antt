@@ -53,12 +53,13 @@ use denote.Triple.Walked.{says, Stays, stay-slice, stay-none, walkOf, AllGo, goe
 use denote.Exit.{yes}
 use Rattle.pool.specs.Limits.{maxHeld}
 use Rattle.pool.specs.Holdings.{Holdings}
-use Rattle.holdings.specs.Rows.{noRow}
-use Rattle.holdings.specs.Collects.{Collects, fills-list}
+use Rattle.collecting.specs.Rows.{noRow}
+use Rattle.collecting.specs.Collects.{Collects}
 use Rattle.holdings.specs.Refusals.{promised}
 use Rattle.pool.specs.declared.Row.{Row}
 use Rattle.pool.specs.declared.Pool.{Pool}
-use Rattle.holdings.specs.declared.Collected.{Collected}
+use Rattle.collecting.specs.declared.Collected.{Collected}
+use Rattle.holdings.proofs.Fills.{fills-list}
 use Rattle.holdings.proofs.Laid.{laid, laid-next, length-laid}
 use Rattle.walks.proofs.Machine.{pv, av, asked}
 use Rattle.walks.proofs.Lending.{spelled}
@@ -66,14 +67,14 @@ use Rattle.pool.proofs.Row as T
 use Rattle.pool.proofs.Row.Laws as T′
 use Rattle.pool.proofs.Pool as P
 use Rattle.pool.proofs.Pool.Laws as P′
-use Rattle.holdings.proofs.Collected as S
-use Rattle.holdings.proofs.Collected.Laws as S′
+use Rattle.collecting.proofs.Collected as S
+use Rattle.collecting.proofs.Collected.Laws as S′
 use Rattle.pool.proofs.Answer as An
 use Rattle.pool.proofs.Answer.Laws as An′
-use Rattle.holdings.proofs.collect as collect
-use Rattle.holdings.proofs.collect.Symbol as collect-def
-use Rattle.holdings.proofs.collect.Symbol.{name as #holdings·collect}
-use Rattle.holdings.proofs.collect.Met as collect-thm
+use Rattle.collecting.proofs.collect as collect
+use Rattle.collecting.proofs.collect.Symbol as collect-def
+use Rattle.collecting.proofs.collect.Symbol.{name as #collecting·collect}
+use Rattle.collecting.proofs.collect.Met as collect-thm
 use Rattle.holdings.proofs.row_of as row-of
 use Rattle.holdings.proofs.row_of.Symbol as row-of-def
 use Rattle.holdings.proofs.row_of.Symbol.{name as #holdings·row-of}
@@ -286,7 +287,7 @@ module _ {M : Type 1} (𝓤 : URA M) (H : Heap 𝓤) (A : Atoms 𝓤) (W : Given
       looped : Sq W (At (0, omega arith)) (runs (𝓣 .C) (𝓣 .Λ) En body.t-5 (atRet En Post))
       looped = first ! $ blocks ! $ loops ! 𝓣 Nearer Nearer-wf At (λ i. turn i (ltb (i .0) m) refl) (0, omega arith)
 
-  module _ (𝓣 : Tables 𝓤 H) (known-collect : Triple 𝓤 (𝓣 .C #holdings·collect) (Collect 𝓤 H A at-mem run))
+  module _ (𝓣 : Tables 𝓤 H) (known-collect : Triple 𝓤 (𝓣 .C #collecting·collect) (Collect 𝓤 H A at-mem run))
       (known-row : Triple 𝓤 (𝓣 .C #holdings·row-of) (RowOf 𝓤 H A at-mem run)) where
     walk : ent 𝓤 (onEntry 𝓤 H A f.signature (κ, tt) (q, tt) x at) (WpFn 𝓤 H (𝓣 .C) (𝓣 .Λ) code.function (pv p ∷ vint w8 n ∷ s ∷ []) Post)
     walk =
@@ -320,7 +321,7 @@ module _ {M : Type 1} (𝓤 : URA M) (H : Heap 𝓤) (A : Atoms 𝓤) (W : Given
         looped c (spelled S.the-type S′.the-laws c v is₀) told 𝓣 known-row l₀ l₁ l₂ l₃ l₄ l₅ l₆ l₇ l₈ l₉ l₁₀ l₁₁))))))))))))))))
 
 module _ {M : Type 1} (𝓤 : URA M) (H : Heap 𝓤) (A : Atoms 𝓤) (W : Given 𝓤 H A) (at-mem : Memory → SProp 𝓤) (run : Routine → Fun 𝓤) where
-  holdings-walks : (𝓣 : Tables 𝓤 H) → Triple 𝓤 (𝓣 .C #holdings·collect) (Collect 𝓤 H A at-mem run) →
+  holdings-walks : (𝓣 : Tables 𝓤 H) → Triple 𝓤 (𝓣 .C #collecting·collect) (Collect 𝓤 H A at-mem run) →
       Triple 𝓤 (𝓣 .C #holdings·row-of) (RowOf 𝓤 H A at-mem run) →
       Walks 𝓤 H A f.ended stayed (WpFn 𝓤 H (𝓣 .C) (𝓣 .Λ) code.function) (f.clauses 𝓤 H A at-mem run)
   holdings-walks 𝓣 known-collect known-row = walked 𝓤 H A f.ended stayed (f.clauses 𝓤 H A at-mem run) (WpFn 𝓤 H (𝓣 .C) (𝓣 .Λ) code.function)
@@ -337,7 +338,7 @@ module _ {M : Type 1} (𝓤 : URA M) (H : Heap 𝓤) (A : Atoms 𝓤) (W : Given
   )
 
 holdings-meets : {M : Type 1} (𝓤 : URA M) (H : Heap 𝓤) (A : Atoms 𝓤) (W : Given 𝓤 H A) (at-mem : Memory → SProp 𝓤) (run : Routine → Fun 𝓤)
-    (𝓣 : Tables 𝓤 H) → Triple 𝓤 (𝓣 .C #holdings·collect) (Collect 𝓤 H A at-mem run) → Triple 𝓤 (𝓣 .C #holdings·row-of) (RowOf 𝓤 H A at-mem run)
+    (𝓣 : Tables 𝓤 H) → Triple 𝓤 (𝓣 .C #collecting·collect) (Collect 𝓤 H A at-mem run) → Triple 𝓤 (𝓣 .C #holdings·row-of) (RowOf 𝓤 H A at-mem run)
     → Meets 𝓤 H A f.signature (WpFn 𝓤 H (𝓣 .C) (𝓣 .Λ) code.function) (f.spec 𝓤 H A at-mem run)
 holdings-meets 𝓤 H A W at-mem run 𝓣 known-collect known-row =
     walk-meets 𝓤 H A f.ended stayed W (goes 𝓤 H A W at-mem run) (f.clauses 𝓤 H A at-mem run) (WpFn 𝓤 H (𝓣 .C) (𝓣 .Λ) code.function)
@@ -350,7 +351,7 @@ holdings-spec 𝓤 H 𝓜 𝓖 𝓡 =
     entered 𝓤 H (tripleOf 𝓤 H (𝓖 .A) f.signature (f.spec 𝓤 H (𝓖 .A) (𝓜 .mem) (𝓡 .run)))
     (tables 𝓤 H 𝓜 𝓡 code.env .C) (tables 𝓤 H 𝓜 𝓡 code.env .Λ) #holdings·holdings code.function (code.unfolded 𝓤 H 𝓜 𝓡)
     (holdings-meets 𝓤 H (𝓖 .A) (givenOf 𝓤 H 𝓜 𝓖) (𝓜 .mem) (𝓡 .run) (tablesOf 𝓤 H 𝓜 (tables 𝓤 H 𝓜 𝓡 code.env))
-    (cited 𝓤 H (Collect 𝓤 H (𝓖 .A) (𝓜 .mem) (𝓡 .run)) 𝓜 𝓡 code.env #holdings·collect collect-def.routine code.calls-holdings·collect
+    (cited 𝓤 H (Collect 𝓤 H (𝓖 .A) (𝓜 .mem) (𝓡 .run)) 𝓜 𝓡 code.env #collecting·collect collect-def.routine code.calls-collecting·collect
     (collect-thm.met 𝓤 H 𝓜 𝓖 𝓡))
     (cited 𝓤 H (RowOf 𝓤 H (𝓖 .A) (𝓜 .mem) (𝓡 .run)) 𝓜 𝓡 code.env #holdings·row-of row-of-def.routine code.calls-holdings·row-of
     (row-of-thm.met 𝓤 H 𝓜 𝓖 𝓡)))
