@@ -5,7 +5,7 @@ use native.Mathlib.Omega.{arith}
 use Prim.Native.Nat.{ℕ, zero, suc, _+_, _-_, _<_, _≤_}
 use borrow.Author.Needs.{needs}
 use borrow.Author.Tests.{eq-eqb, ne-eqb, le-leb, lt-leb, lt-ltb, le-ltb}
-use Rattle.pool.specs.Choose.{choose, scan}
+use Rattle.pool.specs.Choose.{choose, both, scan}
 
 -- ---- a choice
 
@@ -23,6 +23,10 @@ chosen t x y e = rw e
 pub passed : {A : Type 0} (t : Bool) (x y : A) → t ≡ false → choose t x y ≡ y
 unfolding choose
 passed t x y e = rw e
+
+-- r, which is a test of two, is the one of two others that come to the same
+pub both-are : {r x y x′ y′ : Bool} → r ≡ both x y → x ≡ x′ → y ≡ y′ → r ≡ both x′ y′
+both-are e f g = cc
 
 -- ---- a search
 

@@ -1,8 +1,9 @@
 -- The loop's invariant: what is left of the test from c on is all of it, since every client before c passed. The measure is how many clients
 -- are left. Assumes nothing.
 use borrow.Author.Needs.{needs}
-use mathlib.Core.Path.{_≡_}
+use mathlib.Core.Path.{_≡_, sym, ap, _∙_}
 use Prim.Native.Nat.{_-_}
+use Rattle.pool.specs.declared.Client.{Client}
 use Rattle.laws.specs.Loops.{Passing, starts, fails, passes, all-pass}
 use Rattle.laws.specs.Elements.{clientIn, client-element}
 use Rattle.validity.specs.Parts.{clientOkIn, clientsOkIn}
@@ -21,7 +22,11 @@ tested :
     let a = l .before .before .args in
     let i = l .before .loop .c in
     c .client-ok .result ≡ clientOkIn (clientIn (a .t1) (a .count) i) i (a .size) (a .n) (a .pages .now) (a .frames .now)
-tested c = let l = c .before .before in cc (client-element (l .before .before .args .t1) _ _ (l .loop-test .taken))
+tested c =
+    let l = c .before .before in
+    let a = l .before .before .args in
+    let here = client-element (a .t1) (a .count) (l .before .loop .c) (l .loop-test .taken) in
+    c .client-ok .ensures ∙ ap (λ (k : Client). clientOkIn k (l .before .loop .c) (a .size) (a .n) (a .pages .now) (a .frames .now)) (sym here)
 
 loop-holds : tie.Need-loop-holds Inv-loop μ-loop
 loop-holds c = starts _ _

@@ -1,9 +1,10 @@
 -- The loop's invariant: what is left of the test from i on is all of it, since every slot before i passed. The measure is how many slots
 -- are left. Assumes nothing.
 use borrow.Author.Needs.{needs}
-use mathlib.Core.Path.{_≡_}
+use mathlib.Core.Path.{_≡_, sym, ap, _∙_}
 use Prim.Native.Nat.{_-_}
 use Rattle.pool.specs.State.{none}
+use Rattle.pool.specs.Valid.{frameOk}
 use Rattle.laws.specs.Loops.{Passing, starts, fails, passes, all-pass}
 use Rattle.laws.specs.Elements.{element}
 use Rattle.validity.specs.Parts.{slotOkIn, slotsOkIn}
@@ -21,7 +22,10 @@ tested :
     let l = c .before .before in
     let a = l .before .before .args in
     c .frame-ok .result ≡ slotOkIn (a .slots .now) (a .size) (a .n) (l .before .loop .i)
-tested c = let l = c .before .before in cc (element (l .before .before .args .slots .now) _ none _ (l .loop-test .taken))
+tested c =
+    let l = c .before .before in
+    let a = l .before .before .args in
+    c .frame-ok .ensures ∙ ap (frameOk (a .n)) (sym (element (a .slots .now) (a .size) none (l .before .loop .i) (l .loop-test .taken)))
 
 loop-holds : tie.Need-loop-holds Inv-loop μ-loop
 loop-holds c = starts _ _

@@ -1,10 +1,13 @@
 -- The loop's invariant: what is left of the test from i on is all of it, since every frame before i passed. The measure is how many frames
 -- are left. Assumes nothing.
 use borrow.Author.Needs.{needs}
-use mathlib.Core.Path.{_≡_}
-use Prim.Native.Nat.{_-_}
-use Rattle.pool.specs.State.{evicted}
+use mathlib.Core.Path.{_≡_, sym, ap}
+use Prim.Native.Nat.{ℕ, _-_}
+use lib.Dec.{leb}
+use Rattle.pool.specs.Limits.{maxPins}
+use Rattle.pool.specs.State.{evicted, pinned}
 use Rattle.pool.specs.Valid.{stateOk}
+use Rattle.laws.specs.Choices.{both-are}
 use Rattle.laws.specs.Loops.{Passing, starts, fails, passes, all-pass}
 use Rattle.laws.specs.Elements.{element}
 use Rattle.validity.specs.Parts.{stateOkIn, statesOkIn}
@@ -26,7 +29,9 @@ unfolding stateOk
 tested c =
     let l = c .before .before .before in
     let a = l .before .before .args in
-    cc (element (a .pins .now) _ evicted _ (l .loop-test .taken), element (a .counts .now) _ 0 _ (l .loop-test .taken))
+    let i = l .before .loop .i in
+    both-are (c .both .ensures) (ap (λ (q : ℕ). leb q (pinned maxPins)) (sym (element (a .pins .now) (a .n) evicted i (l .loop-test .taken))))
+    (ap (λ (r : ℕ). leb r (a .cap)) (sym (element (a .counts .now) (a .n) 0 i (l .loop-test .taken))))
 
 loop-holds : tie.Need-loop-holds Inv-loop μ-loop
 loop-holds c = starts _ _

@@ -2,7 +2,7 @@
 -- first, bound every index after them. Assumes nothing.
 use borrow.Author.Needs.{needs}
 use borrow.Author.Tests.{not-false}
-use mathlib.Core.Path.{_≡_, _∙_, sym}
+use mathlib.Core.Path.{_≡_, refl, _∙_, sym}
 use native.Mathlib.Omega.{arith}
 use Prim.Native.Nat.{_≤_}
 use lib.Dec.{leb}
@@ -11,6 +11,7 @@ use Rattle.pool.specs.declared.Pool.{Pool}
 use Rattle.pool.specs.State.{clientCount, total}
 use Rattle.pool.specs.Choose.{both}
 use Rattle.pool.specs.Valid.{valid}
+use Rattle.laws.specs.Choices.{both-are}
 use Rattle.laws.specs.Loops.{stops, goes}
 use Rattle.pool.specs.Valid.{frameOk}
 use Rattle.validity.specs.Parts.{fromClients, fromEntries, fromStates, fromSlots, fromFree, in-parts}
@@ -48,7 +49,7 @@ free-tested :
     (c : tie.After-both) →
     let p = handed (c .before .before) in
     c .both .result ≡ both (leb (p .free) (p .size)) (frameOk (total p) (p .last))
-free-tested c = cc
+free-tested c = both-are (c .both .ensures) refl (c .before .frame-ok .ensures)
 
 past-free : (c : tie.Else2) → fromSlots (handed (back₂ c)) ≡ valid (handed (back₂ c))
 past-free c = goes _ (free-tested (c .before)) (c .if2 .left) ∙ past-numbers (back₂ c)
