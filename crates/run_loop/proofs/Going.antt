@@ -8,6 +8,8 @@ use borrow.Author.Tests.{lt-ltb, ne-eqb}
 use lib.Dec.{eqb, ltb}
 use lib.ListN.{length, take, drop, length-drop}
 use lib.Seq.{drop-drop}
+use mir.Val.{Fits}
+use mir.Syntax.{w32, w64}
 use Rattle.pool.specs.Choose.{choose, both}
 use Rattle.pool.specs.Calls.{SetUp, turnedDown, caller, callOf}
 use Rattle.pool.specs.Schedule.{Ran, ends, read, lengthOf, performed, endsRun, namedBy, lineFor, runFrom}
@@ -70,6 +72,25 @@ module _ {s space : List ℕ} {first : Pool} {start : ℕ} {p : Pool} {place rec
     (g : Going s space first start p place records bytes now) where
   fuel : length s + 1 - records ≡ suc (length s - records)
   fuel = let a = g .at in let b = g .inside in omega arith
+
+  -- ---- the numbers are small, and one of them falls
+
+  pub few : records ≤ 9999
+  few = let a = g .at in let b = g .inside in let c = g .short in omega arith
+
+  pub record-fits : Fits w32 (records + 1)
+  record-fits = let a = few in omega arith
+
+  pub place-fits : Fits w64 (place + 8)
+  place-fits = let a = g .inside in let b = g .short in omega arith
+
+  pub line-fits : 24 ≤ length now - bytes → bytes + 24 ≤ length now
+  line-fits left = omega arith
+
+  pub falls : place < length s → length s - (place + 8) < length s - place
+  falls here = omega arith
+
+  -- ---- the run from here
 
   not-first : eqb records 0 ≡ false
   not-first = ne-eqb records 0 (λ e. let a = g .some in omega arith)

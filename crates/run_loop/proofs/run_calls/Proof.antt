@@ -28,7 +28,7 @@ use Rattle.invariant.proofs.Valid.{valid-reached}
 use Rattle.lines.specs.Rest.{answerLine}
 use Rattle.records.proofs.Readings.{later-unread}
 use Rattle.lines.proofs.Runs.{from, from-length, report-here}
-use Rattle.run_loop.proofs.Going.{Going, at-start, comes-to, all-read, full, unread, next}
+use Rattle.run_loop.proofs.Going.{Going, at-start, few, record-fits, place-fits, line-fits, falls, comes-to, all-read, full, unread, next}
 use Rattle.run_loop.proofs.run_calls.Statement.{statement}
 use Rattle.run_loop.proofs.run_calls.Tie as tie
 
@@ -108,7 +108,7 @@ in-range : (c : Numbered) → c .client-or-first .result < maxClients
 in-range c = number-small (pool-of (told c)) (call-of (told c)) (valid (told c)) (number-is c)
 
 records-few : (c : Told) → loop-of c .loop .records ≤ 9999
-records-few c = let g = loop-of c .loop .inv in omega arith
+records-few c = few (loop-of c .loop .inv)
 
 space-left : (c : Told) → 24 ≤ length (loop-of c .loop .report) - loop-of c .loop .bytes
 space-left c = c .before .before .before .before .before .if1 .left
@@ -121,7 +121,7 @@ loop-holds c =
     at-start (p .0) (p .1 .0) (p .1 .1) (p .1 .2)
 
 sub-if1 : tie.Need-sub-if1 Inv-loop μ-loop
-sub-if1 c = omega (arith, c .before .loop .inv .room)
+sub-if1 c = c .before .loop .inv .room
 
 same-length : tie.Need-same-length Inv-loop μ-loop
 same-length c = c .before .before .before .loop .inv .size
@@ -136,8 +136,7 @@ returns c =
 stop-requires : tie.Need-stop-requires Inv-loop μ-loop
 stop-requires c κs =
     let g = c .before .before .before .before .before .before .before .loop .inv in
-    let room = c .before .before .before .before .before .if1 .left in
-    (omega arith, omega arith)
+    (line-fits g (c .before .before .before .before .before .if1 .left), few g)
 
 same-length-2 : tie.Need-same-length-2 Inv-loop μ-loop
 same-length-2 c = let same = c .before .before .before .before .before .before .before .before .before .before .loop .inv .size in search needs
@@ -153,7 +152,7 @@ returns-2 c =
     (s .stop .ensures .0 ∙ rest .0, s .stop .ensures .1 ∙ rest .1)
 
 add-place : tie.Need-add-place Inv-loop μ-loop
-add-place c = let g = loop-of c .loop .inv in omega arith
+add-place c = place-fits (loop-of c .loop .inv)
 
 free-frame-requires : tie.Need-free-frame-requires Inv-loop μ-loop
 free-frame-requires c κs =
@@ -172,7 +171,9 @@ write-answer-requires c κs =
     (rw (from-length (l .bytes) (l .report)) (space-left t), records-few t)
 
 loop-less : tie.Need-loop-less Inv-loop μ-loop
-loop-less c = omega (arith, played-of (c .before .before .before .before .before) .before .before .before .before .before .before .loop-test .taken)
+loop-less c =
+    let t = played-of (c .before .before .before .before .before) in
+    falls (loop-of t .loop .inv) (t .before .before .before .before .before .before .loop-test .taken)
 
 same-length-3 : tie.Need-same-length-3 Inv-loop μ-loop
 same-length-3 c = c .before .before .loop .inv .size
@@ -199,7 +200,7 @@ add-bytes c =
     omega (arith, c .before .before .write-answer .ensures .1, space-left t, g .room, g .size, begun l .good)
 
 add-records : tie.Need-add-records Inv-loop μ-loop
-add-records c = omega (arith, records-few (played-of (c .before .before .before .before .before)))
+add-records c = record-fits (loop-of (played-of (c .before .before .before .before .before)) .loop .inv)
 
 loop-again : tie.Need-loop-again Inv-loop μ-loop
 loop-again c =
