@@ -6,6 +6,8 @@
 use pool::Answer;
 use pool::Call;
 use pool::Client;
+use pool::EVICTED;
+use pool::FRAMES;
 use pool::NONE;
 use pool::Pool;
 use pool::Tally;
@@ -55,6 +57,10 @@ fn fact(name: &[u8], n: u32) {
 
 fn wide(x: u8) -> u32 {
     x as u32
+}
+
+fn index(x: u8) -> usize {
+    x as usize
 }
 
 // One number more into a sum that tells the order of its numbers.
@@ -114,29 +120,37 @@ fn digest(pool: Pool) -> u32 {
     clients_into(sum, clients)
 }
 
-// How many pairs of places in the table map one page.
-fn mapped_twice(pool: Pool) -> u32 {
-    let mut pairs = 0;
-    for i in 0..96 {
-        for j in 0..i {
-            if pool.table_pages[i] == pool.table_pages[j]
-                && pool.table_frames[i] != NONE
-                && pool.table_frames[j] != NONE
-            {
-                pairs = wrapping_add_u32(pairs, 1);
+// How many places of the table map the page.
+fn places_of<'a>(pages: &'a [u32; FRAMES], frames: &'a [u8; FRAMES], page: u32) -> u32 {
+    let mut places = 0;
+    for i in 0..FRAMES {
+        if pages[i] == page && frames[i] != NONE {
+            places = wrapping_add_u32(places, 1);
+        }
+    }
+    places
+}
+
+// How many places of the table map a page that another one maps, too.
+fn mapped_twice<'a>(pages: &'a [u32; FRAMES], frames: &'a [u8; FRAMES]) -> u32 {
+    let mut places = 0;
+    for i in 0..FRAMES {
+        if frames[i] != NONE {
+            if places_of(pages, frames, pages[i]) > 1 {
+                places = wrapping_add_u32(places, 1);
             }
         }
     }
-    pairs
+    places
 }
 
 // How many pages are resident: mapped to a frame that is not evicted.
-fn resident(pool: Pool) -> u32 {
+fn resident<'a>(frames: &'a [u8; FRAMES], pins: &'a [u8; FRAMES]) -> u32 {
     let mut pages = 0;
-    for i in 0..96 {
-        let f = pool.table_frames[i] as usize;
-        if f < 96 {
-            if pool.pins[f] != 0 {
+    for i in 0..FRAMES {
+        let f = index(frames[i]);
+        if f < FRAMES {
+            if pins[f] != EVICTED {
                 pages = wrapping_add_u32(pages, 1);
             }
         }
@@ -144,18 +158,25 @@ fn resident(pool: Pool) -> u32 {
     pages
 }
 
-fn facts(run: Run) {
-    let pool = run.pool;
-    let tally = run.tally;
-    fact(b"pages mapped twice", mapped_twice(pool));
-    fact(b"calls turned down that changed the pool", run.changed);
+fn tally_facts(tally: Tally) {
     fact(b"hits", tally.hits);
     fact(b"joins", tally.joins);
     fact(b"admitted", tally.admitted);
     fact(b"revived", tally.revived);
     fact(b"drops", tally.drops);
     fact(b"refused", tally.refused);
-    fact(b"resident pages", resident(pool));
+}
+
+fn facts(run: Run) {
+    let pool = run.pool;
+    let tally = run.tally;
+    fact(
+        b"places that map a page twice",
+        mapped_twice(&pool.table_pages, &pool.table_frames),
+    );
+    fact(b"calls turned down that changed the pool", run.changed);
+    tally_facts(tally);
+    fact(b"resident pages", resident(&pool.table_frames, &pool.pins));
 }
 
 // ---- calls

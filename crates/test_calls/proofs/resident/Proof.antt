@@ -5,14 +5,13 @@ use Rattle.test_calls.proofs.resident.Statement.{statement}
 use Rattle.test_calls.proofs.resident.Tie as tie
 
 abbrev Inv-loop : tie.InvT-loop
-Inv-loop pool pages₀ i₀ pages i = i ≤ 96
+Inv-loop frames pins pages₀ i₀ pages i = i ≤ 96
 
 abbrev μ-loop : tie.MeasureT-loop
-μ-loop pool pages₀ i₀ pages i = 96 - i
+μ-loop frames pins pages₀ i₀ pages i = 96 - i
 
 pub resident-spec : {M : Type 1} → statement M
 resident-spec =
     tie.close
     (tie.spec
-    Inv-loop μ-loop (λ c. search needs) (λ c. search needs) (λ c. search needs) (λ c. search needs) (λ c κs. search needs) (λ c. search needs)
-    (λ c. search needs) (λ c. search needs) (λ c. search needs))
+    Inv-loop μ-loop (λ c. search needs) (λ c. search needs) (λ c κs. search needs) (λ c. search needs) (λ c κs. search needs) (λ c. search needs) (λ c. search needs) (λ c. search needs) (λ c. search needs))
