@@ -1,12 +1,13 @@
--- The proofs of specs/Claims.antt, in reading order. All of them rest on the invariant, `Reached`, of crate `invariant`.
+-- The proofs of specs/Claims.antt, in reading order; claims have the numbers of docs/GUARANTEE.md. All of them rest on the invariant, `Reached`,
+-- of crate `invariant`.
 -- what holds of reached pools holds along a run
 pub mod Along
 -- of every pool, a handed one too: a call is turned down or is one move; the listed answers
 pub mod TurnedDown
 pub mod Listed
--- claim a, what its grants are: those that the answers told the clients
+-- claim 1: the grants that the pool lists are those that the answers told the clients
 pub mod GrantLists
--- claim d: the simulation relation; the sequential pool's pages, its clients
+-- claim 5: the simulation relation; the sequential pool's pages, its clients
 pub mod SimulationRelation
 pub mod Frames
 pub mod Pages
@@ -17,16 +18,16 @@ pub mod Simulate
 pub mod SimulateMoves
 pub mod Follow
 pub mod Sequence
--- from the sequential pool: claims a and b
+-- from the sequential pool: claims 2 and 3
 pub mod Copies
 -- the tally's sum, over the edges
 pub mod Sum
--- claim c: between two replacements of a frame it is taken anew
+-- claim 4: between two replacements of a frame it is taken anew
 pub mod Once
 -- a call as one client sees it; each grant takes effect once
 pub mod OneClient
 pub mod OneEffect
--- a client stepped alone: its moves, the limits, the sweep, and claim e
+-- a client stepped alone: its moves, the limits, the sweep, and claim 6
 pub mod AloneSteps
 pub mod Limits
 pub mod Sweep

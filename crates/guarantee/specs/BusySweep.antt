@@ -1,5 +1,5 @@
--- Refusal 15 in company: what a client has met when it is refused, whatever the others did meanwhile. Its last visits, as many as the pool has slots,
--- were busy ones, each of another slot, and all of them came after its begin. `Claims.antt` takes the claim in. Statements only. Assumes nothing.
+-- GUARANTEE 7, refused in company: what a client has met when it is refused by 15, whatever the others did meanwhile. `Claims.antt` takes the claim
+-- in. Statements only. Assumes nothing.
 use mathlib.Core.Path.{_≡_}
 use mathlib.Core.Logic.{_≢_, _⊎_}
 use mathlib.Core.List.{List}

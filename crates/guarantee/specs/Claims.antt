@@ -1,5 +1,5 @@
--- What is claimed of every run from an accepted setup. `Point3` is point 3 of the request, "a single claim about the whole list of calls"; the
--- others go with it. Statements only; `proofs/Guaranteed.antt` puts their proofs together. Assumes nothing.
+-- What is claimed of every run from an accepted setup: docs/GUARANTEE.md, claim by claim. `Point3`, named after the point of the user's request, is
+-- claims 1 to 6 as one. Statements only; `proofs/Guaranteed.antt` puts their proofs together. Assumes nothing.
 use mathlib.Core.Path.{_≡_}
 use mathlib.Core.Logic.{_≢_, _⊎_, _↔_}
 use mathlib.Core.Bool.{Bool, true, false, _||_}
@@ -26,14 +26,14 @@ use Rattle.guarantee.specs.Runs.{Event, events, At, Run, along, IsCall, 
 use Rattle.guarantee.specs.Sequential.{Sequential, Keeps, seqClient, start, Rule, adding, admitting}
 use Rattle.guarantee.specs.BusySweep.{Claim-busy-sweep}
 
--- ---- a. "any two grants of one page that were ever open together name the same frame"
+-- ---- GUARANTEE 2: one copy
 
 abbrev pub OneCopy : Pool → Type 0
 OneCopy p =
     (c d i j : ℕ) → i < client p c .held → j < client p d .held → grantPage p c i ≡ grantPage p d j → grantFrame p c i ≡ grantFrame p d j
 
--- `OneCopy` speaks of the grants that the pool lists for each client. They are those that the answers told the client and that it has not released
--- since, which the rest of this part says.
+-- ---- GUARANTEE 1: as told. `OneCopy` speaks of the grants that the pool lists for each client; this part says that they are those of which the
+-- client was told, and which it has not released since.
 
 pub record OpenGrant : Type 0 where
   pub page : ℕ
@@ -73,13 +73,13 @@ module _ (c : ℕ) (e : Event) where
     pub each : (i : ℕ) → is i ≡ was i
 
   pub record GrantsAsTold : Type 0 where
-    -- "a grant is open from its answer": a step "granted (value: the frame)"
+    -- a grant begins with the answer that tells the client its frame
     pub granted : (f : ℕ) → e .asked ≡ Step c → e .answer ≡ Granted f → GrantOpens f
-    -- "Release (bench, page) ends one grant"
+    -- a release that is done ends one
     pub released : (g : ℕ) → e .asked ≡ Release c g → e .answer ≡ Done g → GrantEnds g
-    -- "until a release ends it": every other call leaves them, the client's own or another's, whatever its answer
+    -- every other call leaves them, the client's own or another's, whatever its answer
     pub otherwise : (GrantedTo c e → ⊥) → (Releases c e → ⊥) → GrantsStay
-    -- "Begin: the bench wants the page"; after every other call a client that works worked before it, for the same page
+    -- The page that is granted is the one that was begun: no call between the two changes it.
     pub begun : (g : ℕ) → e .asked ≡ Begin c g → e .answer ≡ Done g → client (e .next) c .page ≡ g
     pub still-wants : (Begins c e → ⊥) → client (e .next) c .stage ≢ 0
         → (client (e .before) c .stage ≢ 0) × (client (e .next) c .page ≡ client (e .before) c .page)
@@ -90,7 +90,7 @@ pub record GrantLists (p : Pool) (run : Run) : Type 0 where
   pub none-at-first : (c : ℕ) → client p c .held ≡ 0
   pub as-told : (c n : ℕ) → IsCall run n → run (GrantsAsTold c) n
 
--- ---- b. "no held frame was evicted"
+-- ---- GUARANTEE 3: held pages stay
 
 -- a call leaves a frame evicted that was not
 abbrev pub BecomesEvicted : ℕ → Event → Type 0
@@ -102,9 +102,9 @@ NoHeldEvicted run = (f n : ℕ) → run (BecomesEvicted f) n → run (λ e. held
 abbrev pub HeldPinned : Pool → Type 0
 HeldPinned p = (f : ℕ) → held p f ≡ true → pinned 1 ≤ pins p f
 
--- ---- c. "no eviction was taken out of its slot twice"
+-- ---- GUARANTEE 4: taken out once
 
--- "An eviction is a stage 14, 20 or 23 that sets a frame's pins to -1"
+-- an eviction of frame f
 pub record Evicts (f : ℕ) (e : Event) : Type 0 where
   pub client-of : ℕ
   pub stage : ℕ
@@ -134,8 +134,7 @@ pub record TakenOut (run : Run) (f k i n : ℕ) : Type 0 where
 abbrev pub TakenOutOnce : Run → Type 0
 TakenOutOnce run = (f k i j m n : ℕ) → run (Evicts f) k → TakenOut run f k i m → TakenOut run f k j n → (m ≡ n) × (i ≡ j)
 
--- ---- d. "The plain pool's choices can be made so that all these rules are kept, every answer equals the real pool's .., and after every call the
--- plain pool's pages with their frames are exactly the resident ones with theirs."
+-- ---- GUARANTEE 5: one at a time
 
 -- page g is resident, in frame f
 abbrev pub ResidentIn : Pool → ℕ → ℕ → Type 0
@@ -154,8 +153,8 @@ pub data Follows : Pool → Sequential → List Call → Type 0 where
   at-call : {p : Pool} {q q′ : Sequential} {x : Call} {calls : List Call}
       → SamePages p q → SameStages p q → Rule q x (callOf p x .answer) q′ → Follows (callOf p x .pool) q′ calls → Follows p q (x ∷ calls)
 
--- "A grant takes effect where it is added or admitted.": the steps of which the sequential pool's rules `adds` and `admits` speak, by the stage and
--- the answer, which both pools share (`SameStages`, and the answer in `at-call`)
+-- whether a grant takes effect: at the steps of which the sequential pool's rules `adds` and `admits` speak, told by the stage and the answer, which
+-- both pools share (`SameStages`, and the answer in `at-call`)
 unfoldable pub takesEffect : ℕ → Answer → Bool
 takesEffect i (Done n) = false
 takesEffect i (Working j) = adding i j
@@ -183,8 +182,7 @@ pub record TakesEffectOnce (run : Run) (c n : ℕ) : Type 0 where
 abbrev pub OneEffect : Run → Type 0
 OneEffect run = (c n : ℕ) → run (GrantedTo c) n → TakesEffectOnce run c n
 
--- ---- e. "A request in the list that is begun and answered while all other benches rest and release nothing is refused for want of a frame
--- exactly when, at its begin, its page is absent and every slot names a held frame."
+-- ---- GUARANTEE 6: refused only when full
 
 abbrev pub AllHeld : Pool → Type 0
 AllHeld p = (i : ℕ) → i < p .size → (slot p i ≢ none) × (held p (slot p i) ≡ true)
@@ -207,9 +205,9 @@ abbrev pub RefusedAlone : Run → Type 0
 RefusedAlone run =
     (p : Pool) (c g k n : ℕ) → Alone run p c g k n → run (λ e. e .answer ≡ Refused 15) n ↔ ((resident p g ≡ false) × AllHeld p)
 
--- ---- point 3
+-- ---- GUARANTEE 1 to 6 of one list of calls
 
--- of the calls in a list, from pool p on; the sequential pool starts with as many slots and clients as p has
+-- from pool p on; the sequential pool starts with as many slots and clients as p has
 pub record Point3 (p : Pool) (calls : List Call) : Type 0 where
   pub grants : GrantLists p (along (events p calls))
   pub one-copy : Throughout OneCopy p calls
@@ -220,11 +218,11 @@ pub record Point3 (p : Pool) (calls : List Call) : Type 0 where
   pub one-effect : OneEffect (along (events p calls))
   pub refused-alone : RefusedAlone (along (events p calls))
 
--- "For every list of begins, steps and releases .. from a freshly set-up pool"
+-- of every list of calls
 abbrev pub Claim-point3 : Type 0
 Claim-point3 = (p : Pool) → SetUp p → (calls : List Call) → Point3 p calls
 
--- ---- answers: "done, a grant, a stage or a numbered refusal"
+-- ---- GUARANTEE 8: listed answers
 
 -- a stage, a frame or a refusal number, 8 aside, that the call can be answered by
 unfoldable pub Listed : Pool → Call → Answer → Type 0
@@ -234,12 +232,11 @@ Listed p (Step c) a =
     ⊎ ((a ≡ Refused 9) ⊎ ((a ≡ Refused 11) ⊎ (a ≡ Refused 15))))
 Listed p (Release c g) a = (a ≡ Done g) ⊎ ((a ≡ Refused 9) ⊎ ((a ≡ Refused 10) ⊎ (a ≡ Refused 13)))
 
--- "Every call, on all input, ends with a listed answer": of every pool, from wherever it was handed, one of these or 8
+-- of every pool, from wherever it was handed: one of these or 8
 abbrev pub Claim-listed : Type 0
 Claim-listed = (p : Pool) (x : Call) → (callOf p x .answer ≡ Refused 8) ⊎ Listed p x (callOf p x .answer)
 
--- "pools that come from setup and calls never meet this" (8): no range is broken in any pool of the run, a client at stage 4 finds a frame, and every
--- answer is a listed one, so never 8
+-- GUARANTEE 9, check 8 is never met: the pools of a run keep their ranges, a client at stage 4 finds a frame, and no answer is 8
 pub record Answered (p : Pool) (calls : List Call) : Type 0 where
   pub in-range : Throughout (λ p. valid p ≡ true) p calls
   pub finds : Throughout (λ p. (c : ℕ) → client p c .stage ≡ 4 → freeFrame p < total p) p calls
@@ -248,7 +245,7 @@ pub record Answered (p : Pool) (calls : List Call) : Type 0 where
 abbrev pub Claim-answers : Type 0
 Claim-answers = (p : Pool) → SetUp p → (calls : List Call) → Answered p calls
 
--- "All but 15 change no pool, tally or list.": of every pool, from wherever it was handed
+-- GUARANTEE 10: of every pool, from wherever it was handed
 abbrev pub Claim-turned-down : Type 0
 Claim-turned-down =
     (p : Pool) (x : Call) (n : ℕ) → callOf p x .answer ≡ Refused n → n ≢ 15 → (callOf p x .pool ≡ p) × (callOf p x .counted ≡ Nothing)
@@ -274,36 +271,35 @@ withClient p c k =
       «grant_frames» = p .«grant_frames»;
     }
 
--- Call x is a step whose client comes to rest: it keeps its grants, forgets its frames, and one refusal is counted. Nothing else changes, so the frame
--- that it took keeps its page, pins and count.
+-- SPECIFICATION 6.16: call x is a step of a client that comes to rest, and nothing else changes
 abbrev pub RestsRefused : Pool → Call → Type 0
 RestsRefused p x =
     (c : ℕ) × (x ≡ Step c) × (callOf p x .pool ≡ withClient p c (resting (client p c .held))) × (callOf p x .counted ≡ Refusal)
 
--- refusal 15, of every pool, from wherever it was handed
+-- GUARANTEE 11: of every pool, from wherever it was handed
 abbrev pub Claim-refused : Type 0
 Claim-refused = (p : Pool) (x : Call) → callOf p x .answer ≡ Refused 15 → RestsRefused p x
 
--- ---- the tally's sum
+-- ---- GUARANTEE 12: the tally's sum
 
--- one tally lent throughout, "each time as the last call left it"
+-- one tally that goes from call to call
 unfoldable pub tallyOf : Tally → List Event → Tally
 tallyOf t [] = t
 tallyOf t (e ∷ es) = tallyOf (tallied (e .counted) t) es
 
--- "none of its counts is at that value"
+-- no count is at its largest value, where it would stay
 abbrev pub BelowLargest : Tally → Type 0
 BelowLargest t =
     (t .hits < largest) × (t .joins < largest) × (t .admitted < largest) × (t .revived < largest) × (t .drops < largest) × (t .refused < largest)
 
--- "resident pages = admitted + revived - drops"
+-- SPECIFICATION 7.3, with the drops on the other side: these numbers are never negative
 abbrev pub Claim-sum : Type 0
 Claim-sum =
     (p : Pool) → SetUp p → (calls : List Call)
     → let tally = tallyOf zeroTally (events p calls) in
     BelowLargest tally → residents (poolAfter p calls) + tally .drops ≡ tally .admitted + tally .revived
 
--- ---- "Stepped alone, all others resting, a hit takes at most 3 steps, and an admission to an empty slot at most S + 7."
+-- ---- GUARANTEE 13: the limits of steps
 
 -- of n + 1 steps of client c, with no other call, the last is granted
 abbrev pub GrantedAtLast : Pool → ℕ → ℕ → Type 0

@@ -1,4 +1,4 @@
--- Runs: "every list of begins, steps and releases, refused ones included, in whatever order the benches make them". Assumes nothing.
+-- Runs, and what the claims say of their events. Assumes nothing.
 use mathlib.Core.Path.{_≡_}
 use mathlib.Core.List.{List, [], _∷_}
 use Prim.Native.Nat.{ℕ, zero, suc, _≤_, _<_}
@@ -22,7 +22,7 @@ pub record Event : Type 0 where
 abbrev pub eventOf : Pool → Call → Event
 eventOf p x = let o = callOf p x in record { before = p; asked = x; answer = o .answer; counted = o .counted; next = o .pool }
 
--- "each later call gets the pool the last one returned"
+-- SPECIFICATION 3.8: the calls of a run that starts with pool p
 unfoldable pub events : Pool → List Call → List Event
 events p [] = []
 events p (x ∷ calls) = eventOf p x ∷ events (callOf p x .pool) calls

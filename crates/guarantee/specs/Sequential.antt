@@ -1,5 +1,5 @@
--- The sequential pool (document 01: the plain pool): one request at a time takes effect, all at once. It "reads nothing of the real one and is
--- fed the calls alone". `Rule q x a q′` says that from state q it may answer call x by a and go on as q′. Assumes nothing.
+-- The sequential pool: SPECIFICATION, section 11. Of the real pool only the names of calls and answers stand in this file.
+-- `Rule q x a q′` says that from state q it may answer call x by a and go on as q′. Assumes nothing.
 use mathlib.Core.Path.{_≡_}
 use mathlib.Core.Logic.{_≢_}
 use mathlib.Core.Bool.{Bool, false, not, _||_, _&&_}
@@ -16,20 +16,18 @@ use Rattle.pool.specs.declared.Answer.the-variants.{Done, Working, Granted, Ref
 
 -- ---- its state
 
--- room for one page: empty, or a page with its frame
+-- SPECIFICATION 11.1: room for one page, which is empty or has a page with its frame
 pub data SeqSlot : Type 0 where
   empty : SeqSlot
   stores : (page frame : ℕ) → SeqSlot
 
--- A client: the stage it stands at, 0 where it rests; the page it wants; and the page of each grant it has, as often as it has one.
--- So a page's grants by client are how often the page stands in each client's list.
+-- SPECIFICATION 11.1: a client. Its stage is 0 where it rests; a page stands in `grants` once for each grant of it.
 pub record SeqClient : Type 0 where
   pub stage : ℕ
   pub wants : ℕ
   pub grants : List ℕ
 
--- "It keeps at most S pages, each with a frame and its grants by bench, and for each bench the page wanted and the stage it stands at, or that
--- it rests.": S slots, so never more than S pages, and T clients.
+-- SPECIFICATION 11.1: S slots, so never more than S pages, and T clients
 pub record Sequential : Type 0 where
   pub slots : List SeqSlot
   pub clients : List SeqClient
@@ -43,7 +41,7 @@ seqResting grants = record { stage = 0; wants = 0; grants = grants }
 abbrev pub seqClient : Sequential → ℕ → SeqClient
 seqClient q c = getD (q .clients) c (seqResting [])
 
--- "Its size is S, it has T benches, and it starts with no pages and every bench resting."
+-- SPECIFICATION 11.2
 abbrev pub start : ℕ → ℕ → Sequential
 start s t = record { slots = replicate s empty; clients = replicate t (seqResting []) }
 
@@ -57,14 +55,14 @@ Absent q g = (f : ℕ) → Keeps q g f → ⊥
 abbrev pub Unused : Sequential → ℕ → Type 0
 Unused q f = (g : ℕ) → Keeps q g f → ⊥
 
--- ---- "It turns a call down by 9 to 13 from this state alone; nothing changes."
+-- ---- what it turns down
 
 -- the list without its first g
 unfoldable pub without : ℕ → List ℕ → List ℕ
 without g [] = []
 without g (x ∷ xs) = choose (eqb x g) xs (x ∷ without g xs)
 
--- the number by which a call is turned down, 0 where it is not
+-- SPECIFICATION 11.3: the number by which a call is turned down, 0 where it is not
 unfoldable pub seqRefusal : Sequential → Call → ℕ
 seqRefusal q (Begin c g) =
     choose (ltb c (length (q .clients))) (choose (eqb (seqClient q c .stage) 0) (choose (ltb (length (seqClient q c .grants)) maxHeld) 0 12) 10) 9
@@ -74,7 +72,7 @@ seqRefusal q (Release c g) =
 
 -- ---- its steps
 
--- "From 2 to 3, or 19 to 20, adds a grant"; "Granted at 18 or 22 admits that page"; "From 14 to 15 drops some page"
+-- the first two columns of SPECIFICATION 11.6: where the client stood, and the stage that is answered
 abbrev pub adding : ℕ → ℕ → Bool
 adding i j = (eqb i 2 && eqb j 3) || (eqb i 19 && eqb j 20)
 
@@ -87,22 +85,16 @@ answering i = eqb i 3 || eqb i 21
 abbrev pub dropping : ℕ → ℕ → Bool
 dropping i j = eqb i 14 && eqb j 15
 
--- A step of a client, k: the answer, and the slots and the client after it. "The bench then stands at the answer's stage; granted or refused
--- by 15, it rests."
+-- SPECIFICATION 11.6, a rule for each row: a step of client k, the answer, and the slots and the client after it
 pub data StepRule (q : Sequential) (k : SeqClient) : Answer → List SeqSlot → SeqClient → Type 0 where
-  -- "adds a grant to the wanted page, which must be there"
   adds : {j f : ℕ} → T (adding (k .stage) j) → Keeps q (k .wants) f
       → StepRule q k (Working j) (q .slots) (record { stage = j; wants = k .wants; grants = k .wants ∷ k .grants })
-  -- "admits that page, which must be absent, with one grant and the answer's frame, which no other page may have; there must be fewer than S
-  -- pages": slot i is empty
+  -- fewer than S pages: slot i is empty
   admits : {f : ℕ} → T (admitting (k .stage)) → Absent q (k .wants) → Unused q f → (i : ℕ) → i < length (q .slots) → seqSlot q i ≡ empty
       → StepRule q k (Granted f) (set (q .slots) i (stores (k .wants) f)) (seqResting (k .wants ∷ k .grants))
-  -- "drops some page without grants"
   drops : {j g f : ℕ} → T (dropping (k .stage) j) → (i : ℕ) → seqSlot q i ≡ stores g f → ((c : ℕ) → member g (seqClient q c .grants) ≡ false)
       → StepRule q k (Working j) (set (q .slots) i empty) (record { stage = j; wants = k .wants; grants = k .grants })
-  -- "Granted at 3 or 21 answers the wanted page's frame."
   answers : {f : ℕ} → T (answering (k .stage)) → Keeps q (k .wants) f → StepRule q k (Granted f) (q .slots) (seqResting (k .grants))
-  -- "Any other step, refusal 15 too, moves no page."
   continues : {j : ℕ} → T (not (adding (k .stage) j || dropping (k .stage) j)) → 1 ≤ j → j ≤ 23
       → StepRule q k (Working j) (q .slots) (record { stage = j; wants = k .wants; grants = k .grants })
   refuses : StepRule q k (Refused 15) (q .slots) (seqResting (k .grants))
@@ -110,13 +102,15 @@ pub data StepRule (q : Sequential) (k : SeqClient) : Answer → List SeqSlot →
 abbrev pub withSeqClient : Sequential → ℕ → SeqClient → Sequential
 withSeqClient q c k = record { slots = q .slots; clients = set (q .clients) c k }
 
+-- SPECIFICATION 11.3 to 11.6
 pub data Rule (q : Sequential) : Call → Answer → Sequential → Type 0 where
   turns-down : {x : Call} {n : ℕ} → seqRefusal q x ≡ n → n ≢ 0 → Rule q x (Refused n) q
-  -- "Begin: the bench wants the page and stands at 1; done."
+  -- SPECIFICATION 11.4
   begins : {c g : ℕ} → seqRefusal q (Begin c g) ≡ 0
       → Rule q (Begin c g) (Done g) (withSeqClient q c (record { stage = 1; wants = g; grants = seqClient q c .grants }))
-  -- "Release: one grant of the bench on the page ends; done."
+  -- SPECIFICATION 11.5
   releases : {c g : ℕ} → seqRefusal q (Release c g) ≡ 0
       → Rule q (Release c g) (Done g) (withSeqClient q c (seqResting (without g (seqClient q c .grants))))
+  -- SPECIFICATION 11.6
   steps : {c : ℕ} {a : Answer} {slots : List SeqSlot} {k : SeqClient} → seqRefusal q (Step c) ≡ 0 → StepRule q (seqClient q c) a slots k
       → Rule q (Step c) a (record { slots = slots; clients = set (q .clients) c k })

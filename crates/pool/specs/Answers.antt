@@ -1,12 +1,11 @@
--- The numbers that document 01 gives the answers. Assumes nothing.
+-- The numbers of the answers. Assumes nothing.
 use Prim.Native.Nat.{ℕ, _+_}
 use Rattle.pool.specs.declared.Answer.{Answer}
 use Rattle.pool.specs.declared.Answer.the-variants.{Done, Working, Granted, Refused}
 use Rattle.pool.specs.declared.Reading.{Reading}
 use Rattle.pool.specs.declared.Reading.the-variants.{Setup, Asked, Unreadable}
 
--- "Code 0 is done (value: the page, or S for a setup); 1 is still working (value: the stage it now stands at); 2 is granted (value: the
--- frame); 100 plus a refusal number has value 0."
+-- SPECIFICATION 3.6: code and value
 unfoldable pub codeOf : Answer → ℕ
 codeOf (Done n) = 0
 codeOf (Working stage) = 1
@@ -19,7 +18,7 @@ valueOf (Working stage) = stage
 valueOf (Granted frame) = frame
 valueOf (Refused n) = 0
 
--- the refusal number of an answer, 0 for one that is no refusal
+-- SPECIFICATION 3.6: the refusal number of an answer, 0 for one that is no refusal
 unfoldable pub refusalOf : Answer → ℕ
 refusalOf (Done n) = 0
 refusalOf (Working stage) = 0

@@ -122,7 +122,7 @@ module _ (n c : ℕ) (l : List ℕ) where
   grantFramesAfter (Open i g f) = stored l n (grantPlace c i) f
   grantFramesAfter (End i last) = stored l n (grantPlace c i) (within l n 0 (grantPlace c last))
 
--- "A frame changes only where a stage or a release says so.": the pool after a move of client c
+-- SPECIFICATION 1.9: the pool after a move of client c
 unfoldable pub apply : Pool → ℕ → Move → Pool
 apply p c m =
     record {

@@ -25,13 +25,13 @@ use Rattle.pool.specs.declared.Counted.the-variants.{Nothing}
 use Rattle.pool.specs.declared.GrantChange.the-variants.{Same, End}
 use Rattle.pool.specs.declared.Write.the-variants.{Keep, PutPins}
 
--- "All but 15 change no pool, tally or list."
+-- SPECIFICATION 6.17
 abbrev pub turnedDown : ℕ → Pool → Outcome
 turnedDown n p = record { answer = Refused n; counted = Nothing; pool = p }
 
 -- ---- setup
 
--- "At setup all slots and the table are empty, every frame has page 0, pins -1 and count 0, and every bench rests with no grants."
+-- SPECIFICATION 1.4, 1.8
 abbrev pub fresh : ℕ → ℕ → ℕ → ℕ → Pool
 fresh s t c h =
     record {
@@ -52,15 +52,15 @@ fresh s t c h =
       «grant_frames» = replicate maxGrants 0;
     }
 
--- what a refused setup leaves: a pool without slots, which every call refuses as 8
+-- SPECIFICATION 3.1: what a refused setup leaves
 abbrev pub noPool : Pool
 noPool = fresh 0 0 0 0
 
--- 8. "S, T or C is outside its range."
+-- SPECIFICATION 3.1, refusal 8
 unfoldable pub setupOf : ℕ → ℕ → ℕ → ℕ → Outcome
 setupOf s t c h = choose (numbersOk s t c) (record { answer = Done s; counted = Nothing; pool = fresh s t c h }) (turnedDown 8 noPool)
 
--- what an accepted setup is: p is the pool that a setup with some numbers returned, and that setup was done
+-- SPECIFICATION 3.8, the first pool of a run: p is what a setup with some numbers returned, and that setup was done
 pub record SetUp (p : Pool) : Type 0 where
   pub size : ℕ
   pub clients : ℕ
@@ -77,26 +77,25 @@ caller (Begin c g) = c
 caller (Step c) = c
 caller (Release c g) = c
 
--- 10. "Begin or release at a working bench." 11. "Step at a resting bench." 12. "Begin at a bench with 8 grants."
--- 13. "Release of a page the bench does not hold." 0: none of them.
+-- SPECIFICATION 3.7, refusals 10 to 13; 0 for none of them
 unfoldable pub refusalAt : Pool → Client → Call → ℕ
 refusalAt p k (Begin c g) = choose (eqb (k .stage) 0) (choose (ltb (k .held) maxHeld) 0 12) 10
 refusalAt p k (Step c) = choose (eqb (k .stage) 0) 11 0
 refusalAt p k (Release c g) = choose (eqb (k .stage) 0) (choose (eqb (grantOf p c g) none) 13 0) 10
 
--- 9. "The bench number is T or more.", then 10 to 13; 0: none of them
+-- SPECIFICATION 3.7, refusal 9, and then those above; 0 for none of them
 abbrev pub turnedBy : Pool → Call → ℕ
 turnedBy p call = choose (ltb (caller call) (clientCount p)) (refusalAt p (client p (caller call)) call) 9
 
--- the number by which a call is turned down before its action, in checking order: 8, then the others
+-- SPECIFICATION 3.7: by which number a call is turned down before its action, 8 first; 0 for none
 unfoldable pub refusal : Pool → Call → ℕ
 refusal p call = choose (valid p) (turnedBy p call) 8
 
--- "Begin (bench, page) puts a resting bench at stage 1."
+-- SPECIFICATION 3.2
 abbrev pub beginMove : Client → ℕ → Move
 beginMove k g = completes g (wanting k g) Same Keep
 
--- "Release (bench, page) ends one grant and lowers that frame's pins by one." Read: the grant's place, its frame, and the frame's pins.
+-- SPECIFICATION 3.4. Read: the grant's place, its frame, and the frame's pins. The last grant moves to the place of the one that ends.
 unfoldable pub releaseMove : Client → ℕ → ℕ → ℕ → ℕ → Move
 releaseMove k g i f n =
     choose (eqb n evicted) (stuck k) (completes g (holding k (k .held - 1)) (End i (k .held - 1)) (PutPins f (n - 1)))
@@ -110,7 +109,7 @@ moveOf p (Release c g) =
     let f = grantFrame p c i in
     releaseMove (client p c) g i f (pins p f)
 
--- the pool after an action, if it keeps the ranges; else 8, and nothing changes
+-- SPECIFICATION 3.7, refusal 8: the pool after an action, if it keeps the ranges
 unfoldable pub finished : Pool → ℕ → Move → Outcome
 finished p c m =
     let next = apply p c m in
@@ -118,15 +117,16 @@ finished p c m =
     (record { answer = m .answer; counted = m .counted; pool = next })
     (turnedDown 8 p)
 
--- A call: check 8 as handed, 9 to 13, the action, check 8 after it.
+-- SPECIFICATION 3.7: a call
 unfoldable pub callOf : Pool → Call → Outcome
 callOf p call =
     let n = refusal p call in
     let done = finished p (caller call) (moveOf p call) in
     choose (eqb n 0) done (turnedDown n p)
 
--- ---- lists of calls: "Setup gives the first pool, each later call gets the pool the last one returned"
+-- ---- lists of calls
 
+-- SPECIFICATION 3.8: the pool that the last of some calls returns
 unfoldable pub poolAfter : Pool → List Call → Pool
 poolAfter p [] = p
 poolAfter p (call ∷ calls) = poolAfter (callOf p call .pool) calls

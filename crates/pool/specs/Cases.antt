@@ -1,5 +1,5 @@
--- The bench cases that document 01 marks P, and more for its list "What looks right on the shelf", as one table. A case is a setup, the calls
--- that lead up to it, and then line by line what is called and answered, and what the pool's numbers are. Assumes nothing.
+-- The worked cases P1 to P8 (SPECIFICATION, section 12), and more for mistakes that look right, as one table. A case is a setup, the calls that
+-- lead up to it, and then line by line what is called and answered, and what the pool's numbers are. Assumes nothing.
 use mathlib.Core.Path.{_≡_}
 use mathlib.Core.Bool.{Bool, true, false}
 use mathlib.Core.List.{List, [], _∷_, _++_, map}
@@ -161,21 +161,18 @@ P1 =
     ∷ slot at 0 is 0 ∷ free is 0 ∷ hand is 1 ∷ pins at 0 is pinned 0 ∷ lookup at 9 is 0
     ∷ pins at 2 is evicted ∷ count at 2 is 0 ∷ []
 
--- "Page 9 again: 3 steps, frame 0, count 2."
 abbrev pub P2 : Case
 P2 =
     setup 1 1 3 0 after admitAndRelease 9 takes 3 counts Hit ∷ [] shows
     asks 0 9 (2 ∷ 3 ∷ []) (Granted 0) ++ count at 0 is 2 ∷ pins at 0 is pinned 1 ∷ []
 
--- "S 1, page 9 released with count 1, page 5 begun: stages 1, 4, 5, 10 to 18, granted frame 1, hand 2."
 abbrev pub P3 : Case
 P3 =
     setup 1 1 3 0 after admitAndRelease 9 takes 12 counts Drop ∷ Admitted ∷ [] shows
     asks 0 5 (sweeps ++ evicts) (Granted 1)
     ++ hand is 2 ∷ slot at 0 is 1 ∷ pins at 0 is evicted ∷ lookup at 9 is none ∷ lookup at 5 is 1 ∷ []
 
--- As P3 with 9 still held: refusal 15 at the sixth step. The frame that the request took keeps what stage 4 gave it, and the next search starts
--- after it, though nobody names it.
+-- SPECIFICATION 6.16: the frame that the refused request took keeps what stage 4 gave it, and the next search starts after it.
 abbrev pub P4 : Case
 P4 =
     setup 1 1 3 0 after admit 9 takes 6 counts Refusal ∷ [] shows
@@ -183,8 +180,6 @@ P4 =
     ∷ slot at 0 is 0 ∷ pins at 0 is pinned 1 ∷ lookup at 5 is none ∷ held at 0 is 1 ∷ own at 0 is none
     ∷ pins at 1 is pinned 1 ∷ count at 1 is 1 ∷ begins 0 5 (4 ∷ 5 ∷ []) ++ own at 0 is 2 ∷ []
 
--- "S 2, T 2, C 3, both want 9 and alternate from the start, bench 0 first: bench 0 is granted frame 0, bench 1 joins it; pins 2, count 2,
--- frame 1 evicted, free 0."
 abbrev pub P5 : Case
 P5 =
     setup 2 2 3 0 after Begin 0 9 ∷ Begin 1 9 ∷ [] takes 15 counts Admitted ∷ Join ∷ [] shows
@@ -192,15 +187,12 @@ P5 =
     ++ Step 0 gets Granted 0 ∷ goes 1 (9 ∷ 18 ∷ 19 ∷ 20 ∷ 21 ∷ []) ++ own at 1 is none ∷ Step 1 gets Granted 0
     ∷ pins at 0 is pinned 2 ∷ count at 0 is 2 ∷ pins at 1 is evicted ∷ free is 0 ∷ slot at 1 is 1 ∷ []
 
--- "S 2, T 2, 9 and 5 unheld, bench 0 wants 7, has swapped 9 out and stands at 17; bench 1 wants 9: granted at 22, and bench 0's removal then
--- finds another frame and removes nothing."
 abbrev pub P6 : Case
 P6 =
     setup 2 2 3 0 after admitAndRelease 9 ++ admitAndRelease 5 ++ Begin 0 7 ∷ steps 0 10 takes 15 counts Drop ∷ Revived ∷ Admitted ∷ [] shows
     asks 1 9 (2 ∷ sweeps ++ evicts ++ 19 ∷ 22 ∷ []) (Granted 3) ++ goes 0 (18 ∷ []) ++ victim at 0 is none ∷ Step 0 gets Granted 2
     ∷ lookup at 9 is 3 ∷ lookup at 7 is 2 ∷ lookup at 5 is none ∷ slot at 0 is 2 ∷ slot at 1 is 3 ∷ []
 
--- "S 3, hand 4,294,967,295: first page into slot 0, hand 0; second into slot 1 in 9 steps."
 abbrev pub P7a : Case
 P7a =
     setup 3 1 3 4294967295 after [] takes 8 counts Admitted ∷ [] shows
@@ -212,7 +204,7 @@ P7b =
     asks 0 5 (4 ∷ 5 ∷ 6 ∷ 7 ∷ 8 ∷ 8 ∷ 9 ∷ 18 ∷ []) (Granted 1)
     ++ slot at 0 is 0 ∷ slot at 1 is 1 ∷ slot at 2 is none ∷ hand is 1 ∷ []
 
--- "S 64 and T 16 accepted; S 0, S 65, T 17, C 0, C 101 are 8."; a refused pool refuses every call as 8
+-- a setup, and a begin on what it returned
 abbrev pub onlySetup : Answer → Answer → Setup → Case
 onlySetup answer then x =
     record { numbers = x; accepted = answer; before = []; steps = 0; counted = []; lines = Begin 0 9 gets then ∷ [] }
@@ -539,7 +531,7 @@ abbrev pub stepRecords : ℕ → List ℕ
 stepRecords zero = []
 stepRecords (suc n) = record8 2 0 ++ stepRecords n
 
--- "setup S 1, T 1, C 3, hand 0 .., begin 0 page 9 .., nine steps and release 0 page 9"
+-- SPECIFICATION 10.6: the example and its report
 abbrev pub file : List ℕ
 file = 0x46 ∷ 0x43 ∷ 0 ∷ 1 ∷ 1 ∷ 3 ∷ 0 ∷ 0 ∷ 0 ∷ 0 ∷ record8 1 9 ++ stepRecords 9 ++ record8 3 9
 

@@ -1,4 +1,4 @@
--- Open grants: "a grant is open from its answer until a release ends it". Assumes nothing.
+-- Open grants. Assumes nothing.
 use mathlib.Core.Bool.{Bool}
 use Prim.Native.Nat.{ℕ}
 use lib.Dec.{eqb}
@@ -6,14 +6,13 @@ use Rattle.pool.specs.Choose.{scan, some}
 use Rattle.pool.specs.State.{none, clientCount, client, grantPage, grantFrame}
 use Rattle.pool.specs.declared.Pool.{Pool}
 
--- the place among client c's grants of its first on a page, or none
+-- SPECIFICATION 2.2: the place among client c's grants of its first of a page, or none
 unfoldable pub grantOf : Pool → ℕ → ℕ → ℕ
 grantOf p c g = scan (λ i. eqb (grantPage p c i) g) (λ i. i) none 0 (client p c .held)
 
--- whether client c has an open grant on a frame
+-- SPECIFICATION 2.3: whether client c has an open grant on frame f, and whether any client has
 unfoldable pub holds : Pool → ℕ → ℕ → Bool
 holds p f c = some (λ i. eqb (grantFrame p c i) f) (client p c .held)
 
--- "A frame with an open grant is held".
 unfoldable pub held : Pool → ℕ → Bool
 held p f = some (holds p f) (clientCount p)

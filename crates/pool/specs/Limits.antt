@@ -1,7 +1,7 @@
--- The largest pool. Each limit has its name here, and the code's constant of that name its number. Assumes nothing.
+-- The largest pool. Each limit has a name here; the code's constant of that name has the same number. Assumes nothing.
 use Prim.Native.Nat.{ℕ, _+_, _*_}
 
--- how many slots, clients (document 01: S, T) and how high a count cap (C) a setup can ask for
+-- SPECIFICATION 1.1: the most slots, the most clients, the highest count cap
 abbrev pub maxSize : ℕ
 maxSize = 64
 
@@ -11,11 +11,11 @@ maxClients = 16
 abbrev pub maxCap : ℕ
 maxCap = 100
 
--- how many grants one client can hold
+-- SPECIFICATION 2.2: the most grants of one client
 abbrev pub maxHeld : ℕ
 maxHeld = 8
 
--- how many pins a frame can have: one for each grant
+-- SPECIFICATION 5.3: the most pins of a frame, one for each grant
 abbrev pub maxPins : ℕ
 maxPins = maxClients * maxHeld
 

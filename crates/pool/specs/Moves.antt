@@ -1,5 +1,5 @@
--- One atomic action as a `Move`: the acting client's next record, what happens to its grants, at most one write to what the clients share,
--- the answer, and what the tally counts. Assumes nothing.
+-- One atomic action as a `Move` (SPECIFICATION 1.9): the acting client's next record, what happens to its grants, at most one write to what the
+-- clients share, the answer, and what the tally counts. Assumes nothing.
 use Prim.Native.Nat.{ℕ, _+_}
 use lib.Dec.{ltb}
 use Rattle.pool.specs.Limits.{maxHeld}
@@ -60,20 +60,20 @@ module _ (k : Client) where
   abbrev pub still : ℕ → Move
   still n = record { next = k; grants = Same; write = Keep; answer = Refused n; counted = Nothing }
 
-  -- A move that no pool of this form can hold: a ninth grant, a full table, no frame to take, free below 0, pins below -1.
+  -- SPECIFICATION 4.30: what cannot be done
   abbrev pub stuck : Move
   stuck = still 8
 
-  -- the client rests, with one grant more, which is on frame f
+  -- SPECIFICATION 4.29: the client rests, with one grant more, which is on frame f
   abbrev pub opens : ℕ → Write → Counted → Move
   opens f write counted =
       record { next = resting (k .held + 1); grants = Open (k .held) (k .page) f; write = write; answer = Granted f; counted = counted }
 
-  -- the request is granted frame f, if there is a place for one grant more
+  -- SPECIFICATION 4.29: the same, if the client can have one grant more
   unfoldable pub granted : ℕ → Write → Counted → Move
   granted f write counted = choose (ltb (k .held) maxHeld) (opens f write counted) stuck
 
-  -- refusal 15: the client rests, keeps its grants, forgets its frames, and one refusal is counted
+  -- SPECIFICATION 6.16: refusal 15
   abbrev pub refused15 : Move
   refused15 = record { next = resting (k .held); grants = Same; write = Keep; answer = Refused 15; counted = Refusal }
 

@@ -1,4 +1,4 @@
--- The schedule file and the report. Assumes nothing.
+-- The schedule file and the report: SPECIFICATION, sections 9 and 10. Assumes nothing.
 use mathlib.Core.Bool.{Bool, not}
 use mathlib.Core.List.{List, [], _∷_, _++_}
 use Prim.Native.Nat.{ℕ, zero, suc, _+_, _-_, _*_, _/_, _%_}
@@ -20,20 +20,19 @@ use Rattle.pool.specs.declared.Reading.the-variants.{Setup, Asked, Unrea
 abbrev pub byte : List ℕ → ℕ → ℕ
 byte s i = getD s i 0
 
--- "Numbers are little-endian.": the four bytes from i on
+-- SPECIFICATION 9.1: the number in the four bytes from i on
 unfoldable pub number : List ℕ → ℕ → ℕ
 number s i = byte s i + 256 * byte s (i + 1) + 65536 * byte s (i + 2) + 16777216 * byte s (i + 3)
 
--- 3. "Fewer than 8 bytes remain, or fewer than 10 with a third byte of 0"
+-- SPECIFICATION 9.2, refusal 3
 unfoldable pub cut : List ℕ → Bool
 cut s = either (ltb (length s) 8) (both (ltb (length s) 10) (eqb (byte s 2) 0))
 
--- "Each record begins with the two mark bytes 46 43 hexadecimal"
+-- SPECIFICATION 9.1, refusal 4
 unfoldable pub marked : List ℕ → Bool
 marked s = both (eqb (byte s 0) 0x46) (eqb (byte s 1) 0x43)
 
--- "Kind 0, setup, 10 bytes: S, T, C (a byte each), hand (4). Kinds 1 begin, 2 step, 3 release, 8 bytes: bench (1), page (4; zero for a
--- step)." 7. "A step's page field is not zero."
+-- SPECIFICATION 9.2, refusal 7: a record of one of the kinds 0 to 3
 unfoldable pub content : List ℕ → Reading
 content s =
     choose (eqb (byte s 2) 0) (Setup (byte s 3) (byte s 4) (byte s 5) (number s 6))
@@ -41,8 +40,7 @@ content s =
     (choose (eqb (byte s 2) 3) (Asked (Release (byte s 3) (number s 4)))
     (choose (eqb (number s 4) 0) (Asked (Step (byte s 3))) (Unreadable 7))))
 
--- The record's checks, in order: 3; 4, "The mark is not 46 43."; 5, "The kind is above 3."; 6, "The first record is no setup, or a later
--- one is."; 7.
+-- SPECIFICATION 9.2, refusals 3 to 7: a record, with its checks in order
 unfoldable pub read : Bool → List ℕ → Reading
 read first s =
     choose (cut s) (Unreadable 3)
@@ -52,6 +50,7 @@ read first s =
     (choose (eqb (byte s 2) 0) (content s) (Unreadable 6))
     (choose (eqb (byte s 2) 0) (Unreadable 6) (content s)))))
 
+-- SPECIFICATION 9.1
 unfoldable pub lengthOf : Reading → ℕ
 lengthOf (Setup s t c h) = 10
 lengthOf (Asked call) = 8
@@ -59,16 +58,17 @@ lengthOf (Unreadable n) = 0
 
 -- ---- what a record does
 
+-- SPECIFICATION 10.1: the call that a record stands for
 unfoldable pub performed : Pool → Reading → Outcome
 performed p (Setup s t c h) = setupOf s t c h
 performed p (Asked call) = callOf p call
 performed p (Unreadable n) = turnedDown n p
 
--- "1 to 8 end the run; .. After 9 to 13 and 15 the run goes on."
+-- SPECIFICATION 10.4: whether an answer ends the run
 unfoldable pub endsRun : Answer → Bool
 endsRun a = both (ltb 0 (refusalOf a)) (leb (refusalOf a) 8)
 
--- the line's bench: "(0 for a setup)"; "3 to 8 write one with bench 0"
+-- SPECIFICATION 10.3: the client that a record names
 unfoldable pub namedBy : Reading → ℕ
 namedBy (Setup s t c h) = 0
 namedBy (Asked call) = caller call
@@ -81,13 +81,15 @@ unfoldable pub digits : ℕ → ℕ → List ℕ
 digits zero n = (48 + n % 10) ∷ []
 digits (suc fuel) n = let higher = digits fuel (n / 10) in choose (ltb n 10) ((48 + n) ∷ []) (higher ++ (48 + n % 10) ∷ [])
 
+-- SPECIFICATION 10.2
 abbrev pub decimal : ℕ → List ℕ
 decimal n = digits n n
 
--- "record number from 0, bench (0 for a setup), code, value; in decimal, one space between, a line feed after"
+-- SPECIFICATION 10.2
 unfoldable pub line : ℕ → ℕ → ℕ → ℕ → List ℕ
 line at client code value = decimal at ++ 32 ∷ decimal client ++ 32 ∷ decimal code ++ 32 ∷ decimal value ++ 10 ∷ []
 
+-- SPECIFICATION 10.3: the line of a record with its answer
 unfoldable pub lineFor : ℕ → Reading → Answer → List ℕ
 lineFor at reading a = line at (choose (endsRun a) 0 (namedBy reading)) (codeOf a) (valueOf a)
 
@@ -103,9 +105,8 @@ pub record Ran : Type 0 where
 abbrev pub ends : ℕ → ℕ → Ran
 ends at n = record { records = at; refusal = n; lines = [] }
 
--- The run from record `at` on, over the bytes that are left, with `space` bytes of the report space left; `fuel` is above the number of bytes.
--- "No bytes left after at least one record is the ordinary end, looked for before check 2."
--- 2. "Fewer than 24 bytes of report space are left."
+-- SPECIFICATION 10.1, refusal 2: the run from record `at` on, over the bytes that are left, with `space` bytes of the report space left; `fuel` is
+-- above the number of bytes
 unfoldable pub runFrom : ℕ → Pool → ℕ → List ℕ → ℕ → Ran
 runFrom zero p at bytes space = ends at 0
 runFrom (suc fuel) p at bytes space =
@@ -119,17 +120,17 @@ runFrom (suc fuel) p at bytes space =
     (record { records = at; refusal = refusalOf (o .answer); lines = written })
     (record { records = rest .records; refusal = rest .refusal; lines = written ++ rest .lines })))
 
--- 1. "The file is longer than 16,384 bytes."
+-- SPECIFICATION 10.1, refusal 1
 unfoldable pub ran : List ℕ → ℕ → Ran
 ran schedule space = let r = runFrom (length schedule + 1) noPool 0 schedule space in choose (ltb 16384 (length schedule)) (ends 0 1) r
 
--- "A run also returns the number of records that did not end it, the bytes written and the refusal that ended it, or 0."
+-- SPECIFICATION 10.4: what a run returns
 unfoldable pub endOf : List ℕ → List ℕ → Ended
 endOf schedule space =
     let r = ran schedule (length space) in
     record { records = r .records; bytes = length (r .lines); refusal = r .refusal }
 
--- "Report bytes after the last line stay."
+-- SPECIFICATION 10.4, 10.5: the report space after a run
 unfoldable pub reportOf : List ℕ → List ℕ → List ℕ
 reportOf schedule space =
     let lines = ran schedule (length space) .lines in

@@ -1,5 +1,5 @@
--- The 23 stages of document 01. Each is a move of the client k that stands there; its further arguments are the numbers of the pool that the
--- action reads, all at one moment. `stageMove` says for each stage which they are. Assumes nothing.
+-- The 23 stages: SPECIFICATION, section 4, stage by stage. Each is a move of the client k that stands there; its further arguments are the numbers
+-- of the pool that the action reads, all at one moment. `stages` says for each stage which they are. Assumes nothing.
 use mathlib.Core.List.{List, [], _∷_}
 use Prim.Native.Nat.{ℕ, _+_, _-_, _%_}
 use lib.Dec.{eqb, ltb}
@@ -19,30 +19,30 @@ use Rattle.pool.specs.declared.Write.the-variants.{Keep, PutSlot, PutPin
 
 -- ---- numbers
 
--- "moves on one, round the end": the slot after slot i of a pool of `size` slots
+-- SPECIFICATION 1.3: the slot after slot i of a pool of `size` slots
 unfoldable pub around : ℕ → ℕ → ℕ
 around size i = choose (ltb (i + 1) size) (i + 1) 0
 
--- "The hand is a 32-bit number that goes from 4,294,967,295 to 0."
+-- SPECIFICATION 1.5: the hand n further
 unfoldable pub advanced : ℕ → ℕ → ℕ
 advanced hand n = (hand + n) % 4294967296
 
--- "the hand grows by i - s + 1, plus S when i is below s"
+-- SPECIFICATION 4.27. Added up before s is taken off, since these numbers are never negative.
 unfoldable pub growth : ℕ → ℕ → ℕ → ℕ
 growth size i s = choose (ltb i s) (i + size + 1 - s) (i + 1 - s)
 
--- "Raise its count by one unless at C"
+-- SPECIFICATION 4.26: a count after it was raised
 unfoldable pub raised : ℕ → ℕ → ℕ
 raised cap n = choose (ltb n cap) (n + 1) n
 
 -- ---- what several stages share
 
 module _ (k : Client) (size : ℕ) where
-  -- "'Next slot' sets the busy run to 0, moves i on one round the end, and goes to 11."
+  -- SPECIFICATION 4.24
   abbrev pub nextSlot : Write → Move
   nextSlot write = works (sweeping k (k .start) (around size (k .place)) 0) 11 write
 
-  -- "A busy visit adds one to the busy run; at S it is refusal 15, else i moves on and 11."
+  -- SPECIFICATION 4.25, refusal 15
   unfoldable pub busyVisit : Move
   busyVisit =
       choose (eqb (k .busy + 1) size)
@@ -50,11 +50,11 @@ module _ (k : Client) (size : ℕ) where
       (works (sweeping k (k .start) (around size (k .place)) (k .busy + 1)) 11 Keep)
 
 module _ (k : Client) where
-  -- the found frame is granted, and its count raised
+  -- what stages 3 and 21 do
   abbrev pub grantedFound : ℕ → ℕ → Counted → Move
   grantedFound cap n counted = granted k (k .found) (PutCount (k .found) (raised cap n)) counted
 
-  -- "Own frame's pins 1 become -1"; the client forgets the frame.
+  -- SPECIFICATION 4.28: what stages 20 and 23 do
   unfoldable pub evictOwn : ℕ → ℕ → Move
   evictOwn n stage =
       choose (eqb n (pinned 1))
@@ -63,103 +63,101 @@ module _ (k : Client) where
 
   -- ---- the stages
 
-  -- 1. "Look up the page: frame found, 2; none, 4."
+  -- stage 1
   unfoldable pub stage1 : ℕ → Move
   stage1 f = choose (eqb f none) (works k 4 Keep) (works (withFound k f) 2 Keep)
 
-  -- 2. "If its pins are 0 or more, add one, 3; else 4."
+  -- stage 2
   unfoldable pub stage2 : ℕ → Move
   stage2 n = choose (eqb n evicted) (works (withFound k none) 4 Keep) (works k 3 (PutPins (k .found) (n + 1)))
 
-  -- 3. "Raise its count by one unless at C; granted."
+  -- stage 3
   unfoldable pub stage3 : ℕ → ℕ → Move
   stage3 cap n = grantedFound cap n Hit
 
-  -- 4. "Take a frame: this page, pins 1, count 1; go to 5."
+  -- stage 4
   unfoldable pub stage4 : ℕ → Move
   stage4 f = choose (eqb f none) (stuck k) (works (withOwn k f) 5 (TakeFrame f (k .page) (pinned 1) 1))
 
-  -- 5. "Read free: 0, 10; else 6."
+  -- stage 5
   unfoldable pub stage5 : ℕ → Move
   stage5 free = choose (eqb free 0) (works k 10 Keep) (works (withSeen k free) 6 Keep)
 
-  -- 6. "If free is still the value read, lower it by one, 7; else 5."
+  -- stage 6. Only a handed pool has a client here that saw a free of 0.
   unfoldable pub stage6 : ℕ → Move
   stage6 free = choose (eqb free (k .seen)) (choose (eqb free 0) (stuck k) (works k 7 (PutFree (free - 1)))) (works k 5 Keep)
 
-  -- 7. "Read the hand; the place is its slot; 8."
+  -- stage 7
   unfoldable pub stage7 : ℕ → ℕ → Move
   stage7 hand size = works (withPlace k (hand % size)) 8 Keep
 
-  -- 8. "If the slot at the place is empty, put the own frame there, 9; else the place moves on one, round the end, still 8."
+  -- stage 8
   unfoldable pub stage8 : ℕ → ℕ → Move
   stage8 f size = choose (eqb f none) (works k 9 (PutSlot (k .place) (k .own))) (works (withPlace k (around size (k .place))) 8 Keep)
 
-  -- 9. "Hand plus one; 18."
+  -- stage 9
   unfoldable pub stage9 : ℕ → Move
   stage9 hand = works k 18 (PutHand (advanced hand 1))
 
-  -- 10. "Start := hand; i := start modulo S; busy run := 0; 11."
+  -- stage 10
   unfoldable pub stage10 : ℕ → ℕ → Move
   stage10 hand size = works (sweeping k hand (hand % size) 0) 11 Keep
 
-  -- 11. "Look at slot i: empty is a busy visit; else remember its frame e, 12."
+  -- stage 11
   unfoldable pub stage11 : ℕ → ℕ → Move
   stage11 f size = choose (eqb f none) (busyVisit k size) (works (withVictim k f) 12 Keep)
 
-  -- 12. "Read e's pins: -1, 15; above 0, busy visit; 0, 13."
+  -- stage 12
   unfoldable pub stage12 : ℕ → ℕ → Move
   stage12 n size = choose (eqb n evicted) (works k 15 Keep) (choose (eqb n (pinned 0)) (works k 13 Keep) (busyVisit k size))
 
-  -- 13. "Lower e's count by one unless 0. Now 0, 14; else next slot."
+  -- stage 13. 0 less 1 is 0 here, which SPECIFICATION 4.26 asks for.
   unfoldable pub stage13 : ℕ → ℕ → Move
   stage13 n size =
       choose (eqb (n - 1) 0)
       (works k 14 (PutCount (k .victim) (n - 1)))
       (nextSlot k size (PutCount (k .victim) (n - 1)))
 
-  -- 14. "If e's pins are 0, set them to -1, 15; else next slot."
+  -- stage 14
   unfoldable pub stage14 : ℕ → ℕ → Move
   stage14 n size = choose (eqb n (pinned 0)) (worksAs k Drop 15 (PutPins (k .victim) evicted)) (nextSlot k size Keep)
 
-  -- 15. "If slot i still names e, put the own frame there, 16; else next slot."
+  -- stage 15
   unfoldable pub stage15 : ℕ → ℕ → Move
   stage15 f size = choose (eqb f (k .victim)) (works k 16 (PutSlot (k .place) (k .own))) (nextSlot k size Keep)
 
-  -- 16. "With s = start modulo S, the hand grows by i - s + 1, plus S when i is below s; 17."
+  -- stage 16
   unfoldable pub stage16 : ℕ → ℕ → Move
   stage16 hand size = works k 17 (PutHand (advanced hand (growth size (k .place) (k .start % size))))
 
-  -- 17. "If the table maps e's page to e, remove the entry; 18." Read: e's page, the place of its entry, and the frame there.
+  -- stage 17. Read: the victim's page, the place of its entry, and the frame there.
   unfoldable pub stage17 : ℕ → ℕ → ℕ → Move
   stage17 g i f = choose (eqb f (k .victim)) (works (withVictim k none) 18 (PutEntry i g none)) (works (withVictim k none) 18 Keep)
 
-  -- 18. "If the table lacks the page, map it to the own frame, granted; else remember the frame found, 19." Read: the frame found, and
-  -- the first unused place.
+  -- stage 18. Read: the frame that the table has for the page, and the first unused place.
   unfoldable pub stage18 : ℕ → ℕ → Move
   stage18 f i =
       choose (eqb f none)
       (choose (eqb i none) (stuck k) (granted k (k .own) (PutEntry i (k .page) (k .own)) Admitted))
       (works (withFound k f) 19 Keep)
 
-  -- 19. "If its pins are 0 or more, add one, 20; else 22."
+  -- stage 19
   unfoldable pub stage19 : ℕ → Move
   stage19 n = choose (eqb n evicted) (works k 22 Keep) (works k 20 (PutPins (k .found) (n + 1)))
 
-  -- 20. "Own frame's pins 1 become -1; 21."
+  -- stage 20
   unfoldable pub stage20 : ℕ → Move
   stage20 n = evictOwn n 21
 
-  -- 21. "Raise the found frame's count as in 3; granted the found frame."
+  -- stage 21
   unfoldable pub stage21 : ℕ → ℕ → Move
   stage21 cap n = grantedFound cap n Join
 
-  -- 22. "If the table still maps the page to the found frame, map it to the own frame, granted; else 23." Read: the place of the page's
-  -- entry, and the frame there.
+  -- stage 22. Read: the place of the page's entry, and the frame there.
   unfoldable pub stage22 : ℕ → ℕ → Move
   stage22 i f = choose (eqb f (k .found)) (granted k (k .own) (PutEntry i (k .page) (k .own)) Revived) (works (withFound k none) 23 Keep)
 
-  -- 23. "Own frame's pins 1 become -1; 4."
+  -- stage 23
   unfoldable pub stage23 : ℕ → Move
   stage23 n = evictOwn n 4
 
@@ -172,6 +170,7 @@ Stage = Pool → Client → Move
 abbrev pub noStage : Stage
 noStage p k = stuck k
 
+-- SPECIFICATION 3.3
 abbrev pub stages : List Stage
 stages =
     noStage
@@ -200,6 +199,6 @@ stages =
     ∷ (λ p k. stage23 k (pins p (k .own)))
     ∷ []
 
--- "Each working bench stands at one of 23 stages": the move of a client that stands at its stage
+-- SPECIFICATION 3.3: the move of a client at its stage
 unfoldable pub stageMove : Stage
 stageMove p k = getD stages (k .stage) noStage p k

@@ -13,18 +13,18 @@ use Rattle.pool.specs.declared.Client.{Client}
 abbrev pub none : ℕ
 none = 255
 
--- Document 01's pins as they are stored, one more: -1, evicted, is 0.
+-- SPECIFICATION 1.2. Pins are stored as one more than they are, so that evicted, -1, is 0.
 abbrev pub evicted : ℕ
 evicted = 0
 
 abbrev pub pinned : ℕ → ℕ
 pinned n = n + 1
 
--- document 01's T
+-- T, by its name in the definitions
 abbrev pub clientCount : Pool → ℕ
 clientCount p = p .«client_count»
 
--- "There are S + 2T frames, numbered from 0." The table has as many places.
+-- SPECIFICATION 1.2: how many frames there are, S + 2T. The table has as many places.
 abbrev pub total : Pool → ℕ
 total p = p .size + 2 * clientCount p
 
@@ -32,11 +32,11 @@ total p = p .size + 2 * clientCount p
 unfoldable pub within : List ℕ → ℕ → ℕ → ℕ → ℕ
 within l n d i = choose (ltb i n) (getD l i 0) d
 
--- "A slot is empty or names one frame."
+-- SPECIFICATION 1.3: the frame in slot i; none where it is empty
 unfoldable pub slot : Pool → ℕ → ℕ
 slot p i = within (p .slots) (p .size) none i
 
--- "A frame has a page, pins (-1, evicted, to 128) and a reference count (0 to C)."
+-- SPECIFICATION 1.2: a frame's page, its pins as they are stored, its reference count
 unfoldable pub page : Pool → ℕ → ℕ
 page p f = within (p .pages) (total p) 0 f
 
@@ -53,7 +53,7 @@ entryPage p i = within (p .«table_pages») (total p) 0 i
 unfoldable pub entryFrame : Pool → ℕ → ℕ
 entryFrame p i = within (p .«table_frames») (total p) none i
 
--- "At setup .. every bench rests": nothing wanted, no frame named, every number 0, and n grants held
+-- SPECIFICATION 1.8, 2.5: a client at rest with n grants
 abbrev pub resting : ℕ → Client
 resting n = record { stage = 0; page = 0; own = none; found = none; victim = none; seen = 0; place = 0; start = 0; busy = 0; held = n }
 
@@ -61,10 +61,11 @@ resting n = record { stage = 0; page = 0; own = none; found = none; victim = non
 abbrev pub no-client : Client
 no-client = record { stage = 0; page = 0; own = 0; found = 0; victim = 0; seen = 0; place = 0; start = 0; busy = 0; held = 0 }
 
+-- SPECIFICATION 2.1
 unfoldable pub client : Pool → ℕ → Client
 client p c = choose (ltb c (clientCount p)) (getD (p .clients) c no-client) (resting 0)
 
--- "A bench rests or works, and holds 0 to 8 grants.": where client c's grant i stands
+-- where client c's grant i stands
 abbrev pub grantPlace : ℕ → ℕ → ℕ
 grantPlace c i = maxHeld * c + i
 
@@ -72,7 +73,7 @@ grantPlace c i = maxHeld * c + i
 unfoldable pub ofClient : List ℕ → ℕ → ℕ → ℕ → ℕ → ℕ
 ofClient l c n d i = choose (ltb i n) (getD l (grantPlace c i) 0) d
 
--- the page and the frame of client c's grant i
+-- SPECIFICATION 2.2: the page and the frame of client c's grant i
 unfoldable pub grantPage : Pool → ℕ → ℕ → ℕ
 grantPage p c i = ofClient (p .«grant_pages») c (client p c .held) 0 i
 

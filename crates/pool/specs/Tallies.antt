@@ -9,17 +9,17 @@ use Rattle.pool.specs.declared.Call.the-variants.{Step}
 use Rattle.pool.specs.declared.Counted.{Counted}
 use Rattle.pool.specs.declared.Counted.the-variants.{Nothing, Hit, Join, Admitted, Revived, Drop, Refusal}
 
--- "Each is 32 bits and stays at its largest value."
 abbrev pub largest : ℕ
 largest = 4294967295
 
+-- SPECIFICATION 7.1: a count that went up by one
 unfoldable pub up : ℕ → ℕ
 up n = choose (ltb n largest) (n + 1) n
 
 abbrev pub zeroTally : Tally
 zeroTally = record { hits = 0; joins = 0; admitted = 0; revived = 0; drops = 0; refused = 0 }
 
--- "hits (3), joins (21), admitted (18), revived (22), drops (14 that evicted), refused (refusal 15)": the stages say what they count
+-- SPECIFICATION 7.1: one line for each count. Which action is counted as what stands in its stage's definition.
 unfoldable pub tallied : Counted → Tally → Tally
 tallied Nothing t = t
 tallied Hit t = record { hits = up (t .hits); joins = t .joins; admitted = t .admitted; revived = t .revived; drops = t .drops; refused = t .refused }
@@ -29,6 +29,6 @@ tallied Revived t = record { hits = t .hits; joins = t .joins; admitted = t .adm
 tallied Drop t = record { hits = t .hits; joins = t .joins; admitted = t .admitted; revived = t .revived; drops = up (t .drops); refused = t .refused }
 tallied Refusal t = record { hits = t .hits; joins = t .joins; admitted = t .admitted; revived = t .revived; drops = t .drops; refused = up (t .refused) }
 
--- the tally that a step of client c leaves of the one it was lent
+-- SPECIFICATION 7.2: the tally that a step of client c leaves of the one it was lent
 abbrev pub tallyAfter : Pool → ℕ → Tally → Tally
 tallyAfter p c t = tallied (callOf p (Step c) .counted) t

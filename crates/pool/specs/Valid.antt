@@ -1,5 +1,5 @@
--- Check 8 of a pool: "whose numbers .. break the ranges above, where one bench's grants of one page name different frames". It looks only at
--- the slots, frames, places of the table, clients and grants that the pool has. Assumes nothing.
+-- Check 8 of a pool: SPECIFICATION, section 5. It looks only at the slots, frames, places of the table, clients and grants that the pool has.
+-- Assumes nothing.
 use mathlib.Core.Bool.{Bool, not, _&&_, _||_}
 use Prim.Native.Nat.{ℕ}
 use lib.Dec.{eqb, ltb, leb}
@@ -11,37 +11,35 @@ use Rattle.pool.specs.Grants.{grantOf}
 use Rattle.pool.specs.declared.Pool.{Pool}
 use Rattle.pool.specs.declared.Client.{Client}
 
--- "Setup takes S slots (1 to 64), T benches (1 to 16), count cap C (1 to 100)"
+-- SPECIFICATION 1.1, 5.1: S, T and C
 unfoldable pub numbersOk : ℕ → ℕ → ℕ → Bool
 numbersOk s t c = both (ltb 0 s) (both (leb s maxSize) (both (ltb 0 t) (both (leb t maxClients) (both (ltb 0 c) (leb c maxCap)))))
 
 -- ---- a few numbers of a pool with n frames
 
--- no frame, or one of the pool's: "A slot is empty or names one frame."
+-- SPECIFICATION 5.2: no frame, or one of the pool's
 unfoldable pub frameOk : ℕ → ℕ → Bool
 frameOk n f = either (eqb f none) (ltb f n)
 
--- A frame number that a client keeps: one of the pool's where its stage uses it, else none, since the client has forgotten the frame. So
--- `names` (Frames) need not ask for the stage.
+-- SPECIFICATION 5.6: a frame number that a client keeps
 unfoldable pub usedOk : Bool → ℕ → ℕ → Bool
 usedOk used n f = choose used (ltb f n) (eqb f none)
 
--- a frame's pins, as stored, and count: "pins (-1, evicted, to 128) and a reference count (0 to C)"
+-- SPECIFICATION 5.3: a frame's pins, as they are stored, and its count
 unfoldable pub stateOk : ℕ → ℕ → ℕ → Bool
 stateOk cap q r = both (leb q (pinned maxPins)) (leb r cap)
 
--- Place i of the table, its frame, and the place where its page is found: unused, or a frame of the pool at the page's only place, for
--- "The table maps a page to at most one frame."
+-- SPECIFICATION 5.4: place i of the table, with the frame there and the place where its page is found. That is another place if the page has two.
 unfoldable pub entryOk : ℕ → ℕ → ℕ → ℕ → Bool
 entryOk n i f first = either (eqb f none) (both (ltb f n) (eqb first i))
 
--- a grant's frame, and that of the client's first grant of its page: one of the pool's, the same
+-- SPECIFICATION 5.7: a grant's frame, and that of the client's first grant of its page
 unfoldable pub grantOk : ℕ → ℕ → ℕ → Bool
 grantOk n f first = both (ltb f n) (eqb first f)
 
 -- ---- a client
 
--- the stages that use the own frame, the found frame, the victim
+-- SPECIFICATION 2.5: the stages that need the own frame, the found frame, the victim
 abbrev pub usesOwn : ℕ → Bool
 usesOwn s = leb 5 s && not (eqb s 21)
 
@@ -51,12 +49,11 @@ usesFound s = (leb 2 s && leb s 3) || (leb 19 s && leb s 22)
 abbrev pub usesVictim : ℕ → Bool
 usesVictim s = leb 12 s && leb s 17
 
--- "A slot number that a bench remembers is 0 to S - 1, and so is a busy run."; a bench "holds 0 to 8 grants"; the value of free that it read is
--- 0 to S, as free is
+-- SPECIFICATION 5.5
 unfoldable pub countsOk : Client → ℕ → Bool
 countsOk k size = both (leb (k .stage) 23) (both (leb (k .held) maxHeld) (both (ltb (k .place) size) (both (ltb (k .busy) size) (leb (k .seen) size))))
 
--- the frames that it remembers, of n
+-- SPECIFICATION 5.6, in a pool of n frames
 unfoldable pub namesOk : Client → ℕ → Bool
 namesOk k n =
     both (usedOk (usesOwn (k .stage)) n (k .own))
@@ -64,22 +61,27 @@ namesOk k n =
 
 -- ---- the pool: a slot, a frame, a place of the table, a client's grant, a client, and all of them
 
+-- SPECIFICATION 5.2
 abbrev pub slotOkAt : Pool → ℕ → Bool
 slotOkAt p i = frameOk (total p) (slot p i)
 
+-- SPECIFICATION 5.3
 abbrev pub stateOkAt : Pool → ℕ → Bool
 stateOkAt p f = stateOk (p .cap) (pins p f) (count p f)
 
+-- SPECIFICATION 5.4
 abbrev pub entryOkAt : Pool → ℕ → Bool
 entryOkAt p i = entryOk (total p) i (entryFrame p i) (entryOf p (entryPage p i))
 
+-- SPECIFICATION 5.7
 abbrev pub grantOkAt : Pool → ℕ → ℕ → Bool
 grantOkAt p c i = grantOk (total p) (grantFrame p c i) (grantFrame p c (grantOf p c (grantPage p c i)))
 
+-- SPECIFICATION 5.5, 5.6, 5.7
 unfoldable pub clientOk : Pool → ℕ → Bool
 clientOk p c = let k = client p c in both (countsOk k (p .size)) (both (namesOk k (total p)) (every (grantOkAt p c) (k .held)))
 
--- "'Free' starts at S and is 0 to S."
+-- SPECIFICATION 5.1, and all the others; refusal 8
 unfoldable pub valid : Pool → Bool
 valid p =
     both (numbersOk (p .size) (clientCount p) (p .cap))

@@ -1,14 +1,13 @@
-// The pool's state, and the parts of one atomic action on it. Public, through crate `foqheran`: the types of the calls and the limits. The parts of
-// an action are internal.
+// The pool's state, and the parts of one atomic action on it (docs/SPECIFICATION.md, sections 1 to 3). Public, through crate `foqheran`: the types
+// of the calls and the limits. The parts of an action are internal.
 //
-// Document 01's coined terms: its bench is a `Client` here, its S, T and C are the pool's `size`, `client_count` and `cap`, and the frame e
-// of its sweep is the `victim`. A frame number, a place in the table or a grant's place that is NONE names nothing. Every array is as long as
-// the largest pool needs; what stands past the part that a pool has is never looked at.
+// S, T and C are the pool's `size`, `client_count` and `cap`. A frame number, a place in the table or a grant's place that is NONE names nothing.
+// Every array is as long as the largest pool needs; what stands past the part that a pool has is never looked at.
 
 // No frame; no place.
 pub const NONE: u8 = 255;
 
-// Pins as they are stored, one more than document 01's: -1, 0 and 1.
+// Pins are stored as one more than they are, so that no number is negative: these are -1, 0 and 1.
 pub const EVICTED: u8 = 0;
 
 pub const NO_PIN: u8 = 1;
@@ -37,7 +36,7 @@ pub const HELD: usize = MAX_HELD as usize;
 
 pub const GRANTS: usize = CLIENTS * HELD;
 
-// One client (document 01: bench; the source paper's thread), without its grants, which stand in the pool's `grant_pages` and `grant_frames`.
+// One client (a thread, in the published method): SPECIFICATION 2.1, 2.4. Its grants stand in the pool's `grant_pages` and `grant_frames`.
 pub struct Client {
     // The stage it stands at, 1 to 23; 0 where it rests.
     pub stage: u8,
@@ -47,35 +46,35 @@ pub struct Client {
     pub own: u8,
     // The frame that its last look-up of the page found, or NONE.
     pub found: u8,
-    // The frame that its sweep looks at (document 01: e), or NONE.
+    // The frame that its sweep looks at, or NONE.
     pub victim: u8,
     // The value of free that stage 5 read, 0 to S.
     pub seen: u8,
-    // A slot number, 0 to S - 1: stage 8's place; the i of a sweep.
+    // A slot number, 0 to S - 1: where it tries to put its own frame, or where its sweep is.
     pub place: u8,
     // The hand as stage 10 read it.
     pub start: u32,
-    // The busy run: how many busy visits its sweep made one after the other, 0 to S - 1.
+    // The busy run, 0 to S - 1.
     pub busy: u8,
     // How many grants it holds, 0 to 8.
     pub held: u8,
 }
 
+// SPECIFICATION, section 1.
 pub struct Pool {
-    // Document 01's S, 1 to 64; its T, 1 to 16; its C, 1 to 100.
+    // S, T and C: SPECIFICATION 1.1.
     pub size: u8,
     pub client_count: u8,
     pub cap: u8,
-    // The hand, not reduced: its slot is the hand modulo S.
+    // Kept whole: SPECIFICATION 1.5.
     pub hand: u32,
-    // How many slots nobody has claimed yet, 0 to S.
+    // SPECIFICATION 1.4.
     pub free: u8,
     // The frame that was last taken, by whichever client, or NONE.
     pub last: u8,
     // The frame that each slot names, or NONE: the first S.
     pub slots: [u8; SLOTS],
-    // Each frame's page; its pins, one more than document 01's, so that 0 is evicted (1 is no pin, 129 is 128 pins); its reference count,
-    // 0 to C: the first S + 2T of each.
+    // Each frame's page, its pins as they are stored (0 is evicted, 1 is no pin, 129 is 128 pins) and its reference count: the first S + 2T of each.
     pub pages: [u32; FRAMES],
     pub pins: [u8; FRAMES],
     pub counts: [u8; FRAMES],
@@ -89,7 +88,7 @@ pub struct Pool {
     pub grant_frames: [u8; GRANTS],
 }
 
-// What is asked of a pool that is set up.
+// What is asked of a pool that is set up: SPECIFICATION 3.2 to 3.4.
 pub enum Call {
     // Client and page.
     Begin(u8, u32),
@@ -99,6 +98,7 @@ pub enum Call {
     Release(u8, u32),
 }
 
+// SPECIFICATION 3.6.
 pub enum Answer {
     // The call is done: the page, or S for a setup, or how many rows a holdings list has.
     Done(u32),
@@ -106,11 +106,11 @@ pub enum Answer {
     Working(u8),
     // The request is granted: the frame.
     Granted(u8),
-    // Document 01's refusal number.
+    // The number of the refusal: SPECIFICATION, section 6.
     Refused(u8),
 }
 
-// The one change that an action makes to what the clients share.
+// The one change that an action makes to what the clients share: SPECIFICATION 1.9.
 pub enum Write {
     Keep,
     // Slot, frame.
@@ -136,7 +136,7 @@ pub enum GrantChange {
     End(u8, u8),
 }
 
-// What the tally counts an action as.
+// What the tally counts an action as: SPECIFICATION 7.1.
 pub enum Counted {
     Nothing,
     Hit,
@@ -147,7 +147,7 @@ pub enum Counted {
     Refusal,
 }
 
-// One atomic action of a client.
+// One atomic action of a client: SPECIFICATION 1.9.
 pub struct Move {
     pub next: Client,
     pub grants: GrantChange,
@@ -163,7 +163,7 @@ pub struct Outcome {
     pub pool: Pool,
 }
 
-// What a caller's steps came to. Each count stays at its largest value.
+// What a caller's steps came to: SPECIFICATION 7.1.
 pub struct Tally {
     pub hits: u32,
     pub joins: u32,
@@ -173,13 +173,13 @@ pub struct Tally {
     pub refused: u32,
 }
 
-// One row of a holdings list: a page, and how many grants of it the client holds.
+// One row of a holdings list: SPECIFICATION 8.1.
 pub struct Row {
     pub page: u32,
     pub times: u8,
 }
 
-// What the reader makes of the bytes at the start of a record.
+// What the reader makes of the bytes at the start of a record: SPECIFICATION 9.2.
 pub enum Reading {
     // S, T, C, hand.
     Setup(u8, u8, u8, u32),
@@ -188,7 +188,7 @@ pub enum Reading {
     Unreadable(u8),
 }
 
-// How a run of a schedule ended.
+// How a run of a schedule ended: SPECIFICATION 10.4.
 pub struct Ended {
     // How many records did not end it.
     pub records: u32,
