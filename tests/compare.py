@@ -47,7 +47,7 @@ def visit(client, page, steps):
     return begin(client, page) + steps * step(client) + release(client, page)
 
 
-# Document 01's example file.
+# The example of SPECIFICATION 10.6.
 EXAMPLE = generate.setup_record(1, 1, 3, 0) + begin(0, 9) + 9 * step(0) + release(0, 9)
 
 

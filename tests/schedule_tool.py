@@ -203,14 +203,14 @@ def errors_in_texts():
 def first_example():
     schedule = example("example.txt")
     same(schedule[:18].hex(" "), "46 43 00 01 01 03 00 00 00 00 "
-         "46 43 01 00 09 00 00 00", "document 01's first two records")
-    same(second.run(schedule), (LISTING, 12, 0), "document 01's listing")
+         "46 43 01 00 09 00 00 00", "the example's first two records")
+    same(second.run(schedule), (LISTING, 12, 0), "the example's listing")
     for path in EXAMPLE_FILES:
         same(path.read_bytes(), schedule, "the bytes of %s" % path)
     row = explain.explain(schedule, answers_to(schedule)).splitlines()[1]
     same(row.split(None, 1)[1], "setup slots 1 clients 1 cap 3 hand 0  done",
          "how a setup is explained")
-    return ("examples/example.txt gives document 01's listing, and the %d "
+    return ("examples/example.txt gives the example's listing, and the %d "
             "files of it are the same" % len(EXAMPLE_FILES))
 
 
@@ -251,19 +251,6 @@ def readme_listings():
     same("".join(" ".join(line.split()[:4]) + "\n" for line in lines),
          second.run(schedule)[0].decode(), "the report in README.md")
     return "README.md, the example as text and its report"
-
-
-def readme_refusals():
-    """A row for each refusal, which says whether it ends a run."""
-    _, _, *rows = readme_lines(" n | refused because", "|")
-    cells = [[cell.strip() for cell in row.strip("|").split("|")]
-             for row in rows]
-    same([int(number) for number, _, _ in cells], sorted(words.REFUSALS),
-         "the refusals in README.md")
-    for number, _, then in cells:
-        same("the run ends" in then, int(number) <= words.LAST_TO_END,
-             "that refusal %s ends a run" % number)
-    return "README.md, the table of %d refusals" % len(rows)
 
 
 # Explaining.
@@ -510,7 +497,7 @@ def whole_way():
 
 
 TESTS = (round_trips, cuts_and_spoils, forms_of_text, errors_in_texts,
-         first_example, second_example, readme_listings, readme_refusals,
+         first_example, second_example, readme_listings,
          explanations, given_reports, pictures, statuses, whole_way)
 
 

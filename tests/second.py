@@ -2,19 +2,20 @@
 
 It reads a schedule file on standard input and prints the report on standard
 output, and it exists to be compared with the main program. It was made from
-figures 4 and 5 of the paper (source document 000, "Nb-GCLOCK") and from the
-text of document 01 alone; nothing of the main program was looked at.
+figures 4 and 5 of the paper ("Nb-GCLOCK") and from the user's text alone;
+nothing of the main program was looked at. What the user's text says stands
+today in docs/SPECIFICATION.md, in other words.
 
 It is written in the form of the figures. Frame, BufferCache and ClockBuffer
 are their classes, and the methods keep their names. The methods that are more
 than one atomic action are coroutines. "yield 8" means: the client now stands
-at stage 8 of document 01. The lines from there to the next yield are that
+at stage 8. The lines from there to the next yield are that
 stage's one atomic action and the private bookkeeping after it, and they run
 when that client is stepped. So whatever is between two yields happens at
 once, and anything may happen to the shared data at a yield.
 
-Where document 01 differs from the figures, a comment says "document 01".
-Document 01 calls a client a "bench" and the paper calls it a "thread".
+Where the pool differs from the figures, a comment says "not in the figure".
+The user calls a client a "bench" and the paper calls it a "thread".
 """
 
 import itertools
@@ -34,7 +35,7 @@ MOST_GRANTS = 8
 
 
 class Refused(Exception):
-    """A call or a record turned down, with its number in document 01."""
+    """A call or a record turned down, with the refusal's number."""
 
     def __init__(self, number):
         super().__init__(number)
@@ -61,11 +62,11 @@ class Frame:
         self.pinning = 1
 
     def incrRC(self):
-        """Lines 15 to 17; document 01: never above the cap."""
+        """Lines 15 to 17; not in the figure: never above the cap."""
         self.refcount = min(self.refcount + 1, self.cap)
 
     def decrRC(self):
-        """Lines 18 to 20, the new count; document 01: never below 0."""
+        """Lines 18 to 20, the new count; not in the figure: never below 0."""
         self.refcount = max(self.refcount - 1, 0)
         return self.refcount
 
@@ -128,7 +129,7 @@ class Client:
 
     The figures' variables that name a frame are kept here instead of in the
     coroutines, so that a frame some client still names can be told. Each is
-    set to None as soon as no later stage of the request uses it.
+    set to None as soon as its request has no more use for it.
     """
 
     def __init__(self):
@@ -141,7 +142,7 @@ class Client:
         self.page = None
         self.stage = None
         self.entry = None  # fixEntry: stages 2 and 3
-        self.newEntry = None  # addEntry: from stage 4 on, document 01's own
+        self.newEntry = None  # addEntry: from stage 4 on, the own frame
         self.e = None  # swap: stages 12 to 16
         self.removed = None  # addEntry: stage 17, the frame that was e
         self.prevEntry = None  # addEntry: stages 19 to 22
@@ -211,10 +212,10 @@ class BufferCache:
             return me.newEntry
 
     def newFrame(self, key):
-        """Line 53's "new Frame"; document 01: out of a fixed row of frames.
+        """Line 53's "new Frame"; not in the figure: out of a fixed row.
 
-        A frame is taken only when no slot, no table entry and no client
-        names it. The search starts after the frame last taken.
+        Frames that stand in a slot or in the table, or that a client names,
+        are not taken. The search starts after the frame last taken.
         """
         named = set(self.CLOCKBUF.POOL)
         named.update(self.HASHTBL.values())
@@ -227,7 +228,7 @@ class BufferCache:
                 self.taken = number
                 frame.renew(key)
                 return frame
-        raise Refused(8)  # document 01: a pool made by calls never meets this
+        raise Refused(8)  # never met by a pool made by calls
 
 
 # Figure 5.
@@ -239,7 +240,7 @@ class ClockBuffer:
     def __init__(self, size, hand):
         self.POOL = [None] * size
         self.FREE = size
-        self.CLOCKHAND = hand  # document 01: set by the setup record
+        self.CLOCKHAND = hand  # not in the figure: set by the setup record
         self.SIZE = size
 
     def add(self, me):
@@ -267,7 +268,7 @@ class ClockBuffer:
     def swap(self, me):
         """Lines 24 to 49; the frame the new one replaced.
 
-        Document 01: the figure goes on for ever when all frames are pinned;
+        Not in the figure, which goes on for ever when all frames are pinned:
         here SIZE busy visits in a row, empty slots among them, are refused.
         A visit that got as far as stage 13 or 15 ends the row.
         """
@@ -317,7 +318,7 @@ class ClockBuffer:
         return True
 
     def moveClockHand(self, curr, start):
-        """Lines 50 to 57; document 01: start is reduced to its slot first."""
+        """Lines 50 to 57; not in the figure: start is reduced first."""
         start %= self.SIZE
         if curr < start:
             delta = curr + self.SIZE - start + 1
@@ -330,7 +331,7 @@ class ClockBuffer:
         self.CLOCKHAND = (self.CLOCKHAND + delta) % HAND_VALUES
 
 
-# The calls of document 01, one action at a time.
+# The calls, one action at a time.
 
 
 class Pool:
@@ -440,8 +441,8 @@ def line(number, client, code, value):
 def run(schedule, space=REPORT_SPACE):
     """Play a schedule file into a report of at most space bytes.
 
-    Gives the report, the number of records that did not end the run, and
-    the number of the refusal that ended it, 0 for the ordinary end.
+    Gives the report, how many records the run got through, and the number
+    of the refusal that ended it, 0 for the ordinary end.
     """
     if len(schedule) > LONGEST_FILE:
         return b"", 0, 1

@@ -1,8 +1,6 @@
 """The records of a schedule file, as bytes and as numbers.
 
-A record is two mark bytes, 46 43 hexadecimal, then a kind byte, then numbers,
-little-endian. A setup has slots, clients and cap, a byte each, and the hand, 4
-bytes; a begin, step or release has a client, 1 byte, and a page, 4 bytes.
+Their form is in docs/SPECIFICATION.md, section 9.
 """
 
 import struct
@@ -58,7 +56,7 @@ def pack(kind, *numbers):
 def read_one(data, at):
     """The record at a byte, or the damage that is there."""
     rest = data[at:at + SETUP_LENGTH]
-    # In document 01's order. The third byte counts whatever the mark is.
+    # In the order of SPECIFICATION 9.2.
     if len(rest) < CALL_LENGTH or len(rest) < length(rest[2]):
         return Damage(at, 3)
     if rest[:2] != MARK:

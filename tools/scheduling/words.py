@@ -1,4 +1,4 @@
-"""Stages, phases and refusals in words, after document 01."""
+"""Stages, phases and refusals in words: docs/SPECIFICATION.md has the same."""
 
 STAGES = {
     1: "look up the page",
@@ -34,21 +34,21 @@ PHASES = (  # first stage, last stage, name
 )
 
 REFUSALS = {
-    1: "the file is longer than 16,384 bytes",
-    2: "fewer than 24 bytes of report space are left",
+    1: "the file has more than 16,384 bytes",
+    2: "the report space has fewer than 24 bytes left",
     3: "the record is cut, or the file is empty",
-    4: "the record does not begin with the mark 46 43",
-    5: "the record's kind is above 3",
-    6: "the first record is no setup, or a later one is",
-    7: "the step's page field is not zero",
-    8: "slots, clients or cap are out of range",
+    4: "the record does not start with the mark 46 43",
+    5: "there is no such kind of record",
+    6: "a setup must come first, and only there",
+    7: "the step names a page",
+    8: "a number of the setup or of the pool is out of range",
     9: "there is no such client",
-    10: "begin or release at a working client",
-    11: "step at a resting client",
-    12: "begin at a client with 8 grants",
-    13: "release of a page that the client does not hold",
-    14: "the holdings list has fewer rows than are needed",
-    15: "the sweep met only frames in use",
+    10: "the client is at work",
+    11: "the client is at rest",
+    12: "the client has 8 grants already",
+    13: "the client does not hold this page",
+    14: "the list has too few rows",
+    15: "its sweep met only busy slots",
 }
 
 LAST_TO_END = 8  # refusals up to this number end a run
