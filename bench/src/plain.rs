@@ -1,11 +1,11 @@
 //! The pool and the reader as one would write them by hand: in place, fixed arrays, nothing proved. It is here to be timed beside the proved
-//! run, and takes part in the comparison of reports. A client is document 01's bench.
+//! run, and takes part in the comparison of reports.
 
 const MARK: [u8; 2] = *b"FC";
 const LONGEST_FILE: usize = 16_384;
 const LONGEST_LINE: usize = 24;
 
-/// How a run ended: the records that did not end it, the bytes written, and the refusal that ended it or 0.
+/// How a run ended (SPECIFICATION 10.4).
 #[derive(Debug, PartialEq, Eq)]
 pub struct Ended {
     pub records: u32,

@@ -1,4 +1,4 @@
--- Lists of document 01's refusal numbers. Assumes nothing.
+-- Lists of refusal numbers (SPECIFICATION, section 6). Assumes nothing.
 use mathlib.Core.Path.{_≡_}
 use mathlib.Core.Bool.{true}
 use mathlib.Core.List.{List}

@@ -1,4 +1,4 @@
-// The numbers that document 01 gives to answers, readings and calls. Each function equals the definition of its name in crate `pool`,
+// The numbers of answers, readings and calls. Each function equals the definition of its name in crate `pool`,
 // `specs/Answers.antt`; `caller` the one in `specs/Calls.antt`. Internal; crate `foqheran` hands `code_of`, `value_of` and `refusal_of` on.
 ghost use mathlib.Core.Path.{_≡_};
 ghost use Prim.Native.Nat.{_≤_};
@@ -8,7 +8,7 @@ use pool::Answer;
 use pool::Call;
 use pool::Reading;
 
-// "Code 0 is done ..; 1 is still working ..; 2 is granted ..; 100 plus a refusal number has value 0." A refusal number is a byte.
+// SPECIFICATION 3.6. A refusal number is a byte, which bounds the code.
 pub fn code_of(a: Answer) -> u32
     ensures { λ n. ⌜ (n ≡ codeOf a) × (n ≤ 355) ⌝ }
 {
@@ -20,7 +20,7 @@ pub fn code_of(a: Answer) -> u32
     }
 }
 
-// "(value: the page, or S for a setup) .. (value: the stage it now stands at) .. (value: the frame)"; a refusal "has value 0".
+// SPECIFICATION 3.6.
 pub fn value_of(a: Answer) -> u32
     ensures { λ n. ⌜ n ≡ valueOf a ⌝ }
 {

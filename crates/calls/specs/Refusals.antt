@@ -1,4 +1,4 @@
--- By which of document 01's numbers each call can be refused. Assumes nothing.
+-- By which refusals (SPECIFICATION, section 6) each call can be refused. Assumes nothing.
 use mathlib.Core.Path.{refl}
 use mathlib.Core.Bool.{Bool}
 use mathlib.Core.List.{List}

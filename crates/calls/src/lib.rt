@@ -1,5 +1,5 @@
 // The calls: setup, begin, step, release. Each takes any pool and any numbers, and its promise says what it answers and what it leaves, whole. The
-// second clause of a promise lists by which of document 01's numbers the call can be refused; 0 is no refusal. Public, through crate `foqheran`.
+// second clause of a promise lists by which refusals the call can be refused; 0 is no refusal. Public, through crate `foqheran`.
 ghost use mathlib.Core.Path.{_≡_};
 ghost use Rattle.pool.specs.Answers.{refusalOf};
 ghost use Rattle.pool.specs.Calls.{fresh, setupOf, callOf};
@@ -22,7 +22,7 @@ use pool::Tally;
 
 // ---- setup
 
-// "At setup all slots and the table are empty, every frame has page 0, pins -1 and count 0, and every bench rests with no grants."
+// SPECIFICATION 1.8.
 fn fresh(size: u8, client_count: u8, cap: u8, hand: u32) -> Pool
     ensures { λ r. ⌜ r ≡ fresh size «client_count» cap hand ⌝ }
 {
@@ -46,7 +46,7 @@ fn fresh(size: u8, client_count: u8, cap: u8, hand: u32) -> Pool
     }
 }
 
-// A new pool; 8 where "S, T or C is outside its range".
+// SPECIFICATION 3.1; refusal 8.
 pub fn setup(size: u8, client_count: u8, cap: u8, hand: u32) -> Outcome
     ensures { λ r. ⌜ r ≡ setupOf size «client_count» cap hand ⌝ }
     ensures { λ r. ⌜ Among bySetup (refusalOf (r .answer)) ⌝ }
@@ -64,7 +64,7 @@ pub fn setup(size: u8, client_count: u8, cap: u8, hand: u32) -> Outcome
 
 // ---- begin, step, release
 
-// "Begin (bench, page) puts a resting bench at stage 1."
+// SPECIFICATION 3.2.
 pub fn begin(pool: Pool, client: u8, page: u32) -> Outcome
     ensures { λ r. ⌜ r ≡ callOf pool (Begin client page) ⌝ }
     ensures { λ r. ⌜ Among byBegin (refusalOf (r .answer)) ⌝ }
@@ -72,7 +72,7 @@ pub fn begin(pool: Pool, client: u8, page: u32) -> Outcome
     checked::call_of(pool, Call::Begin(client, page))
 }
 
-// "Release (bench, page) ends one grant and lowers that frame's pins by one."
+// SPECIFICATION 3.4.
 pub fn release(pool: Pool, client: u8, page: u32) -> Outcome
     ensures { λ r. ⌜ r ≡ callOf pool (Release client page) ⌝ }
     ensures { λ r. ⌜ Among byRelease (refusalOf (r .answer)) ⌝ }
@@ -89,7 +89,7 @@ pub struct Stepped {
     pub pool: Pool,
 }
 
-// "Step (bench) does one stage."
+// SPECIFICATION 3.3 and 7.2, by value: crate `step` has the form that is lent the tally.
 pub fn step_tallied(pool: Pool, client: u8, tally: Tally) -> Stepped
     ensures { λ r. ⌜ r ≡ steppedOf pool client tally ⌝ }
     ensures { λ r. ⌜ Among byStep (refusalOf (r .answer)) ⌝ }

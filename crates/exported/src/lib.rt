@@ -2,8 +2,7 @@
 ghost use mathlib.Core.Path.{_≡_};
 ghost use Rattle.pool.specs.Schedule.{endOf, reportOf};
 
-// The run of a schedule. It answers how many bytes of the report space were written, and puts there how many records did not end the run, and
-// the refusal that ended it, or 0.
+// The run of a schedule. Of the three numbers of SPECIFICATION 10.4 it returns the bytes, and stores the records and the refusal where they are lent.
 #[no_mangle]
 pub extern "C" fn replay_run(
     schedule: &[u8],

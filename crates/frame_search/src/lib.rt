@@ -1,5 +1,5 @@
-// The search for the frame that stage 4 takes: one that no slot, no entry of the table and no client names. It is dear to prove, with a loop over
-// the frames and one over each thing that names them, so it stands apart from the reads that an action makes. Internal.
+// The search for the frame that stage 4 takes (SPECIFICATION 2.8). It is dear to prove, with a loop over the frames and one over each thing that
+// names them, so it stands apart from the reads that an action makes. Internal.
 ghost use mathlib.Core.Path.{_≡_};
 ghost use Prim.Native.Nat.{_<_, _≤_};
 ghost use Rattle.pool.specs.Limits.{maxClients, maxHeld};
@@ -13,7 +13,7 @@ use pool::HELD;
 use pool::NONE;
 use pool::SLOTS;
 
-// Where the search for a frame starts: after the one last taken, at 0 when none was.
+// Where the search starts (SPECIFICATION 2.8).
 fn first_tried(last: u8, total: usize) -> usize
     requires { ⌜ 0 < total ⌝ }
     ensures { λ r. ⌜ r ≡ firstOf last total ⌝ }
@@ -24,7 +24,7 @@ fn first_tried(last: u8, total: usize) -> usize
     (last as usize + 1) % total
 }
 
-// Whether client c names a frame: its own, its found one, its victim, or one of its grants.
+// Whether client c names frame f (SPECIFICATION 2.6).
 fn names(client: Client, grant_frames: &[u8; GRANTS], c: usize, f: u8) -> bool
     requires { ⌜ (c < maxClients) × (client .held ≤ maxHeld) ⌝ }
     ensures { λ r. ⌜ r ≡ namesIn client (now («grant_frames» .entry)) c f ⌝ }
@@ -47,8 +47,7 @@ fn names(client: Client, grant_frames: &[u8; GRANTS], c: usize, f: u8) -> bool
     false
 }
 
-// The first frame that no slot, no entry of the table and no client names, from the one after the last taken on and going round; or NONE. It is
-// lent of the pool what names frames, and not the pool.
+// The first unreferenced frame in the order of SPECIFICATION 2.8, or NONE. It is lent of the pool what names frames, and not the pool.
 pub fn free_frame<'a>(
     size: u8,
     client_count: u8,

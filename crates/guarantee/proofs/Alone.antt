@@ -1,4 +1,4 @@
--- A client that runs alone is refused by 15 exactly if, at its begin, its page is not resident and every slot names a held frame: `RunsAlone` followed
+-- A client that runs alone is refused by 15 exactly if at its begin the page was not resident and each slot had a held frame: `RunsAlone` followed
 -- along the run, up to the answer. Assumes nothing.
 use mathlib.Core.Path.{_≡_, refl, sym, ap, subst, _∙_}
 use mathlib.Core.Logic.{_≢_, _⊎_, inl, inr, _↔_}

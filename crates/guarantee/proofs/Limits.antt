@@ -1,6 +1,6 @@
--- "Stepped alone, all others resting, a hit takes at most 3 steps, and an admission to an empty slot at most S + 7." The limits are put together
--- from the last step back. At stages 7 and 8 the client has itself claimed an empty slot, so there is one, and stage 8 comes to it in d + 1 steps if
--- it is d places on. Assumes nothing.
+-- While the others rest, a client that is stepped is granted a resident page within 3 steps, and one that gets an empty slot within S + 7. The limits
+-- are put together from the last step back. At stages 7 and 8 the client has itself claimed an empty slot, so there is one, and stage 8 comes to it
+-- in d + 1 steps if it is d places on. Assumes nothing.
 use mathlib.Core.Path.{_≡_, refl, sym, ap, _∙_}
 use mathlib.Core.Logic.{_≢_, _⊎_, inl, inr}
 use mathlib.Core.Bool.{true, false}

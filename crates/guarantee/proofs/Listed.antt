@@ -1,4 +1,4 @@
--- Every call of every pool ends with a listed answer or 8: the checks turn down by the numbers of their list, and a stage leads on to a stage, grants
+-- The answer to each call of any pool is a listed one or 8: the checks turn down by the numbers of their list, and a stage leads on to a stage, grants
 -- a frame of the pool, or refuses by 15 (`StageAnswers` in crate `laws`). In a pool from setup and calls 8 is never met. Assumes nothing.
 use mathlib.Core.Path.{_≡_, refl, sym, ap, subst, _∙_}
 use mathlib.Core.Logic.{_≢_, _⊎_, inl, inr}

@@ -1,5 +1,5 @@
--- The sequential pool's pages with their frames are exactly the resident ones with theirs: a slot of it shows a slot's frame if that is resident, and every
--- resident frame stands in a slot. Assumes nothing.
+-- The sequential pool has the resident pages and no others, each with the frame that the table has for it: a slot of it shows a slot's frame if that
+-- is resident, and every resident frame stands in a slot. Assumes nothing.
 use mathlib.Core.Path.{_≡_, refl, sym, ap, _∙_}
 use mathlib.Core.Logic.{_≢_}
 use Prim.Native.Nat.{ℕ, suc}

@@ -1,7 +1,7 @@
 -- The tally's sum, by a pass of its own over the edges. A page is resident where the table has an entry whose frame is not evicted, so the resident pages
 -- are counted by the places of the table. A move writes one place, or the pins of one frame. 18 and 22 put the own frame, which is pinned, where no frame or
 -- an evicted one stood; 14 evicts a frame that has one entry; every other move leaves each place as resident as it was. `summed` says that of each edge,
--- beside what the move counts. The proofs of point 3 read no count, so who changes what is counted or summed mends this file, and the moves in `Edges`.
+-- beside what the move counts. The proofs of `Point3` read no count, so who changes what is counted or summed mends this file, and the moves in `Edges`.
 -- Assumes nothing.
 use mathlib.Core.Path.{_≡_, refl, sym, ap, _∙_}
 use mathlib.Core.Logic.{_≢_}

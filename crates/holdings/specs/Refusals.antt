@@ -1,4 +1,4 @@
--- By which of document 01's byHoldings holdings can be refused. Assumes nothing.
+-- By which refusals (SPECIFICATION 8.3) holdings can be refused. Assumes nothing.
 use mathlib.Core.Path.{refl}
 use mathlib.Core.List.{List}
 use Prim.Native.Nat.{ℕ}
@@ -23,7 +23,7 @@ unfolding refusalOf
 holdings-refusals p c lent rows a (fills e l) = refl
 holdings-refusals p c lent rows a (refuses e z) = rw (← e) (refusal-listed p c (length lent))
 
--- what holdings promises: what it answers and leaves on the list, and by which byHoldings it can be refused
+-- what holdings promises: what it answers and leaves on the list, and by which of `byHoldings` it can be refused
 abbrev pub Promised : Pool → ℕ → List Row → Answer → List Row → Type 0
 Promised p c lent a rows = Holdings p c lent a rows × Among byHoldings (refusalOf a)
 

@@ -1,4 +1,4 @@
--- The invariant of the pools that come from setup and calls, and its proof. To read it:
+-- The invariant of the pools of a run (SPECIFICATION 3.8), and its proof. To read it:
 --   Reached says what holds: one record of seven layers with named clauses. Who uses the invariant needs no other file.
 --   Edges lists the moves that a call can make in such a pool, Steps shows that every call makes one of them.
 --   Effects says of each of these moves what it does to each thing the layers speak of: one data type for each thing, with its few ways.

@@ -1,1 +1,1 @@
-// The invariant of the pools that come from setup and calls. There is no code here. Internal.
+// The invariant of the pools of a run (SPECIFICATION 3.8). There is no code here. Internal.

@@ -38,7 +38,7 @@ granting = 3 ∷ 18 ∷ 21 ∷ 22 ∷ []
 abbrev pub leads : ℕ → ℕ → Bool
 leads i j = member j (getD successors i [])
 
--- "Granted at 3 or 21 answers the wanted page's frame", the one found; at 18 or 22 the own frame
+-- the frame that is granted: at 3 and 21 the one found, at 18 and 22 the own frame
 abbrev pub given : ℕ → Client → ℕ
 given i k = cond (eqb i 3 || eqb i 21) (k .found) (k .own)
 

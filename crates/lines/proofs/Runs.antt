@@ -114,7 +114,7 @@ unfolding lineFor refusalOf codeOf valueOf choose
 stop-line records refusal reading e = rw e
 
 module _ (fuel : ℕ) (p : Pool) (records : ℕ) (input : List ℕ) (space : ℕ) where
-  -- no bytes left after at least one record: the ordinary end
+  -- the ordinary end (SPECIFICATION 10.1)
   pub at-end : 0 < records → length input ≡ 0 → runFrom (suc fuel) p records input space ≡ ends records 0
   unfolding runFrom both choose
   at-end some none = rw (lt-ltb 0 records some, none)

@@ -16,7 +16,7 @@ answerLine records client a = line records client (codeOf a) (valueOf a)
 unfoldable pub endAfter : ℕ → Ran → Ended
 endAfter bytes r = record { records = r .records; bytes = bytes + length (r .lines); refusal = r .refusal }
 
--- each line goes into the part of the report space that is not yet written, and what stands after the last one stays
+-- the bytes written so far, the lines of the rest of the run, and what stands behind them in the report space, which stays (SPECIFICATION 10.4)
 unfoldable pub reportAfter : ℕ → Ran → List ℕ → List ℕ
 reportAfter bytes r space = take bytes space ++ r .lines ++ drop (bytes + length (r .lines)) space
 

@@ -19,7 +19,7 @@ use pool::Write;
 
 // ---- numbers
 
-// "moves on one, round the end": the slot after slot i.
+// The slot after slot i (SPECIFICATION 1.3).
 pub fn around(size: u8, i: u8) -> u8
     requires { ⌜ i < size ⌝ }
     ensures { λ r. ⌜ r ≡ around size i ⌝ }
@@ -27,7 +27,7 @@ pub fn around(size: u8, i: u8) -> u8
     if i + 1 < size { i + 1 } else { 0 }
 }
 
-// "Raise its count by one unless at C"
+// SPECIFICATION 4.26.
 fn raised(cap: u8, n: u8) -> u8
     ensures { λ r. ⌜ r ≡ raised cap n ⌝ }
 {
@@ -95,14 +95,14 @@ pub fn still(client: Client, n: u8) -> Move
     }
 }
 
-// What no pool of this form can hold.
+// SPECIFICATION 4.30.
 pub fn stuck(client: Client) -> Move
     ensures { λ r. ⌜ r ≡ stuck client ⌝ }
 {
     still(client, 8)
 }
 
-// The request is granted a frame: the client rests, with one grant more.
+// SPECIFICATION 4.29. There is no place for a ninth grant.
 pub fn granted(client: Client, f: u8, write: Write, counted: Counted) -> Move
     ensures { λ r. ⌜ r ≡ granted client f write counted ⌝ }
 {
@@ -131,7 +131,7 @@ pub fn granted_found(client: Client, cap: u8, count: u8, counted: Counted) -> Mo
     )
 }
 
-// "'Next slot' sets the busy run to 0, moves i on one round the end, and goes to 11."
+// SPECIFICATION 4.24. The slot was not busy when 12 looked, so that the busy run starts anew.
 pub fn next_slot(client: Client, size: u8, write: Write) -> Move
     requires { ⌜ client .place < size ⌝ }
     ensures { λ r. ⌜ r ≡ nextSlot client size write ⌝ }
@@ -144,7 +144,7 @@ pub fn next_slot(client: Client, size: u8, write: Write) -> Move
     works(next, 11, write)
 }
 
-// Refusal 15: the client rests, keeps its grants, forgets its frames, and one refusal is counted.
+// SPECIFICATION 6.16. Nothing is written: the frame that the client took keeps its pins.
 fn refused_15(client: Client) -> Move
     ensures { λ r. ⌜ r ≡ refused15 client ⌝ }
 {
@@ -157,7 +157,7 @@ fn refused_15(client: Client) -> Move
     }
 }
 
-// "A busy visit adds one to the busy run; at S it is refusal 15, else i moves on and 11."
+// SPECIFICATION 4.25. S busy visits one after the other have met every slot once.
 pub fn busy_visit(client: Client, size: u8) -> Move
     requires { ⌜ (client .place < size) × (client .busy < size) ⌝ }
     ensures { λ r. ⌜ r ≡ busyVisit client size ⌝ }
@@ -174,7 +174,7 @@ pub fn busy_visit(client: Client, size: u8) -> Move
     works(next, 11, Write::Keep)
 }
 
-// "Own frame's pins 1 become -1"; the client forgets the frame.
+// SPECIFICATION 4.28. The frame stands in a slot: left with its pin and named by nobody, it would keep that slot busy for good.
 pub fn evict_own(client: Client, pins: u8, stage: u8) -> Move
     ensures { λ r. ⌜ r ≡ evictOwn client pins stage ⌝ }
 {
@@ -201,7 +201,7 @@ fn completes(page: u32, next: Client, grants: GrantChange, write: Write) -> Move
     }
 }
 
-// Begin puts a resting client at stage 1.
+// SPECIFICATION 3.2.
 pub fn begin_move(client: Client, page: u32) -> Move
     ensures { λ r. ⌜ r ≡ beginMove client page ⌝ }
 {
@@ -211,7 +211,7 @@ pub fn begin_move(client: Client, page: u32) -> Move
     completes(page, next, GrantChange::Same, Write::Keep)
 }
 
-// Release ends one grant and lowers that frame's pins by one. Read: the grant's place, its frame, and the frame's pins.
+// SPECIFICATION 3.4. The client's last grant moves to the place of the one that ends. Read: that place, its frame, and the frame's pins.
 pub fn release_move(client: Client, page: u32, i: u8, f: u8, pins: u8) -> Move
     ensures { λ r. ⌜ r ≡ releaseMove client page i f pins ⌝ }
 {

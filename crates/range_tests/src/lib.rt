@@ -21,7 +21,7 @@ pub fn both(a: bool, b: bool) -> bool
     false
 }
 
-// "Setup takes S slots (1 to 64), T benches (1 to 16), count cap C (1 to 100)"
+// SPECIFICATION 1.1.
 pub fn numbers_ok(size: u8, client_count: u8, cap: u8) -> bool
     ensures { λ r. ⌜ r ≡ numbersOk size «client_count» cap ⌝ }
 {
@@ -37,7 +37,7 @@ pub fn numbers_ok(size: u8, client_count: u8, cap: u8) -> bool
     )
 }
 
-// No frame, or one of the pool's n. "There are S + 2T frames, numbered from 0."
+// No frame, or one of the pool's n, which are numbered from 0 (SPECIFICATION 1.2).
 pub fn frame_ok(n: u8, f: u8) -> bool
     ensures { λ r. ⌜ r ≡ frameOk n f ⌝ }
 {
@@ -47,7 +47,7 @@ pub fn frame_ok(n: u8, f: u8) -> bool
     true
 }
 
-// A frame number that a client keeps: one of the pool's n where its stage uses it, else none.
+// A frame number that a client keeps (SPECIFICATION 5.6): one of the pool's n where its stage uses it, else none.
 fn used_ok(used: bool, n: u8, f: u8) -> bool
     ensures { λ r. ⌜ r ≡ usedOk used n f ⌝ }
 {
@@ -91,8 +91,7 @@ fn uses_victim(stage: u8) -> bool
     stage <= 17
 }
 
-// "Each working bench stands at one of 23 stages"; a bench "holds 0 to 8 grants"; "A slot number that a bench remembers is 0 to S - 1, and so is
-// a busy run."; the value of free that it read is "0 to S".
+// SPECIFICATION 5.5.
 pub fn counts_ok(client: Client, size: u8) -> bool
     ensures { λ r. ⌜ r ≡ countsOk client size ⌝ }
 {

@@ -24,7 +24,7 @@ use Rattle.laws.specs.Scans.{First, first, every-at, every-yes, both-first, bot
 
 -- ---- the ranges
 
--- "Setup takes S slots (1 to 64), T benches (1 to 16), count cap C (1 to 100)"
+-- SPECIFICATION 1.1
 pub record Numbers (s t c : ℕ) : Type 0 where
   pub some-slot : 0 < s
   pub slots : s ≤ maxSize
@@ -33,7 +33,7 @@ pub record Numbers (s t c : ℕ) : Type 0 where
   pub some-count : 0 < c
   pub cap : c ≤ maxCap
 
--- "A slot number that a bench remembers is 0 to S - 1, and so is a busy run."; a bench "holds 0 to 8 grants"
+-- SPECIFICATION 5.5
 pub record Counts (k : Client) (size : ℕ) : Type 0 where
   pub stage : k .stage ≤ 23
   pub held : k .held ≤ maxHeld
@@ -67,7 +67,7 @@ pub record Ranged (p : Pool) : Type 0 where
   pub pins : (f : ℕ) → f < total p → pins p f ≤ pinned maxPins
   pub count : (f : ℕ) → f < total p → count p f ≤ p .cap
   pub entry : (i : ℕ) → i < total p → Named (entryFrame p i) → entryFrame p i < total p
-  -- "The table maps a page to at most one frame."
+  -- no two entries have one page (SPECIFICATION 5.4)
   pub apart : (i j : ℕ) → i < total p → j < total p → Named (entryFrame p i) → Named (entryFrame p j) → entryPage p i ≡ entryPage p j → i ≡ j
   pub client : (c : ℕ) → c < clientCount p → ClientRanged p c
 

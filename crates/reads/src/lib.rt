@@ -13,7 +13,7 @@ use pool::SLOTS;
 
 // ---- reads
 
-// "There are S + 2T frames"; the table has as many places.
+// SPECIFICATION 1.2; the table has as many places.
 pub fn total(size: u8, client_count: u8) -> u8
     requires { ⌜ (size ≤ maxSize) × («client_count» ≤ maxClients) ⌝ }
     ensures { λ r. ⌜ r ≡ size + 2 * «client_count» ⌝ }

@@ -57,12 +57,12 @@ pub read-fits : (first : Bool) (s : List ℕ) → lengthOf (read first s) ≤ le
 unfolding lengthOf
 read-fits first s = read-any (λ (r : Reading). lengthOf r ≤ length s) s (λ long a b c h. long) (λ long call. long) (λ n a b. omega arith) first
 
--- "1 to 8 end the run"
+-- SPECIFICATION 10.4
 pub refused-ends : (n : ℕ) → 1 ≤ n → n ≤ 8 → endsRun (Refused n) ≡ true
 unfolding endsRun refusalOf both choose
 refused-ends n low high = simp (lt-ltb 0 n low, le-leb n 8 high)
 
--- "A record that cannot be read whole ends the run with its refusal."
+-- so an unreadable record ends the run
 pub unread-ends : (first : Bool) (s : List ℕ) (n : ℕ) → read first s ≡ Unreadable n → endsRun (Refused n) ≡ true
 unread-ends first s n =
     read-any (λ (r : Reading). r ≡ Unreadable n → endsRun (Refused n) ≡ true) s

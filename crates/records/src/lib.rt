@@ -12,10 +12,10 @@ ghost use Rattle.pool.specs.Schedule.{number, cut, marked, content, read};
 use pool::Call;
 use pool::Reading;
 
-// "Each record begins with the two mark bytes 46 43 hexadecimal"
+// SPECIFICATION 9.1: 46 43 (hexadecimal).
 const MARK: [u8; 2] = *b"FC";
 
-// "Numbers are little-endian."
+// SPECIFICATION 9.1: the lowest byte first.
 fn little_endian(a: u8, b: u8, c: u8, d: u8) -> u32
     ensures { λ r. ⌜ r ≡ a + 256 * b + 65536 * c + 16777216 * d ⌝ }
 {
@@ -30,7 +30,7 @@ fn number(s: &[u8], i: usize) -> u32
     little_endian(s[i], s[i + 1], s[i + 2], s[i + 3])
 }
 
-// 3. "Fewer than 8 bytes remain, or fewer than 10 with a third byte of 0"
+// Refusal 3. It is checked before the mark, so the third byte need not be a kind.
 fn cut(s: &[u8]) -> bool
     ensures { λ r. ⌜ r ≡ cut (now (s .entry)) ⌝ }
 {
@@ -55,7 +55,7 @@ fn marked(s: &[u8]) -> bool
     false
 }
 
-// What a record with the mark and a kind that may stand there says; 7. "A step's page field is not zero."
+// What a record with the mark and a kind that may stand there says; refusal 7.
 fn content(s: &[u8]) -> Reading
     requires { ⌜ cut (now s) ≡ false ⌝ }
     ensures { λ r. ⌜ r ≡ content (now (s .entry)) ⌝ }
@@ -78,8 +78,8 @@ fn content(s: &[u8]) -> Reading
     Reading::Unreadable(7)
 }
 
-// The record at the start of `rest`, the schedule bytes that are left; `first` says whether it is the schedule's first. The record's checks
-// stand in order: 3; 4, "The mark is not 46 43."; 5, "The kind is above 3."; 6, "The first record is no setup, or a later one is."; 7.
+// The record at the start of `rest`, the schedule bytes that are left; `first` says whether it is the schedule's first. The checks stand in the
+// order of SPECIFICATION 9.2.
 fn reading(rest: &[u8], first: bool) -> Reading
     ensures { λ r. ⌜ r ≡ read first (now (rest .entry)) ⌝ }
 {

@@ -13,8 +13,7 @@ use pool::GRANTS;
 use pool::MAX_HELD;
 use pool::NONE;
 
-// By which of 10 to 13 a call of a client is turned down: a begin or a release while it works, a step while it rests, a begin with 8 grants, a
-// release of a page that it does not hold. 0: by none of them.
+// By which of the refusals 10 to 13 a call of a client is turned down; 0: by none of them.
 fn refusal_at(call: Call, client: Client, grant_pages: &[u32; GRANTS]) -> u8
     requires { ⌜ (caller call < maxClients) × (client .held ≤ maxHeld) ⌝ }
     ensures { λ r. ⌜ ((p : Pool) → State.client p (caller call) ≡ client → p .«grant_pages» ≡ now («grant_pages» .entry) →

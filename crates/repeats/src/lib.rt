@@ -1,5 +1,4 @@
-// The two tests of check 8 that compare pages: the table maps a page to at most one frame, and one client's grants of one page name one frame.
-// Internal.
+// The two tests of check 8 that compare pages: those of the table (SPECIFICATION 5.4) and of a client's grants (SPECIFICATION 5.7). Internal.
 //
 // The pages met are marked by their remainder, and only a page whose remainder has a mark is searched for, so that not all pairs are compared.
 ghost use mathlib.Core.Path.{_≡_};
@@ -12,8 +11,8 @@ use pool::FRAMES;
 use pool::GRANTS;
 use pool::HELD;
 
-// "The table maps a page to at most one frame.": place i is unused, or names one of the pool's n frames and is the first that maps its page.
-// A mark of 0 says that the page stands at no earlier place, so that no search is needed.
+// SPECIFICATION 5.4: place i is unused, or names one of the pool's n frames and is the first that maps its page. A mark of 0 says that the page
+// stands at no earlier place, so that no search is needed.
 fn entry_ok<'a>(
     pages: &'a [u32; FRAMES],
     frames: &'a [u8; FRAMES],
@@ -81,8 +80,7 @@ fn grant_ok<'a>(
     frames[HELD * c + first] == frame
 }
 
-// "one bench's grants of one page name different frames": false. Marks as for the table; a power of two serves, for a search among 8 grants
-// is short.
+// SPECIFICATION 5.7. Marks as for the table; a power of two serves, for a search among 8 grants is short.
 pub fn grants_ok<'a>(
     pages: &'a [u32; GRANTS],
     frames: &'a [u8; GRANTS],

@@ -1,4 +1,4 @@
-// Reads a schedule on standard input, runs it, and prints the report. Public: a program for users.
+// The program of SPECIFICATION 10.5. Public: a program for users.
 use libc::STDIN_FILENO;
 use libc::STDOUT_FILENO;
 

@@ -1,4 +1,4 @@
-// Report lines: "record number from 0, bench (0 for a setup), code, value; in decimal, one space between, a line feed after". Internal.
+// Report lines (SPECIFICATION 10.2). Internal.
 ghost use mathlib.Core.Path.{_≡_};
 ghost use Prim.Native.Nat.{_≤_, _<_};
 ghost use lib.ListN.{length};
@@ -61,8 +61,8 @@ fn field(out: &mut [u8], v: u32, after: u8) -> usize
     n + 1
 }
 
-// A record's line at the start of `out`, the part of the report space that is not yet written; how long it is. What stands after it stays. A
-// schedule has at most 2,048 records, and a code is at most 100 plus a refusal number, so that every line has at most 24 bytes (`line-fits`).
+// A record's line at the start of `out`, the part of the report space that is not yet written; how long it is. What stands after it stays. The
+// number of a record has at most 4 digits, a client and a code at most 3 each, a value at most 10: with what separates them 24 bytes (`line-fits`).
 pub fn write_line(out: &mut [u8], at: u32, client: u8, code: u32, value: u32) -> usize
     requires { ⌜ (24 ≤ length (now out)) × (at ≤ 9999) × (code ≤ 999) ⌝ }
     ensures { λ r. ⌜ (r ≡ length (line at client code value)) × (now (out .exit) ≡ written (line at client code value) (now (out .entry))) ⌝ }

@@ -1,7 +1,7 @@
 // The run's loop: the calls of a schedule after its setup, each played on the pool where it lies. Internal.
 //
-// The pool's parts lie in one place for the whole run, and every record changes them where they lie. Check 8 is not made here: pools that come from
-// setup and calls never meet it, so a record's turn is `callOf`, which makes check 8 before and after the action, without the test.
+// The pool's parts lie in one place for the whole run, and every record changes them where they lie. Check 8 is not made here: no pool of a run
+// meets it (SPECIFICATION 3.8), so a record's turn is `callOf`, which makes check 8 before and after the action, without the test.
 //
 // Three numbers go along with the run: `place`, the byte of the schedule at which the next record starts; `records`, how many records are done,
 // which is the next one's number; `bytes`, how many bytes of the report space are written.

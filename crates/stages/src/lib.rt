@@ -1,5 +1,5 @@
-// The 23 stages of document 01, one small function each. A stage gets its client and the numbers of the pool that it reads, and says what it does; it
-// changes nothing by itself. Internal.
+// The 23 stages (section 4 of docs/SPECIFICATION.md), one small function each. A stage gets its client and the numbers of the pool that it reads, and
+// says what it does; it changes nothing by itself. Internal.
 ghost use mathlib.Core.Path.{_≡_};
 ghost use Prim.Native.Nat.{_%_, _<_, _≤_};
 ghost use Rattle.pool.specs.Limits.{maxSize, maxPins};
@@ -27,7 +27,7 @@ fn slot_of(hand: u32, size: u8) -> u8
     (hand % n) as u8
 }
 
-// "the hand grows by i - s + 1, plus S when i is below s"
+// SPECIFICATION 4.27. What is added comes before what is taken away, so that no number falls below 0.
 fn growth(size: u32, i: u32, s: u32) -> u32
     requires { ⌜ (size ≤ maxSize) × (i < size) × (s < size) ⌝ }
     ensures { λ r. ⌜ r ≡ growth size i s ⌝ }
@@ -40,7 +40,7 @@ fn growth(size: u32, i: u32, s: u32) -> u32
 
 // ---- the stages
 
-// 1. "Look up the page: frame found, 2; none, 4."
+// The frame found is not pinned yet: it may be evicted before 2.
 pub fn stage1(client: Client, found: u8) -> Move
     ensures { λ r. ⌜ r ≡ stage1 client found ⌝ }
 {
@@ -52,7 +52,7 @@ pub fn stage1(client: Client, found: u8) -> Move
     moves::works(next, 2, Write::Keep)
 }
 
-// 2. "If its pins are 0 or more, add one, 3; else 4."
+// The test and the pin are one action: between two actions the frame could be evicted.
 pub fn stage2(client: Client, pins: u8) -> Move
     requires { ⌜ pins ≤ pinned maxPins ⌝ }
     ensures { λ r. ⌜ r ≡ stage2 client pins ⌝ }
@@ -65,14 +65,14 @@ pub fn stage2(client: Client, pins: u8) -> Move
     moves::works(client, 3, Write::PutPins(client.found, pins + 1))
 }
 
-// 3. "Raise its count by one unless at C; granted."
+// No pin is added: the one of 2 is the grant's from now on.
 pub fn stage3(client: Client, cap: u8, count: u8) -> Move
     ensures { λ r. ⌜ r ≡ stage3 client cap count ⌝ }
 {
     moves::granted_found(client, cap, count, Counted::Hit)
 }
 
-// 4. "Take a frame: this page, pins 1, count 1; go to 5."
+// Three numbers are set in one action: nobody else names the frame yet, so nobody could see it half set.
 pub fn stage4(client: Client, fresh: u8) -> Move
     ensures { λ r. ⌜ r ≡ stage4 client fresh ⌝ }
 {
@@ -84,7 +84,7 @@ pub fn stage4(client: Client, fresh: u8) -> Move
     moves::works(next, 5, Write::TakeFrame(fresh, client.page, ONE_PIN, 1))
 }
 
-// 5. "Read free: 0, 10; else 6."
+// Free never rises: once it is 0, a slot is had only by a sweep.
 pub fn stage5(client: Client, free: u8) -> Move
     ensures { λ r. ⌜ r ≡ stage5 client free ⌝ }
 {
@@ -96,7 +96,7 @@ pub fn stage5(client: Client, free: u8) -> Move
     moves::works(next, 6, Write::Keep)
 }
 
-// 6. "If free is still the value read, lower it by one, 7; else 5."
+// Another client may have lowered free since 5. A slot is claimed before it is looked for, so that at 8 there is one for each client.
 pub fn stage6(client: Client, free: u8) -> Move
     ensures { λ r. ⌜ r ≡ stage6 client free ⌝ }
 {
@@ -109,7 +109,7 @@ pub fn stage6(client: Client, free: u8) -> Move
     moves::works(client, 5, Write::Keep)
 }
 
-// 7. "Read the hand; the place is its slot; 8."
+// This says only where to look first: others may fill that slot before 8.
 pub fn stage7(client: Client, hand: u32, size: u8) -> Move
     requires { ⌜ 0 < size ⌝ }
     ensures { λ r. ⌜ r ≡ stage7 client hand size ⌝ }
@@ -120,7 +120,7 @@ pub fn stage7(client: Client, hand: u32, size: u8) -> Move
     moves::works(next, 8, Write::Keep)
 }
 
-// 8. "If the slot at the place is empty, put the own frame there, 9; else the place moves on one, round the end, still 8."
+// The search ends, since the client has claimed one of the empty slots (stage 6).
 pub fn stage8(client: Client, there: u8, size: u8) -> Move
     requires { ⌜ client .place < size ⌝ }
     ensures { λ r. ⌜ r ≡ stage8 client there size ⌝ }
@@ -134,7 +134,7 @@ pub fn stage8(client: Client, there: u8, size: u8) -> Move
     moves::works(next, 8, Write::Keep)
 }
 
-// 9. "Hand plus one; 18."
+// From where the hand is now, which others may have moved since 7.
 pub fn stage9(client: Client, hand: u32) -> Move
     ensures { λ r. ⌜ r ≡ stage9 client hand ⌝ }
 {
@@ -142,7 +142,7 @@ pub fn stage9(client: Client, hand: u32) -> Move
     moves::works(client, 18, Write::PutHand(moved))
 }
 
-// 10. "Start := hand; i := start modulo S; busy run := 0; 11."
+// The start is kept, as 16 reckons from there.
 pub fn stage10(client: Client, hand: u32, size: u8) -> Move
     requires { ⌜ 0 < size ⌝ }
     ensures { λ r. ⌜ r ≡ stage10 client hand size ⌝ }
@@ -156,7 +156,7 @@ pub fn stage10(client: Client, hand: u32, size: u8) -> Move
     moves::works(next, 11, Write::Keep)
 }
 
-// 11. "Look at slot i: empty is a busy visit; else remember its frame e, 12."
+// No slot is free any more (stage 5), so that an empty one is claimed: its client is about to fill it.
 pub fn stage11(client: Client, there: u8, size: u8) -> Move
     requires { ⌜ (client .place < size) × (client .busy < size) ⌝ }
     ensures { λ r. ⌜ r ≡ stage11 client there size ⌝ }
@@ -169,7 +169,7 @@ pub fn stage11(client: Client, there: u8, size: u8) -> Move
     moves::works(next, 12, Write::Keep)
 }
 
-// 12. "Read e's pins: -1, 15; above 0, busy visit; 0, 13."
+// A frame that is evicted already, at 14, 20 or 23, only has to be taken out of the slot.
 pub fn stage12(client: Client, pins: u8, size: u8) -> Move
     requires { ⌜ (client .place < size) × (client .busy < size) ⌝ }
     ensures { λ r. ⌜ r ≡ stage12 client pins size ⌝ }
@@ -183,7 +183,7 @@ pub fn stage12(client: Client, pins: u8, size: u8) -> Move
     moves::works(client, 13, Write::Keep)
 }
 
-// 13. "Lower e's count by one unless 0. Now 0, 14; else next slot."
+// The count may be 0 already, if another sweep lowered it and did not evict the frame.
 pub fn stage13(client: Client, count: u8, size: u8) -> Move
     requires { ⌜ client .place < size ⌝ }
     ensures { λ r. ⌜ r ≡ stage13 client count size ⌝ }
@@ -195,7 +195,7 @@ pub fn stage13(client: Client, count: u8, size: u8) -> Move
     moves::next_slot(client, size, Write::PutCount(client.victim, left))
 }
 
-// 14. "If e's pins are 0, set them to -1, 15; else next slot."
+// Another client may have pinned the frame since 12, or evicted it.
 pub fn stage14(client: Client, pins: u8, size: u8) -> Move
     requires { ⌜ client .place < size ⌝ }
     ensures { λ r. ⌜ r ≡ stage14 client pins size ⌝ }
@@ -211,7 +211,7 @@ pub fn stage14(client: Client, pins: u8, size: u8) -> Move
     moves::next_slot(client, size, Write::Keep)
 }
 
-// 15. "If slot i still names e, put the own frame there, 16; else next slot."
+// Another client that met the victim evicted may have put its own frame here since.
 pub fn stage15(client: Client, there: u8, size: u8) -> Move
     requires { ⌜ client .place < size ⌝ }
     ensures { λ r. ⌜ r ≡ stage15 client there size ⌝ }
@@ -222,7 +222,7 @@ pub fn stage15(client: Client, there: u8, size: u8) -> Move
     moves::next_slot(client, size, Write::Keep)
 }
 
-// 16. "With s = start modulo S, the hand grows by i - s + 1, plus S when i is below s; 17."
+// The start is reduced before it is compared with the place, which is a slot number.
 pub fn stage16(client: Client, hand: u32, size: u8) -> Move
     requires { ⌜ (client .place < size) × (size ≤ maxSize) ⌝ }
     ensures { λ r. ⌜ r ≡ stage16 client hand size ⌝ }
@@ -234,7 +234,7 @@ pub fn stage16(client: Client, hand: u32, size: u8) -> Move
     moves::works(client, 17, Write::PutHand(moved))
 }
 
-// 17. "If the table maps e's page to e, remove the entry; 18." Read: e's page, the place of its entry, and the frame there.
+// By frame and not by page: the page may have been mapped anew (stage 22). Read: the victim's page, the place of its entry, and the frame there.
 pub fn stage17(client: Client, page: u32, i: u8, mapped: u8) -> Move
     ensures { λ r. ⌜ r ≡ stage17 client page i mapped ⌝ }
 {
@@ -246,8 +246,8 @@ pub fn stage17(client: Client, page: u32, i: u8, mapped: u8) -> Move
     moves::works(next, 18, Write::Keep)
 }
 
-// 18. "If the table lacks the page, map it to the own frame, granted; else remember the frame found, 19." Read: the frame found, and the
-// first unused place.
+// The look-up and the new entry are one action: else two clients could each add an entry of one page. Read: the frame found, and the first
+// unused place.
 pub fn stage18(client: Client, found: u8, i: u8) -> Move
     ensures { λ r. ⌜ r ≡ stage18 client found i ⌝ }
 {
@@ -267,7 +267,7 @@ pub fn stage18(client: Client, found: u8, i: u8) -> Move
     moves::works(next, 19, Write::Keep)
 }
 
-// 19. "If its pins are 0 or more, add one, 20; else 22."
+// One action, as at 2.
 pub fn stage19(client: Client, pins: u8) -> Move
     requires { ⌜ pins ≤ pinned maxPins ⌝ }
     ensures { λ r. ⌜ r ≡ stage19 client pins ⌝ }
@@ -278,22 +278,21 @@ pub fn stage19(client: Client, pins: u8) -> Move
     moves::works(client, 20, Write::PutPins(client.found, pins + 1))
 }
 
-// 20. "Own frame's pins 1 become -1; 21."
+// After the pin of 19 and not before: without it the own frame is still needed, at 22.
 pub fn stage20(client: Client, pins: u8) -> Move
     ensures { λ r. ⌜ r ≡ stage20 client pins ⌝ }
 {
     moves::evict_own(client, pins, 21)
 }
 
-// 21. "Raise the found frame's count as in 3; granted the found frame."
+// As at 3, with the pin of 19.
 pub fn stage21(client: Client, cap: u8, count: u8) -> Move
     ensures { λ r. ⌜ r ≡ stage21 client cap count ⌝ }
 {
     moves::granted_found(client, cap, count, Counted::Join)
 }
 
-// 22. "If the table still maps the page to the found frame, map it to the own frame, granted; else 23." Read: the place of the page's entry,
-// and the frame there.
+// The entry may have been removed (stage 17) or have another frame since 18. Read: the place of the page's entry, and the frame there.
 pub fn stage22(client: Client, i: u8, mapped: u8) -> Move
     ensures { λ r. ⌜ r ≡ stage22 client i mapped ⌝ }
 {
@@ -310,7 +309,6 @@ pub fn stage22(client: Client, i: u8, mapped: u8) -> Move
     moves::works(next, 23, Write::Keep)
 }
 
-// 23. "Own frame's pins 1 become -1; 4."
 pub fn stage23(client: Client, pins: u8) -> Move
     ensures { λ r. ⌜ r ≡ stage23 client pins ⌝ }
 {

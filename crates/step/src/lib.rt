@@ -1,8 +1,7 @@
-// The step over a lent tally: "The tally is one small record that each step brings up to date where the caller keeps it". Public, through crate
-// `foqheran`.
+// The step over a lent tally (SPECIFICATION 7.2). Public, through crate `foqheran`.
 //
-// The stages and all counting are by value, in crate `calls`. `step`, the form that document 01 names ("lent by &mut and changed by one thin
-// function, after the by-value core stands"), only carries the tally there and back.
+// The stages and all counting are by value, in crate `calls`. `step` only carries the tally there and back: what is proved of a lent tally is proved
+// by hand, and so is kept short.
 ghost use mathlib.Core.Path.{_≡_};
 ghost use Rattle.pool.specs.Answers.{refusalOf};
 ghost use Rattle.pool.specs.Tallies.{tallyAfter};
@@ -21,7 +20,7 @@ pub struct Answered {
     pub pool: Pool,
 }
 
-// "Step (bench) does one stage." Turned down ("All but 15 change no pool, tally or list"), it leaves the tally as it was lent: so says `tallyAfter`.
+// SPECIFICATION 3.3. A step that is turned down leaves the tally as it was lent (SPECIFICATION 6.17): so says `tallyAfter`.
 pub fn step(pool: Pool, client: u8, tally: &mut Tally) -> Answered
     ensures { λ r. ⌜ (r ≡ answeredOf pool client) × (now (tally .exit) ≡ tallyAfter pool client (now (tally .entry))) ⌝ }
     ensures { λ r. ⌜ Among byStep (refusalOf (r .answer)) ⌝ }

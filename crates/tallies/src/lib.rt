@@ -4,14 +4,14 @@ ghost use Rattle.pool.specs.Tallies.{up, tallied};
 use pool::Counted;
 use pool::Tally;
 
-// "Each is 32 bits and stays at its largest value."
+// SPECIFICATION 7.1. A count that went on past its largest value would start again from 0.
 fn up(n: u32) -> u32
     ensures { λ r. ⌜ r ≡ up n ⌝ }
 {
     if n < 4294967295 { n + 1 } else { n }
 }
 
-// "hits (3), joins (21), admitted (18), revived (22), drops (14 that evicted), refused (refusal 15)": what an action is counted as.
+// SPECIFICATION 7.1. What an action is counted as is said where it is decided, in crates `stages` and `moves`.
 pub fn tallied(counted: Counted, tally: Tally) -> Tally
     ensures { λ r. ⌜ r ≡ tallied counted tally ⌝ }
 {

@@ -1,8 +1,8 @@
-// Plays calls and prints document 01's line for each: "record number from 0, bench (0 for a setup), code, value". A test program.
+// Plays calls and prints for each the line that a report would have (SPECIFICATION 10.2). A test program.
 //
-// First come three setups, expected from what `setup` promises, without a line. Then three parts that print: the bench case "Eighth grant given,
-// ninth begin 12"; the case P6, where a page is revived; and 600 mixed calls, where a fixed sequence of numbers says the kind, the client and the
-// page of each. After a part come facts of its last pool.
+// First come three setups, expected from what `setup` promises, without a line. Then three parts that print: a client that has eight grants and
+// begins once more; the case P6 (SPECIFICATION, section 12), where a page is revived; and 600 mixed calls, where a fixed sequence of numbers says the
+// kind, the client and the page of each. After a part come facts of its last pool.
 use pool::Answer;
 use pool::Call;
 use pool::Client;
@@ -204,7 +204,7 @@ fn started(size: u8, client_count: u8, cap: u8, hand: u32) -> Run {
     }
 }
 
-// "All but 15 change no pool, tally or list.": 1 where a call that was turned down changed the pool.
+// SPECIFICATION 6.17: 1 where a call that was turned down changed the pool.
 fn broke(answer: Answer, before: Pool, after: Pool) -> u32 {
     let n = answers::refusal_of(answer);
     if n == 0 {
@@ -288,7 +288,7 @@ fn requested(run: Run, client: u8, page: u32) -> Run {
 
 // ---- the parts
 
-// "Eighth grant given, ninth begin 12". Then one grant ends, and the ninth page takes its slot.
+// Eight grants are given, and the next begin is refused by 12. Then one grant ends, and the ninth page takes its slot.
 fn nine_grants() {
     let mut run = started(8, 1, 3, 0);
     for page in 1u32..10 {
@@ -301,8 +301,7 @@ fn nine_grants() {
     facts(run);
 }
 
-// "S 2, T 2, 9 and 5 unheld, bench 0 wants 7, has swapped 9 out and stands at 17; bench 1 wants 9: granted at 22, and bench 0's removal then finds
-// another frame and removes nothing."
+// Case P6.
 fn revived_page() {
     let mut run = started(2, 2, 3, 0);
     run = requested(run, 0, 9);
@@ -350,7 +349,7 @@ fn mixed_calls() {
     facts(run);
 }
 
-// "S 64 and T 16 accepted; S 0, S 65, T 17, C 0, C 101 are 8.": three of them, expected from the promise of `setup` alone.
+// Three of case P8's setups, expected from the promise of `setup` alone.
 fn setup_ranges() {
     let largest = calls::setup(64, 16, 100, 0);
     let accepted = largest.answer;

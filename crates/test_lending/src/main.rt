@@ -8,7 +8,7 @@ use foqheran::Row;
 use foqheran::Tally;
 use libc::STDOUT_FILENO;
 
-// The pool, and the tally that is lent throughout, "each time as the last call left it".
+// The pool, and the one tally that is lent to every step.
 struct State {
     pool: Pool,
     tally: Tally,
@@ -93,7 +93,7 @@ fn print_row(row: Row) {
     print_pair(row.page, row.times as u32);
 }
 
-// The list is lent with the page 77, seven times, in every row: "Rows after them stay untouched."
+// The list is lent with the page 77, seven times, in every row, so that it is seen which rows were filled (SPECIFICATION 8.2).
 fn print_holdings(state: State, client: u8) {
     let pool = state.pool;
     let filler = Row { page: 77, times: 7 };
@@ -120,9 +120,8 @@ fn main() {
     // S 2, T 2, C 3.
     let mut state = set_up(2, 2, 3, 0);
 
-    // Case P5: "both want 9 and alternate from the start, bench 0 first: bench 0 is granted frame 0, bench 1 joins it". Client 0 does stages 1, 4 to
-    // 9, 18; client 1 does 1, 4, 5, 6, 5 (free is no more what it read), 6 to 9, 18 to 21. The five steps more of client 0 are turned down by 11
-    // and count nothing. Admitted 1, joins 1.
+    // Case P5 (SPECIFICATION, section 12). Client 0 does stages 1, 4 to 9, 18; client 1 does 1, 4, 5, 6, 5 (free is no more what it read), 6 to 9, 18
+    // to 21. The five steps more of client 0 are turned down by 11 and count nothing. Admitted 1, joins 1.
     state = begin(state, 0, 9);
     state = begin(state, 1, 9);
     state = rounds(state, 13);
@@ -134,7 +133,7 @@ fn main() {
     // Slot 0 has the held frame 0, slot 1 the evicted frame 1: stages 1, 4, 5, 10, 11, 12 (busy), 11, 12, 15 to 18. Admitted 2.
     state = request(state, 0, 5, 12);
 
-    // Both slots have held frames: stages 1, 4, 5, 10, 11, 12 (busy), 11, 12 (busy: "at S it is refusal 15"). Refused 1.
+    // Both slots have held frames: stages 1, 4, 5, 10, 11, 12 (busy), 11, 12 (busy, the second of two: refusal 15). Refused 1.
     state = request(state, 1, 7, 8);
 
     // Client 0 holds 9 three times and 5 once, client 1 holds 9 once; the order of rows is open, and here that of the first grants. There is no
@@ -162,7 +161,7 @@ fn main() {
     state = request(state, 1, 7, 20);
     state = steps(state, 0, 2);
 
-    // Client 0 holds 5, client 1 holds 7. "resident pages = admitted + revived - drops": 4 + 1 - 3 is 2.
+    // Client 0 holds 5, client 1 holds 7: two resident pages, and by SPECIFICATION 7.3 there are 4 + 1 - 3.
     print_holdings(state, 0);
     print_holdings(state, 1);
     print_tally(state);

@@ -1,4 +1,4 @@
-// The largest pool, every slot of it held, and a request that meets only frames in use: through the public calls, check 8 before and after each. A
+// The largest pool, every slot of it held, and a request whose sweep can evict nothing: through the public calls, check 8 before and after each. A
 // test program, and what `bench/run` times.
 //
 // Each byte on standard input is one such request: a begin and 132 steps, the last of which is refusal 15. It prints the tally's refusals, so the

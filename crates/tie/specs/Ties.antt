@@ -1,6 +1,6 @@
 -- The tie between the code and the guarantee: whatever the contracts of the calls allow goes through the very pools, answers and tallies that the
--- guarantee speaks of. Setup gives the first pool, each later call gets the pool that the last one left, any tally may be lent, and nobody else
--- changes the pool meanwhile. Statements only. Assumes nothing.
+-- guarantee speaks of. Each call is handed the pool that the one before it left, as in a run (SPECIFICATION 3.8), and whichever tally its caller has.
+-- Statements only. Assumes nothing.
 use mathlib.Core.Path.{_≡_}
 use mathlib.Core.List.{List, [], _∷_, map}
 use Prim.Native.Nat.{ℕ, _+_}
@@ -69,21 +69,20 @@ pub record Answerable : Type 0 where
   pub setup : (s t c h : ℕ) → (r : Outcome) × SetupSays s t c h r
   pub list : (p : Pool) (t : Tally) (calls : List Call) → (answers : List Answer) × (q : Pool) × (u : Tally) × Plays p t calls answers q u
 
--- any tally may be lent: it changes neither the answer nor the pool
+-- whichever tally is lent changes neither the answer nor the pool
 abbrev pub Claim-any-tally : Type 0
 Claim-any-tally =
     (p q q′ : Pool) (t t′ u u′ : Tally) (x : Call) (a a′ : Answer) → Makes p t x a q u → Makes p t′ x a′ q′ u′ → (a ≡ a′) × (q ≡ q′)
 
 -- The pool that an accepted setup left was set up in the guarantee's sense: so each of its claims about such a pool and every list of calls holds of
--- it, and by `Claim-list` the events that they speak of are what the code does. Point 3 is one of them.
+-- it, and by `Claim-list` the events that they speak of are what the code does. `Point3` is one of them.
 abbrev pub Claim-set-up : Type 0
 Claim-set-up = (s t c h : ℕ) (r : Outcome) → Accepted s t c h r → SetUp (r .pool)
 
 abbrev pub Claim-point3 : Type 0
 Claim-point3 = (s t c h : ℕ) (r : Outcome) → Accepted s t c h r → (calls : List Call) → Point3 (r .pool) calls
 
--- the tally's sum: where one tally, all zero at setup, is lent throughout, each time as the last call left it, and none of its counts is at its
--- largest value, the resident pages are those admitted and revived less those dropped
+-- the tally's sum (SPECIFICATION 7.3)
 abbrev pub Claim-sum : Type 0
 Claim-sum =
     (s t c h : ℕ) (r : Outcome) → Accepted s t c h r

@@ -1,4 +1,4 @@
-// Check 8 of a pool: whether its numbers are in document 01's ranges, and one client's grants of one page name one frame. Internal.
+// Check 8 of a pool (SPECIFICATION, section 5). Internal.
 //
 // The small tests are in crate `range_tests`, those that compare pages in crate `repeats`; here are the loops over slots, frames and clients, and
 // what comes after what. The cheap tests come first, and each part is looked at only once the numbers that bound it are known to be in range. The
@@ -16,7 +16,7 @@ use pool::MAX_PINS;
 use pool::Pool;
 use pool::SLOTS;
 
-// "A slot is empty or names one frame."
+// SPECIFICATION 5.2.
 fn slots_ok(slots: &[u8; SLOTS], size: usize, n: u8) -> bool
     requires { ⌜ size ≤ maxSize ⌝ }
     ensures { λ r. ⌜ r ≡ slotsOkIn (now (slots .entry)) size n ⌝ }
@@ -30,7 +30,7 @@ fn slots_ok(slots: &[u8; SLOTS], size: usize, n: u8) -> bool
     true
 }
 
-// "pins (-1, evicted, to 128) and a reference count (0 to C)"; the pins are stored one more.
+// SPECIFICATION 5.3. The pins are stored one more.
 fn states_ok<'a>(pins: &'a [u8; FRAMES], counts: &'a [u8; FRAMES], n: usize, cap: u8) -> bool
     requires { ⌜ n ≤ maxFrames ⌝ }
     ensures { λ r. ⌜ r ≡ statesOkIn (now (pins .entry)) (now (counts .entry)) n cap ⌝ }
@@ -89,7 +89,7 @@ fn clients_ok<'a>(
     true
 }
 
-// "a pool handed to a call whose numbers .. break the ranges above, where one bench's grants of one page name different frames": false.
+// All of section 5.
 pub fn valid(pool: Pool) -> bool
     ensures { λ r. ⌜ r ≡ valid pool ⌝ }
 {
@@ -98,7 +98,7 @@ pub fn valid(pool: Pool) -> bool
         return false;
     }
     let n = pool.size + 2 * pool.client_count;
-    // "'Free' starts at S and is 0 to S."
+    // SPECIFICATION 5.1: free, and the frame taken last.
     let shared = range_tests::both(pool.free <= pool.size, range_tests::frame_ok(n, pool.last));
     if !shared {
         return false;

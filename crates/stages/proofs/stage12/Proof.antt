@@ -1,5 +1,5 @@
--- The code tests the pins in document 01's order, evicted, above 0, 0; `stage12` asks for 0 before it says above 0. The three cases are the
--- same. Assumes nothing.
+-- The code tests the pins in the order evicted, above 0, 0; `stage12` asks for 0 before it says above 0. The three cases are the same. Assumes
+-- nothing.
 use borrow.Author.Needs.{needs}
 use borrow.Author.Tests.{eq-eqb, ne-eqb}
 use native.Mathlib.Omega.{arith}
