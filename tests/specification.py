@@ -285,6 +285,7 @@ def stages():
         need("fn stage%s(" % number in code, "no code of stage %s" % number)
         need((TOP / "crates" / "stages" / "proofs" / ("stage" + number)).is_dir(),
              "no proof of stage %s" % number)
+        then = re.sub(r"(pins|count|above) -?\d+", "", then)
         leads = {int(n) for n in re.findall(r"\d+", then)}
         leads |= {generate.GRANT} if "granted" in then else set()
         leads |= {generate.FULL} if "refused" in then else set()

@@ -70,7 +70,7 @@ pub struct Pool {
     pub hand: u32,
     // SPECIFICATION 1.4.
     pub free: u8,
-    // The frame that was last taken, by whichever client, or NONE.
+    // SPECIFICATION 1.10; NONE at first.
     pub last: u8,
     // The frame that each slot names, or NONE: the first S.
     pub slots: [u8; SLOTS],
