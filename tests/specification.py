@@ -282,6 +282,9 @@ def stages():
     for number, name, _, then, definition in found:
         same(name, words.STAGES[int(number)], "the name of stage %s" % number)
         same(definition, "`Stages.stage%s`" % number, "its definition")
+        above = comment_above(*place_of("Stages.stage" + number))
+        need(above.startswith("stage %s: %s" % (number, name)),
+             "the comment above stage%s does not begin with its name" % number)
         need("fn stage%s(" % number in code, "no code of stage %s" % number)
         need((TOP / "crates" / "stages" / "proofs" / ("stage" + number)).is_dir(),
              "no proof of stage %s" % number)

@@ -41,7 +41,7 @@ seqResting grants = record { stage = 0; wants = 0; grants = grants }
 abbrev pub seqClient : Sequential → ℕ → SeqClient
 seqClient q c = getD (q .clients) c (seqResting [])
 
--- SPECIFICATION 11.2
+-- SPECIFICATION 11.2: s slots without a page, t clients at rest
 abbrev pub start : ℕ → ℕ → Sequential
 start s t = record { slots = replicate s empty; clients = replicate t (seqResting []) }
 
@@ -102,7 +102,7 @@ pub data StepRule (q : Sequential) (k : SeqClient) : Answer → List SeqSlot →
 abbrev pub withSeqClient : Sequential → ℕ → SeqClient → Sequential
 withSeqClient q c k = record { slots = q .slots; clients = set (q .clients) c k }
 
--- SPECIFICATION 11.3 to 11.6
+-- SPECIFICATION 11.3 to 11.6: the rules
 pub data Rule (q : Sequential) : Call → Answer → Sequential → Type 0 where
   turns-down : {x : Call} {n : ℕ} → seqRefusal q x ≡ n → n ≢ 0 → Rule q x (Refused n) q
   -- SPECIFICATION 11.4

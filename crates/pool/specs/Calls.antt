@@ -25,13 +25,13 @@ use Rattle.pool.specs.declared.Counted.the-variants.{Nothing}
 use Rattle.pool.specs.declared.GrantChange.the-variants.{Same, End}
 use Rattle.pool.specs.declared.Write.the-variants.{Keep, PutPins}
 
--- SPECIFICATION 6.17
+-- SPECIFICATION 6.17: refused by n, with nothing changed
 abbrev pub turnedDown : ℕ → Pool → Outcome
 turnedDown n p = record { answer = Refused n; counted = Nothing; pool = p }
 
 -- ---- setup
 
--- SPECIFICATION 1.4, 1.8
+-- SPECIFICATION 1.4, 1.8: a new pool
 abbrev pub fresh : ℕ → ℕ → ℕ → ℕ → Pool
 fresh s t c h =
     record {
@@ -56,7 +56,7 @@ fresh s t c h =
 abbrev pub noPool : Pool
 noPool = fresh 0 0 0 0
 
--- SPECIFICATION 3.1, refusal 8
+-- SPECIFICATION 3.1, refusal 8: a setup
 unfoldable pub setupOf : ℕ → ℕ → ℕ → ℕ → Outcome
 setupOf s t c h = choose (numbersOk s t c) (record { answer = Done s; counted = Nothing; pool = fresh s t c h }) (turnedDown 8 noPool)
 
@@ -91,11 +91,11 @@ turnedBy p call = choose (ltb (caller call) (clientCount p)) (refusalAt p (clien
 unfoldable pub refusal : Pool → Call → ℕ
 refusal p call = choose (valid p) (turnedBy p call) 8
 
--- SPECIFICATION 3.2
+-- SPECIFICATION 3.2: a begin
 abbrev pub beginMove : Client → ℕ → Move
 beginMove k g = completes g (wanting k g) Same Keep
 
--- SPECIFICATION 3.4. Read: the grant's place, its frame, and the frame's pins. The last grant moves to the place of the one that ends.
+-- SPECIFICATION 3.4: a release. Read: the grant's place, its frame, and the frame's pins. The last grant moves to the place of the one that ends.
 unfoldable pub releaseMove : Client → ℕ → ℕ → ℕ → ℕ → Move
 releaseMove k g i f n =
     choose (eqb n evicted) (stuck k) (completes g (holding k (k .held - 1)) (End i (k .held - 1)) (PutPins f (n - 1)))

@@ -14,7 +14,7 @@ names p f c =
     let k = client p c in
     either (eqb (k .own) f) (either (eqb (k .found) f) (either (eqb (k .victim) f) (holds p f c)))
 
--- SPECIFICATION 2.7
+-- SPECIFICATION 2.7: whether a slot, an entry or a client names frame f
 unfoldable pub referenced : Pool → ℕ → Bool
 referenced p f =
     either (some (λ i. eqb (slot p i) f) (p .size))

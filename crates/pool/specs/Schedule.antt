@@ -24,11 +24,11 @@ byte s i = getD s i 0
 unfoldable pub number : List ℕ → ℕ → ℕ
 number s i = byte s i + 256 * byte s (i + 1) + 65536 * byte s (i + 2) + 16777216 * byte s (i + 3)
 
--- SPECIFICATION 9.2, refusal 3
+-- SPECIFICATION 9.2, refusal 3: whether too few bytes are left
 unfoldable pub cut : List ℕ → Bool
 cut s = either (ltb (length s) 8) (both (ltb (length s) 10) (eqb (byte s 2) 0))
 
--- SPECIFICATION 9.1, refusal 4
+-- SPECIFICATION 9.1, refusal 4: whether the mark is there
 unfoldable pub marked : List ℕ → Bool
 marked s = both (eqb (byte s 0) 0x46) (eqb (byte s 1) 0x43)
 
@@ -50,7 +50,7 @@ read first s =
     (choose (eqb (byte s 2) 0) (content s) (Unreadable 6))
     (choose (eqb (byte s 2) 0) (Unreadable 6) (content s)))))
 
--- SPECIFICATION 9.1
+-- SPECIFICATION 9.1: how many bytes a record has
 unfoldable pub lengthOf : Reading → ℕ
 lengthOf (Setup s t c h) = 10
 lengthOf (Asked call) = 8
@@ -81,11 +81,11 @@ unfoldable pub digits : ℕ → ℕ → List ℕ
 digits zero n = (48 + n % 10) ∷ []
 digits (suc fuel) n = let higher = digits fuel (n / 10) in choose (ltb n 10) ((48 + n) ∷ []) (higher ++ (48 + n % 10) ∷ [])
 
--- SPECIFICATION 10.2
+-- SPECIFICATION 10.2: a number in decimal
 abbrev pub decimal : ℕ → List ℕ
 decimal n = digits n n
 
--- SPECIFICATION 10.2
+-- SPECIFICATION 10.2: a line
 unfoldable pub line : ℕ → ℕ → ℕ → ℕ → List ℕ
 line at client code value = decimal at ++ 32 ∷ decimal client ++ 32 ∷ decimal code ++ 32 ∷ decimal value ++ 10 ∷ []
 
@@ -120,7 +120,7 @@ runFrom (suc fuel) p at bytes space =
     (record { records = at; refusal = refusalOf (o .answer); lines = written })
     (record { records = rest .records; refusal = rest .refusal; lines = written ++ rest .lines })))
 
--- SPECIFICATION 10.1, refusal 1
+-- SPECIFICATION 10.1, refusal 1: the whole run
 unfoldable pub ran : List ℕ → ℕ → Ran
 ran schedule space = let r = runFrom (length schedule + 1) noPool 0 schedule space in choose (ltb 16384 (length schedule)) (ends 0 1) r
 

@@ -38,11 +38,11 @@ raised cap n = choose (ltb n cap) (n + 1) n
 -- ---- what several stages share
 
 module _ (k : Client) (size : ℕ) where
-  -- SPECIFICATION 4.24
+  -- SPECIFICATION 4.24: next slot
   abbrev pub nextSlot : Write → Move
   nextSlot write = works (sweeping k (k .start) (around size (k .place)) 0) 11 write
 
-  -- SPECIFICATION 4.25, refusal 15
+  -- SPECIFICATION 4.25, refusal 15: a busy visit
   unfoldable pub busyVisit : Move
   busyVisit =
       choose (eqb (k .busy + 1) size)
@@ -63,101 +63,101 @@ module _ (k : Client) where
 
   -- ---- the stages
 
-  -- stage 1
+  -- stage 1: look up the page
   unfoldable pub stage1 : ℕ → Move
   stage1 f = choose (eqb f none) (works k 4 Keep) (works (withFound k f) 2 Keep)
 
-  -- stage 2
+  -- stage 2: pin the frame found
   unfoldable pub stage2 : ℕ → Move
   stage2 n = choose (eqb n evicted) (works (withFound k none) 4 Keep) (works k 3 (PutPins (k .found) (n + 1)))
 
-  -- stage 3
+  -- stage 3: raise the frame's count
   unfoldable pub stage3 : ℕ → ℕ → Move
   stage3 cap n = grantedFound cap n Hit
 
-  -- stage 4
+  -- stage 4: take a frame
   unfoldable pub stage4 : ℕ → Move
   stage4 f = choose (eqb f none) (stuck k) (works (withOwn k f) 5 (TakeFrame f (k .page) (pinned 1) 1))
 
-  -- stage 5
+  -- stage 5: read free
   unfoldable pub stage5 : ℕ → Move
   stage5 free = choose (eqb free 0) (works k 10 Keep) (works (withSeen k free) 6 Keep)
 
-  -- stage 6. Only a handed pool has a client here that saw a free of 0.
+  -- stage 6: lower free. Only a handed pool has a client here that saw a free of 0.
   unfoldable pub stage6 : ℕ → Move
   stage6 free = choose (eqb free (k .seen)) (choose (eqb free 0) (stuck k) (works k 7 (PutFree (free - 1)))) (works k 5 Keep)
 
-  -- stage 7
+  -- stage 7: read the hand
   unfoldable pub stage7 : ℕ → ℕ → Move
   stage7 hand size = works (withPlace k (hand % size)) 8 Keep
 
-  -- stage 8
+  -- stage 8: put the own frame into an empty slot
   unfoldable pub stage8 : ℕ → ℕ → Move
   stage8 f size = choose (eqb f none) (works k 9 (PutSlot (k .place) (k .own))) (works (withPlace k (around size (k .place))) 8 Keep)
 
-  -- stage 9
+  -- stage 9: move the hand on by one
   unfoldable pub stage9 : ℕ → Move
   stage9 hand = works k 18 (PutHand (advanced hand 1))
 
-  -- stage 10
+  -- stage 10: start a sweep at the hand
   unfoldable pub stage10 : ℕ → ℕ → Move
   stage10 hand size = works (sweeping k hand (hand % size) 0) 11 Keep
 
-  -- stage 11
+  -- stage 11: look at the next slot
   unfoldable pub stage11 : ℕ → ℕ → Move
   stage11 f size = choose (eqb f none) (busyVisit k size) (works (withVictim k f) 12 Keep)
 
-  -- stage 12
+  -- stage 12: read the victim's pins
   unfoldable pub stage12 : ℕ → ℕ → Move
   stage12 n size = choose (eqb n evicted) (works k 15 Keep) (choose (eqb n (pinned 0)) (works k 13 Keep) (busyVisit k size))
 
-  -- stage 13. 0 less 1 is 0 here, which SPECIFICATION 4.26 asks for.
+  -- stage 13: lower the victim's count. 0 less 1 is 0 here, which SPECIFICATION 4.26 asks for.
   unfoldable pub stage13 : ℕ → ℕ → Move
   stage13 n size =
       choose (eqb (n - 1) 0)
       (works k 14 (PutCount (k .victim) (n - 1)))
       (nextSlot k size (PutCount (k .victim) (n - 1)))
 
-  -- stage 14
+  -- stage 14: evict the victim
   unfoldable pub stage14 : ℕ → ℕ → Move
   stage14 n size = choose (eqb n (pinned 0)) (worksAs k Drop 15 (PutPins (k .victim) evicted)) (nextSlot k size Keep)
 
-  -- stage 15
+  -- stage 15: put the own frame in the victim's place
   unfoldable pub stage15 : ℕ → ℕ → Move
   stage15 f size = choose (eqb f (k .victim)) (works k 16 (PutSlot (k .place) (k .own))) (nextSlot k size Keep)
 
-  -- stage 16
+  -- stage 16: move the hand past the slot
   unfoldable pub stage16 : ℕ → ℕ → Move
   stage16 hand size = works k 17 (PutHand (advanced hand (growth size (k .place) (k .start % size))))
 
-  -- stage 17. Read: the victim's page, the place of its entry, and the frame there.
+  -- stage 17: remove the victim's table entry. Read: the victim's page, the place of its entry, and the frame there.
   unfoldable pub stage17 : ℕ → ℕ → ℕ → Move
   stage17 g i f = choose (eqb f (k .victim)) (works (withVictim k none) 18 (PutEntry i g none)) (works (withVictim k none) 18 Keep)
 
-  -- stage 18. Read: the frame that the table has for the page, and the first unused place.
+  -- stage 18: map the page to the own frame. Read: the frame that the table has for the page, and the first unused place.
   unfoldable pub stage18 : ℕ → ℕ → Move
   stage18 f i =
       choose (eqb f none)
       (choose (eqb i none) (stuck k) (granted k (k .own) (PutEntry i (k .page) (k .own)) Admitted))
       (works (withFound k f) 19 Keep)
 
-  -- stage 19
+  -- stage 19: pin the frame that the table has
   unfoldable pub stage19 : ℕ → Move
   stage19 n = choose (eqb n evicted) (works k 22 Keep) (works k 20 (PutPins (k .found) (n + 1)))
 
-  -- stage 20
+  -- stage 20: give the own frame up to join
   unfoldable pub stage20 : ℕ → Move
   stage20 n = evictOwn n 21
 
-  -- stage 21
+  -- stage 21: raise the joined frame's count
   unfoldable pub stage21 : ℕ → ℕ → Move
   stage21 cap n = grantedFound cap n Join
 
-  -- stage 22. Read: the place of the page's entry, and the frame there.
+  -- stage 22: map the page anew, to the own frame. Read: the place of the page's entry, and the frame there.
   unfoldable pub stage22 : ℕ → ℕ → Move
   stage22 i f = choose (eqb f (k .found)) (granted k (k .own) (PutEntry i (k .page) (k .own)) Revived) (works (withFound k none) 23 Keep)
 
-  -- stage 23
+  -- stage 23: give the own frame up to start anew
   unfoldable pub stage23 : ℕ → Move
   stage23 n = evictOwn n 4
 
@@ -170,7 +170,7 @@ Stage = Pool → Client → Move
 abbrev pub noStage : Stage
 noStage p k = stuck k
 
--- SPECIFICATION 3.3
+-- SPECIFICATION 3.3: the stages by their numbers
 abbrev pub stages : List Stage
 stages =
     noStage

@@ -20,7 +20,7 @@ evicted = 0
 abbrev pub pinned : ℕ → ℕ
 pinned n = n + 1
 
--- T, by its name in the definitions
+-- SPECIFICATION 1.1: T
 abbrev pub clientCount : Pool → ℕ
 clientCount p = p .«client_count»
 
@@ -61,7 +61,7 @@ resting n = record { stage = 0; page = 0; own = none; found = none; victim = non
 abbrev pub no-client : Client
 no-client = record { stage = 0; page = 0; own = 0; found = 0; victim = 0; seen = 0; place = 0; start = 0; busy = 0; held = 0 }
 
--- SPECIFICATION 2.1
+-- SPECIFICATION 2.1: client c
 unfoldable pub client : Pool → ℕ → Client
 client p c = choose (ltb c (clientCount p)) (getD (p .clients) c no-client) (resting 0)
 

@@ -49,11 +49,11 @@ usesFound s = (leb 2 s && leb s 3) || (leb 19 s && leb s 22)
 abbrev pub usesVictim : ℕ → Bool
 usesVictim s = leb 12 s && leb s 17
 
--- SPECIFICATION 5.5
+-- SPECIFICATION 5.5: a client's numbers
 unfoldable pub countsOk : Client → ℕ → Bool
 countsOk k size = both (leb (k .stage) 23) (both (leb (k .held) maxHeld) (both (ltb (k .place) size) (both (ltb (k .busy) size) (leb (k .seen) size))))
 
--- SPECIFICATION 5.6, in a pool of n frames
+-- SPECIFICATION 5.6: a client's frames, in a pool of n
 unfoldable pub namesOk : Client → ℕ → Bool
 namesOk k n =
     both (usedOk (usesOwn (k .stage)) n (k .own))

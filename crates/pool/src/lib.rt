@@ -66,11 +66,11 @@ pub struct Pool {
     pub size: u8,
     pub client_count: u8,
     pub cap: u8,
-    // Kept whole: SPECIFICATION 1.5.
+    // Not reduced modulo S: SPECIFICATION 1.5.
     pub hand: u32,
-    // SPECIFICATION 1.4.
+    // How many slots are left to be claimed: SPECIFICATION 1.4.
     pub free: u8,
-    // SPECIFICATION 1.10; NONE at first.
+    // The frame taken last, NONE at first: SPECIFICATION 1.10.
     pub last: u8,
     // The frame that each slot names, or NONE: the first S.
     pub slots: [u8; SLOTS],
