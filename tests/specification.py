@@ -4,12 +4,13 @@ It prints a line for each thing it tests and a line with the totals. Its exit
 status is 0 if all passed, else 1.
 
 docs/SPECIFICATION.md says for people what the definitions say for the proof
-checker. This test cannot tell whether the two mean the same, but it sees to
-it that neither can change its numbers and names without the other: clauses
-are numbered without gaps, each names definitions that exist, and where a
-definition stands its clause is cited; the tables of stages and refusals have
-a row for each, in the words that tools/schedule uses; where a stage leads is
-what the second program does; the example is the one that is played.
+checker. Whether the two mean the same no test can tell; this one sees to it
+that neither is renumbered or renamed without the other. Clauses are numbered
+without gaps; each names definitions that exist, and the comment above each of
+these cites the clause. Whatever is cited, in any file, is there. The tables
+of stages and refusals have a row for each, in the words of tools/schedule,
+and a stage leads where it leads in the runs of the second program. The
+limits, the example and the names of the worked cases are the sources'.
 """
 
 import os
@@ -30,8 +31,11 @@ from scheduling import text, words  # noqa: E402
 SPECIFICATION = TOP / "docs" / "SPECIFICATION.md"
 GUARANTEE = TOP / "docs" / "GUARANTEE.md"
 TYPES = TOP / "crates" / "pool" / "src" / "lib.rt"
+STAGE_CODE = TOP / "crates" / "stages" / "src" / "lib.rt"
+STAGE_PROOFS = TOP / "crates" / "stages" / "proofs"
 SPECS = [TOP / "crates" / name / "specs" for name in ("pool", "guarantee")]
-STAGES, REFUSALS = 4, 6  # the sections whose first clauses are table rows
+SUFFIXES = (".antt", ".edit", ".md", ".py", ".rs", ".rt", ".txt", "")
+STAGES, REFUSALS, CASES = 4, 6, 12  # sections whose rows are numbered or named
 
 
 def same(found, expected, what):
@@ -43,6 +47,14 @@ def same(found, expected, what):
 def need(holds, what):
     if not holds:
         raise AssertionError(what)
+
+
+def read(path):
+    return path.read_text(encoding="utf-8")
+
+
+def here(path):
+    return path.relative_to(TOP)
 
 
 # Reading the page.
@@ -57,10 +69,10 @@ def names_in(written):
     return re.findall(r"`([^`]+)`", written)
 
 
-def sections(path):
-    """The lines of each section of a page, by the section's number."""
+def sections():
+    """The lines of each section, by the section's number."""
     found, number = {}, None
-    for line in path.read_text(encoding="utf-8").splitlines():
+    for line in read(SPECIFICATION).splitlines():
         heading = re.match(r"## (\d+) ", line)
         if heading:
             number = int(heading[1])
@@ -70,55 +82,42 @@ def sections(path):
     return found
 
 
-SECTIONS = sections(SPECIFICATION)
+SECTIONS = sections()
 
 
 def rows(section):
-    """The cells of the table rows of a section that begin with a number."""
+    """The cells of a section's table rows that begin with a number."""
     return [cells(line) for line in SECTIONS[section]
             if re.match(r"\| \d+ \|", line)]
 
 
 def clauses():
-    """The names that each clause has, by section and number.
+    """Each clause's section, number and text, in the order of the page.
 
-    A clause is a paragraph that begins with its number, and names its
-    definitions after an arrow; or a row of the tables of stages or refusals,
-    which names them in its last cell.
+    A clause is a paragraph that begins with its number, or a row of the
+    tables of stages and refusals.
     """
-    found = {}
     for section, lines in SECTIONS.items():
-        here = []
         if section in (STAGES, REFUSALS):
-            here = [(int(row[0]), row[-1]) for row in rows(section)]
+            for row in rows(section):
+                yield section, int(row[0]), "→ " + row[-1]
         for line in lines:
             begins = re.match(r"\*\*(\d+)\.(\d+)\b", line)
             if begins:
-                _, _, named = line.rpartition("→")
-                here.append((int(begins[2]), named if named != line else ""))
-        for number, named in here:
-            found[section, number] = names_in(named)
-    return found
+                yield int(begins[1]), int(begins[2]), line
 
 
-CLAUSES = clauses()
-
-
-def files():
-    """Every source and page, with its text."""
-    for folder, within, names in os.walk(TOP):
-        within[:] = [name for name in within if name not in (".git", "target")]
-        for name in names:
-            path = pathlib.Path(folder, name)
-            if path.suffix in (".antt", ".edit", ".md", ".py", ".rs", ".rt",
-                               ".txt", ""):
-                try:
-                    yield path, path.read_text(encoding="utf-8")
-                except UnicodeDecodeError:
-                    pass  # a schedule that a test program reads
+TEXTS = {(section, number): line for section, number, line in clauses()}
+# A clause names its definitions behind an arrow.
+NAMED = {clause: names_in(line.rpartition("→")[2]) if "→" in line else []
+         for clause, line in TEXTS.items()}
 
 
 # Definitions.
+
+
+DEFINES = re.compile(r" *(?:abbrev pub|unfoldable pub|pub record|pub data"
+                     r"|pub struct|pub enum) (\S+)")
 
 
 def spec_file(name):
@@ -127,6 +126,13 @@ def spec_file(name):
              if (folder / (name + ".antt")).is_file()]
     need(len(found) < 2, "two files of definitions are called %s" % name)
     return found[0] if found else None
+
+
+def part_end(lines, at):
+    """Where the lines end that stand further in than a line."""
+    further = re.compile(r"$|%s +" % re.match(" *", lines[at])[0])
+    return next((place for place in range(at + 1, len(lines))
+                 if not further.match(lines[place])), len(lines))
 
 
 def place_of(name):
@@ -139,25 +145,27 @@ def place_of(name):
     path = spec_file(file) if inner else None
     if path is None:
         path, inner = TYPES, [file, *inner]
-    lines = path.read_text(encoding="utf-8").splitlines()
-    at = -1
+    lines = read(path).splitlines()
+    at, end = -1, len(lines)
     for word in inner:
-        form = re.compile(r" *(?:abbrev pub|unfoldable pub|pub record|pub data"
-                          r"|pub struct|pub enum) %s | +(?:pub )?%s ?:"
-                          % (2 * (re.escape(word),)))
-        at = next((place for place in range(at + 1, len(lines))
-                   if form.match(lines[place] + " ")), None)
-        need(at is not None,
-             "%s has no definition %s" % (path.relative_to(TOP), name))
+        part = re.compile(r" +(?:pub )?%s ?:" % re.escape(word))
+        at = next((place for place in range(at + 1, end)
+                   if (DEFINES.match(lines[place]) or [None, None])[1] == word
+                   or part.match(lines[place])), None)
+        need(at is not None, "%s has no definition %s" % (here(path), name))
+        end = part_end(lines, at)
     return path, at
 
 
-def comment_above(path, at):
-    """The comment that stands nearest above a line."""
-    lines = path.read_text(encoding="utf-8").splitlines()
+def comment_above(path, at, group=()):
+    """The comment right above a definition, or above others of its group."""
+    lines = read(path).splitlines()
     is_comment = [line.lstrip().startswith(("--", "//")) for line in lines]
     while at > 0 and not is_comment[at - 1]:
         at -= 1
+        passed = DEFINES.match(lines[at])
+        if passed and passed[1] not in group:
+            return ""
     end = at
     while at > 0 and is_comment[at - 1]:
         at -= 1
@@ -167,35 +175,45 @@ def comment_above(path, at):
 # Citations.
 
 
-def ranges(written, word):
-    """The numbers of 'stage 14', 'refusals 10 to 13', 'stages 3 and 21'."""
-    for match in re.finditer(r"\b%ss? (\d+)(?: (to|and) (\d+))?" % word,
-                             written, re.I):
-        first, how, last = match.groups()
-        last = int(last or first)
-        yield from (range(int(first), last + 1) if how == "to"
-                    else {int(first), last})
+def numbers(written, before, number=r"\d+"):
+    """The numbers behind a word: 'stage 14', 'stages 3 and 21', '1.2 to 1.4'.
+
+    Each is a tuple of its parts.
+    """
+    found = re.compile(r"\b%s (%s(?:(?:, | and | or | to )%s)*)(?![\d.]*\d)"
+                       % (before, number, number))
+    for match in found.finditer(written):
+        for first, last in re.findall(r"(%s)(?: to (%s))?" % (number, number),
+                                      match[1]):
+            *section, low = map(int, first.split("."))
+            high = int((last or first).split(".")[-1])
+            for one in range(low, high + 1):
+                yield (*section, one)
+
+
+def in_full(written):
+    """The clauses that 'SPECIFICATION 2.8' and the like cite."""
+    return numbers(written, "SPECIFICATION", r"\d+\.\d+")
 
 
 def cited(written):
-    """The clauses that a text cites."""
-    # 'SPECIFICATION 2.4', '.. 5.1, 5.2', '.. 3.2 to 3.4', '.. 1.7 and 2.3'
-    for match in re.finditer(r"SPECIFICATION ((?:\d+\.\d+(?:, | to | and )?)+)",
-                             written):
-        numbers = [tuple(map(int, number.split(".")))
-                   for number in re.findall(r"\d+\.\d+", match[1])]
-        yield from numbers
-        for first, last in re.findall(r"(\d+\.\d+) to (\d+\.\d+)", match[1]):
-            section, low = map(int, first.split("."))
-            for number in range(low, int(last.split(".")[1])):
-                yield section, number
+    """Those, and the clauses of the short forms."""
+    yield from in_full(written)
+    for section, word in ((STAGES, "stages?"), (REFUSALS, "refusals?")):
+        for one, in numbers(written, word):
+            yield section, one
 
 
-def cited_here(written):
-    """Those, and what the short forms cite."""
-    yield from cited(written)
-    yield from ((STAGES, number) for number in ranges(written, "stage"))
-    yield from ((REFUSALS, number) for number in ranges(written, "refusal"))
+def files():
+    """Every source and page, with its text on one line."""
+    for folder, within, names in os.walk(TOP):
+        within[:] = [name for name in within if name not in (".git", "target")]
+        for path in (pathlib.Path(folder, name) for name in names):
+            if path.suffix in SUFFIXES:
+                try:
+                    yield path, re.sub(r"\n\s*(?://|--|#)?\s*", " ", read(path))
+                except UnicodeDecodeError:
+                    pass  # a schedule that a test program reads
 
 
 # The tests.
@@ -204,81 +222,102 @@ def cited_here(written):
 def numbering():
     """Sections and clauses are numbered from 1 on."""
     same(list(SECTIONS), list(range(1, len(SECTIONS) + 1)), "the sections")
-    for section, lines in SECTIONS.items():
-        same({number for line in lines
-              for number in re.findall(r"^\*\*(\d+)\.\d+ ", line)}
-             - {str(section)}, set(), "clauses of others in %d" % section)
-        numbers = [number for within, number in CLAUSES if within == section]
-        if section != 12:  # the worked cases have names
-            same(numbers, list(range(1, len(numbers) + 1)),
-                 "the clauses of section %d" % section)
-            need(numbers, "section %d has no clause" % section)
-    contents = [int(number) for line in
-                SPECIFICATION.read_text(encoding="utf-8").splitlines()
-                for number in re.findall(r"\[(\d+)\]\(#", line)]
-    same(contents, list(SECTIONS), "the sections in the table of contents")
-    return "%d clauses in %d sections" % (len(CLAUSES), len(SECTIONS))
+    listed = [int(number) for number
+              in re.findall(r"\[(\d+)\]\(#\1-", read(SPECIFICATION))]
+    same(listed, list(SECTIONS), "the sections in the table of contents")
+    found = [(section, number) for section, number, _ in clauses()]
+    expected = [(section, number) for section in SECTIONS
+                for number in range(1, 1 + sum(one == section
+                                               for one, _ in found))]
+    for one, due in zip(found, expected):
+        need(one == due, "clause %d.%d stands where %d.%d is due" % (one + due))
+    same(set(SECTIONS) - {section for section, _ in found}, {CASES},
+         "the sections without clauses")
+    return "%d clauses in %d sections" % (len(TEXTS), len(SECTIONS))
 
 
 def definitions():
     """Each clause names definitions; what the two pages name is there."""
-    count = 0
-    for clause, named in CLAUSES.items():
+    for clause, named in NAMED.items():
         need(named, "clause %d.%d names no definition" % clause)
         for name in named:
             place_of(name)
-            count += 1
     for page in (SPECIFICATION, GUARANTEE):
-        for name in names_in(page.read_text(encoding="utf-8")):
+        for name in names_in(read(page)):
             if re.fullmatch(r"[A-Z]\w*(\.[\w-]+)+(?<!\.antt)", name):
                 place_of(name)
             elif re.fullmatch(r"[\w.]+(/[\w.]+)+", name):
                 need((TOP / name).exists(),
-                     "%s names %s, which is not there" % (page.name, name))
-    return "%d definitions of clauses, and whatever the pages name" % count
+                     "%s names %s, which is not there" % (here(page), name))
+    return ("%d definitions of clauses, and whatever the two pages name"
+            % sum(map(len, NAMED.values())))
 
 
 def cited_where_defined():
     """The comment above a clause's definition cites the clause."""
-    for clause, named in CLAUSES.items():
+    for clause, named in NAMED.items():
+        group = {name.rpartition(".")[2] for name in named}
         for name in named:
             path, at = place_of(name)
-            need(clause in set(cited_here(comment_above(path, at))),
+            need(clause in set(cited(comment_above(path, at, group))),
                  "%s:%d: the comment above %s does not cite clause %d.%d"
-                 % (path.relative_to(TOP), at + 1, name, *clause))
+                 % (here(path), at + 1, name, *clause))
     return "the comment above each of them cites its clause"
 
 
 def citations():
-    """What is cited exists, in every file of the project."""
+    """What is cited is there, in every file and on the page itself."""
+    last = {"stages?": max(words.STAGES), "refusals?": max(words.REFUSALS),
+            r"SPECIFICATION(?:\.md)?, sections?": len(SECTIONS),
+            "GUARANTEE": len(claims())}
     count = 0
-    claims = [int(number) for number in
-              re.findall(r"^(\d+)\. \*\*", GUARANTEE.read_text("utf-8"), re.M)]
-    same(claims, list(range(1, len(claims) + 1)), "the claims' numbers")
     for path, written in files():
-        plain = re.sub(r"\n\s*(?://|--|#)?\s*", " ", written)
-        for clause in cited(plain):
-            need(clause in CLAUSES, "%s cites clause %d.%d, which is not there"
-                 % (path.relative_to(TOP), *clause))
+        for clause in in_full(written):
+            need(clause in TEXTS, "%s cites clause %d.%d, which is not there"
+                 % (here(path), *clause))
             count += 1
-        for section in re.findall(r"SPECIFICATION(?:\.md)?,? sections? (\d+)",
-                                  plain):
-            need(int(section) in SECTIONS, "%s cites section %s"
-                 % (path.relative_to(TOP), section))
-            count += 1
-        for claim in re.findall(r"GUARANTEE (\d+)", plain):
-            need(int(claim) in claims, "%s cites claim %s"
-                 % (path.relative_to(TOP), claim))
-            count += 1
-    return "%d citations of clauses and claims" % count
+        for word, most in last.items():
+            if word.islower() and path.suffix == ".md":
+                continue  # a page may speak of the crate of that name
+            for one, in numbers(written, word):
+                need(one <= most, "%s cites %s %d, which is not there"
+                     % (here(path), word.partition("?")[0], one))
+                count += 1
+    for within in re.findall(r"(?<![\d.,`])(\d+\.\d+)(?![\d.])",
+                             read(SPECIFICATION)):
+        need(tuple(map(int, within.split("."))) in TEXTS,
+             "the page refers to %s, which is not there" % within)
+    return "%d citations of clauses, stages, refusals and claims" % count
+
+
+def claims():
+    """The claims of docs/GUARANTEE.md, in order."""
+    found = [int(number) for number
+             in re.findall(r"^(\d+)\. \*\*", read(GUARANTEE), re.M)]
+    same(found, list(range(1, len(found) + 1)), "the claims' numbers")
+    return found
+
+
+def statements():
+    """Each claim has its statement, in a file that cites the claim."""
+    stated = [cells(line) for line in read(GUARANTEE).splitlines()
+              if re.match(r"\| \d+ \|", line)]
+    same([int(row[0]) for row in stated], claims(), "the claims stated")
+    for number, statement, *_ in stated:
+        need(names_in(statement), "claim %s has no statement" % number)
+        for name in names_in(statement):
+            path, _ = place_of(name)
+            need((int(number),) in set(numbers(read(path), "GUARANTEE")),
+                 "%s does not cite claim %s" % (here(path), number))
+    return "%d claims: each has a statement, where it is cited" % len(stated)
 
 
 def stages():
-    """A row for each stage: its name, where it leads, its definition."""
+    """A row for each stage: its name, and the stages it can lead to."""
     found = rows(STAGES)
     same({len(row) for row in found}, {5}, "cells in the rows of stages")
     same([int(row[0]) for row in found], list(words.STAGES), "the stages")
-    code = (TOP / "crates" / "stages" / "src" / "lib.rt").read_text("utf-8")
+    code = read(STAGE_CODE)
     for number, name, _, then, definition in found:
         same(name, words.STAGES[int(number)], "the name of stage %s" % number)
         same(definition, "`Stages.stage%s`" % number, "its definition")
@@ -286,23 +325,22 @@ def stages():
         need(above.startswith("stage %s: %s" % (number, name)),
              "the comment above stage%s does not begin with its name" % number)
         need("fn stage%s(" % number in code, "no code of stage %s" % number)
-        need((TOP / "crates" / "stages" / "proofs" / ("stage" + number)).is_dir(),
+        need((STAGE_PROOFS / ("stage" + number)).is_dir(),
              "no proof of stage %s" % number)
         then = re.sub(r"(pins|count|above) -?\d+", "", then)
-        leads = {int(n) for n in re.findall(r"\d+", then)}
+        leads = {int(one) for one in re.findall(r"\d+", then)}
         leads |= {generate.GRANT} if "granted" in then else set()
         leads |= {generate.FULL} if "refused" in then else set()
         same(leads, {after for before, after in generate.EDGES
                      if before == int(number)}, "where stage %s leads" % number)
-    headings = [line[:-1].lower() for line in SECTIONS[STAGES]
-                if line.endswith(":") and " " * 4 not in line]
     for _, _, phase in words.PHASES:
-        need(phase in headings, "no table of the phase %s" % phase)
+        need(phase.capitalize() + ":" in SECTIONS[STAGES],
+             "no table of the phase %s" % phase)
     return "%d stages: names, where they lead, code and proofs" % len(found)
 
 
 def refusals():
-    """A row for each refusal: why, and whether it ends a run."""
+    """A row for each refusal: why, and what becomes of a run."""
     found = rows(REFUSALS)
     same({len(row) for row in found}, {5}, "cells in the rows of refusals")
     same([int(row[0]) for row in found], list(words.REFUSALS), "the refusals")
@@ -310,7 +348,41 @@ def refusals():
         same(why, words.REFUSALS[int(number)], "why %s refuses" % number)
         same(run.startswith("ends"), int(number) <= words.LAST_TO_END,
              "that refusal %s ends a run" % number)
-    return "%d refusals: why, and whether they end a run" % len(found)
+        same("without a line" in run, int(number) <= 2,
+             "that refusal %s has no line" % number)
+    return "%d refusals: why, and what becomes of a run" % len(found)
+
+
+def limits():
+    """The limits are those of the definitions and of the code."""
+    defined = dict(re.findall(r"^(max\w+) = (\d+)$",
+                              read(spec_file("Limits")), re.M))
+    size, clients, cap, held = (int(defined["max" + name]) for name
+                                in ("Size", "Clients", "Cap", "Held"))
+    for clause, said in (((1, 1), "S is 1 to %d, T is 1 to %d, C is 1 to %d."
+                          % (size, clients, cap)),
+                         ((1, 2), "-1 to %d" % (clients * held)),
+                         ((2, 2), "at most %d open grants" % held),
+                         ((5, 3), "-1 to %d" % (clients * held))):
+        need(said in TEXTS[clause],
+             "clause %d.%d does not say %r" % (*clause, said))
+    for name, limit in (("SIZE", size), ("CLIENTS", clients), ("CAP", cap),
+                        ("HELD", held)):
+        need("pub const MAX_%s: u8 = %d;" % (name, limit) in read(TYPES),
+             "the code's MAX_%s is not %d" % (name, limit))
+    return "the limits: %d, %d, %d, %d" % (size, clients, cap, held)
+
+
+def rules():
+    """The table of the sequential pool's steps has a row for each rule."""
+    path, at = place_of("Sequential.StepRule")
+    lines = read(path).splitlines()
+    defined = re.findall(r"^  (\w+) :", "\n".join(
+        lines[at:part_end(lines, at)]), re.M)
+    named = [name.rpartition(".")[2] for line in SECTIONS[11]
+             if line.startswith("|") for name in names_in(cells(line)[-1])]
+    same(list(dict.fromkeys(named)), defined, "the rules of 11.6")
+    return "%d rules of the sequential pool's steps" % len(defined)
 
 
 def example():
@@ -332,16 +404,16 @@ def example():
 
 def cases():
     """Each published case has its row, and each row its case."""
-    written = spec_file("Cases").read_text(encoding="utf-8")
-    defined_there = re.findall(r"^abbrev pub (P\d\w*) :", written, re.M)
-    named = [name.partition(".")[2] for line in SECTIONS[12]
+    defined = re.findall(r"^abbrev pub (P\d\w*) :",
+                         read(spec_file("Cases")), re.M)
+    named = [name.partition(".")[2] for line in SECTIONS[CASES]
              if line.startswith("| P") for name in names_in(cells(line)[-1])]
-    same(named, defined_there, "the worked cases")
+    same(named, defined, "the worked cases")
     return "%d worked cases" % len(named)
 
 
-TESTS = (numbering, definitions, cited_where_defined, citations, stages,
-         refusals, example, cases)
+TESTS = (numbering, definitions, cited_where_defined, citations, statements,
+         stages, refusals, limits, rules, example, cases)
 
 
 def main():

@@ -39,7 +39,7 @@ REFUSALS = {
     3: "the record is cut, or the file is empty",
     4: "the record does not start with the mark 46 43",
     5: "there is no such kind of record",
-    6: "a setup must come first, and only there",
+    6: "the first record must be a setup, and no other may be",
     7: "the step names a page",
     8: "a number of the setup or of the pool is out of range",
     9: "there is no such client",

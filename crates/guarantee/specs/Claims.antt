@@ -168,8 +168,8 @@ TakesEffect c e = (e .asked ≡ Step c) × T (takesEffect (client (e .before) c 
 abbrev pub AnswersTo : ℕ → Event → Type 0
 AnswersTo c e = (e .asked ≡ Step c) × (((f : ℕ) × (e .answer ≡ Granted f)) ⊎ (e .answer ≡ Refused 15))
 
--- The request of client c that event n answers, and its one effect. Its begin is the client's last that is done before n, and no answer of the client
--- stands between the two: so event n answers this very request.
+-- The request of client c that event n answers, and its one effect. Its begin is the client's last that is done before n, and no request of the
+-- client is answered between the two: so event n answers this very request.
 pub record TakesEffectOnce (run : Run) (c n : ℕ) : Type 0 where
   pub begin : ℕ
   pub earlier : begin < n
@@ -224,7 +224,7 @@ Claim-point3 = (p : Pool) → SetUp p → (calls : List Call) → Point3 p calls
 
 -- ---- GUARANTEE 8: listed answers
 
--- a stage, a frame or a refusal number, 8 aside, that the call can be answered by
+-- what the call can be answered by, refusal 8 aside
 unfoldable pub Listed : Pool → Call → Answer → Type 0
 Listed p (Begin c g) a = (a ≡ Done g) ⊎ ((a ≡ Refused 9) ⊎ ((a ≡ Refused 10) ⊎ (a ≡ Refused 12)))
 Listed p (Step c) a =

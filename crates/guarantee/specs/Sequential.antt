@@ -1,4 +1,4 @@
--- The sequential pool: SPECIFICATION, section 11. Of the real pool only the names of calls and answers stand in this file.
+-- The sequential pool: SPECIFICATION, section 11. Of the real pool only the names of calls and answers, and the limit of grants, stand in this file.
 -- `Rule q x a q′` says that from state q it may answer call x by a and go on as q′. Assumes nothing.
 use mathlib.Core.Path.{_≡_}
 use mathlib.Core.Logic.{_≢_}
@@ -102,8 +102,8 @@ pub data StepRule (q : Sequential) (k : SeqClient) : Answer → List SeqSlot →
 abbrev pub withSeqClient : Sequential → ℕ → SeqClient → Sequential
 withSeqClient q c k = record { slots = q .slots; clients = set (q .clients) c k }
 
--- SPECIFICATION 11.3 to 11.6: the rules
 pub data Rule (q : Sequential) : Call → Answer → Sequential → Type 0 where
+  -- SPECIFICATION 11.3
   turns-down : {x : Call} {n : ℕ} → seqRefusal q x ≡ n → n ≢ 0 → Rule q x (Refused n) q
   -- SPECIFICATION 11.4
   begins : {c g : ℕ} → seqRefusal q (Begin c g) ≡ 0

@@ -87,7 +87,7 @@ refusalAt p k (Release c g) = choose (eqb (k .stage) 0) (choose (eqb (grantOf p 
 abbrev pub turnedBy : Pool → Call → ℕ
 turnedBy p call = choose (ltb (caller call) (clientCount p)) (refusalAt p (client p (caller call)) call) 9
 
--- SPECIFICATION 3.7: by which number a call is turned down before its action, 8 first; 0 for none
+-- SPECIFICATION 3.7, refusal 8: by which number a call is turned down before its action, 8 first; 0 for none
 unfoldable pub refusal : Pool → Call → ℕ
 refusal p call = choose (valid p) (turnedBy p call) 8
 
@@ -95,7 +95,7 @@ refusal p call = choose (valid p) (turnedBy p call) 8
 abbrev pub beginMove : Client → ℕ → Move
 beginMove k g = completes g (wanting k g) Same Keep
 
--- SPECIFICATION 3.4: a release. Read: the grant's place, its frame, and the frame's pins. The last grant moves to the place of the one that ends.
+-- SPECIFICATION 3.4, 4.30: a release. Read: the grant's place, its frame, and the frame's pins. The last grant moves to the place of the one that ends.
 unfoldable pub releaseMove : Client → ℕ → ℕ → ℕ → ℕ → Move
 releaseMove k g i f n =
     choose (eqb n evicted) (stuck k) (completes g (holding k (k .held - 1)) (End i (k .held - 1)) (PutPins f (n - 1)))

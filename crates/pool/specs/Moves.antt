@@ -69,7 +69,7 @@ module _ (k : Client) where
   opens f write counted =
       record { next = resting (k .held + 1); grants = Open (k .held) (k .page) f; write = write; answer = Granted f; counted = counted }
 
-  -- SPECIFICATION 4.29: the same, if the client can have one grant more
+  -- SPECIFICATION 4.29, 4.30: the same, if the client can have one grant more
   unfoldable pub granted : ℕ → Write → Counted → Move
   granted f write counted = choose (ltb (k .held) maxHeld) (opens f write counted) stuck
 

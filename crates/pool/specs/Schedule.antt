@@ -32,7 +32,7 @@ cut s = either (ltb (length s) 8) (both (ltb (length s) 10) (eqb (byte s 2) 0))
 unfoldable pub marked : List ℕ → Bool
 marked s = both (eqb (byte s 0) 0x46) (eqb (byte s 1) 0x43)
 
--- SPECIFICATION 9.2, refusal 7: a record of one of the kinds 0 to 3
+-- SPECIFICATION 9.1, 9.2, refusal 7: a record of one of the kinds 0 to 3
 unfoldable pub content : List ℕ → Reading
 content s =
     choose (eqb (byte s 2) 0) (Setup (byte s 3) (byte s 4) (byte s 5) (number s 6))

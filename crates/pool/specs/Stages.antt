@@ -75,7 +75,7 @@ module _ (k : Client) where
   unfoldable pub stage3 : ℕ → ℕ → Move
   stage3 cap n = grantedFound cap n Hit
 
-  -- stage 4: take a frame
+  -- stage 4: take a frame. SPECIFICATION 4.30: there may be none.
   unfoldable pub stage4 : ℕ → Move
   stage4 f = choose (eqb f none) (stuck k) (works (withOwn k f) 5 (TakeFrame f (k .page) (pinned 1) 1))
 
@@ -83,7 +83,7 @@ module _ (k : Client) where
   unfoldable pub stage5 : ℕ → Move
   stage5 free = choose (eqb free 0) (works k 10 Keep) (works (withSeen k free) 6 Keep)
 
-  -- stage 6: lower free. Only a handed pool has a client here that saw a free of 0.
+  -- stage 6: lower free. SPECIFICATION 4.30: a handed pool may have a client here that saw a free of 0.
   unfoldable pub stage6 : ℕ → Move
   stage6 free = choose (eqb free (k .seen)) (choose (eqb free 0) (stuck k) (works k 7 (PutFree (free - 1)))) (works k 5 Keep)
 
@@ -134,7 +134,8 @@ module _ (k : Client) where
   unfoldable pub stage17 : ℕ → ℕ → ℕ → Move
   stage17 g i f = choose (eqb f (k .victim)) (works (withVictim k none) 18 (PutEntry i g none)) (works (withVictim k none) 18 Keep)
 
-  -- stage 18: map the page to the own frame. Read: the frame that the table has for the page, and the first unused place.
+  -- stage 18: map the page to the own frame. SPECIFICATION 4.30: the table may be full. Read: the frame that the table has for the page, and the
+  -- first unused place.
   unfoldable pub stage18 : ℕ → ℕ → Move
   stage18 f i =
       choose (eqb f none)

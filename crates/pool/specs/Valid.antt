@@ -39,7 +39,7 @@ grantOk n f first = both (ltb f n) (eqb first f)
 
 -- ---- a client
 
--- SPECIFICATION 2.5: the stages that need the own frame, the found frame, the victim
+-- SPECIFICATION 2.4, 5.6: the stages that need the own frame, the found frame, the victim
 abbrev pub usesOwn : ℕ → Bool
 usesOwn s = leb 5 s && not (eqb s 21)
 

@@ -1,5 +1,5 @@
-// The pool's state, and the parts of one atomic action on it (docs/SPECIFICATION.md, sections 1 to 3). Public, through crate `foqheran`: the types
-// of the calls and the limits. The parts of an action are internal.
+// The types of docs/SPECIFICATION.md: the pool's state, the parts of one atomic action on it, and what calls and runs are lent and return. Public,
+// through crate `foqheran`: the types of the calls and the limits. The parts of an action are internal.
 //
 // S, T and C are the pool's `size`, `client_count` and `cap`. A frame number, a place in the table or a grant's place that is NONE names nothing.
 // Every array is as long as the largest pool needs; what stands past the part that a pool has is never looked at.
@@ -42,7 +42,7 @@ pub struct Client {
     pub stage: u8,
     // The page it wants.
     pub page: u32,
-    // The frame it took at stage 4 and has not given away yet, or NONE.
+    // The frame it took at stage 4, until it is granted or given up, or NONE.
     pub own: u8,
     // The frame that its last look-up of the page found, or NONE.
     pub found: u8,

@@ -1,5 +1,5 @@
-// The 23 stages (section 4 of docs/SPECIFICATION.md), one small function each. A stage gets its client and the numbers of the pool that it reads, and
-// says what it does; it changes nothing by itself. Internal.
+// The 23 stages (SPECIFICATION, section 4), one small function each. A stage gets its client and the numbers of the pool that it reads, and says
+// what it does; it changes nothing by itself. Internal.
 ghost use mathlib.Core.Path.{_≡_};
 ghost use Prim.Native.Nat.{_%_, _<_, _≤_};
 ghost use Rattle.pool.specs.Limits.{maxSize, maxPins};
