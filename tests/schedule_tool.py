@@ -14,7 +14,6 @@ import re
 import subprocess
 import sys
 import tempfile
-import traceback
 import xml.etree.ElementTree
 
 sys.dont_write_bytecode = True  # leave no compiled files beside the sources
@@ -26,6 +25,7 @@ sys.path.insert(0, str(TOP / "tools"))
 
 import generate  # noqa: E402 (after the lines above, or they come too late)
 import second  # noqa: E402
+from checking import run_all, same  # noqa: E402
 from scheduling import (BadInput, explain, picture, report, symbols,  # noqa
                         svg, text, words)
 
@@ -51,12 +51,6 @@ LISTING = b"""\
 10 0 111 0
 11 0 0 9
 """
-
-
-def same(found, expected, what):
-    if found != expected:
-        raise AssertionError("%s: found %.200r, expected %.200r"
-                             % (what, found, expected))
 
 
 def run(*arguments, data=b""):
@@ -501,19 +495,5 @@ TESTS = (round_trips, cuts_and_spoils, forms_of_text, errors_in_texts,
          explanations, given_reports, pictures, statuses, whole_way)
 
 
-def main():
-    failed = 0
-    for test in TESTS:
-        try:
-            print("passed: " + test(), flush=True)
-        except Exception as wrong:
-            failed += 1
-            print("FAILED: %s: %s" % (test.__name__, wrong), flush=True)
-            traceback.print_exc()
-    print("tools/schedule: %d passed, %d failed"
-          % (len(TESTS) - failed, failed))
-    return 1 if failed else 0
-
-
 if __name__ == "__main__":
-    sys.exit(main())
+    sys.exit(run_all(TESTS, "tools/schedule"))

@@ -17,7 +17,6 @@ import os
 import pathlib
 import re
 import sys
-import traceback
 
 sys.dont_write_bytecode = True  # leave no compiled files beside the sources
 
@@ -26,6 +25,7 @@ sys.path.insert(0, str(TOP / "tools"))
 
 import generate  # noqa: E402 (after the lines above, or they come too late)
 import second  # noqa: E402
+from checking import need, run_all, same  # noqa: E402
 from scheduling import text, words  # noqa: E402
 
 SPECIFICATION = TOP / "docs" / "SPECIFICATION.md"
@@ -36,17 +36,6 @@ STAGE_PROOFS = TOP / "crates" / "stages" / "proofs"
 SPECS = [TOP / "crates" / name / "specs" for name in ("pool", "guarantee")]
 SUFFIXES = (".antt", ".edit", ".md", ".py", ".rs", ".rt", ".txt", "")
 STAGES, REFUSALS, CASES = 4, 6, 12  # sections whose rows are numbered or named
-
-
-def same(found, expected, what):
-    if found != expected:
-        raise AssertionError("%s: found %.300r, expected %.300r"
-                             % (what, found, expected))
-
-
-def need(holds, what):
-    if not holds:
-        raise AssertionError(what)
 
 
 def read(path):
@@ -416,20 +405,5 @@ TESTS = (numbering, definitions, cited_where_defined, citations, statements,
          stages, refusals, limits, rules, example, cases)
 
 
-def main():
-    failed = 0
-    for test in TESTS:
-        try:
-            print("passed: " + test(), flush=True)
-        except Exception as wrong:
-            failed += 1
-            print("FAILED: %s: %s" % (test.__name__, wrong), flush=True)
-            if not isinstance(wrong, AssertionError):
-                traceback.print_exc()
-    print("docs/SPECIFICATION.md: %d passed, %d failed"
-          % (len(TESTS) - failed, failed))
-    return 1 if failed else 0
-
-
 if __name__ == "__main__":
-    sys.exit(main())
+    sys.exit(run_all(TESTS, "docs/SPECIFICATION.md"))
