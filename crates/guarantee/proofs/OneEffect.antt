@@ -1,5 +1,5 @@
--- A grant is begun before it in the run, as the clients rest at first, and takes effect at one step after its begin and at no other; no other answer
--- stands between, as an answer puts its client to rest. Whether the request has taken effect is told by the stage its client stands at, `pinsFound`: a
+-- A grant is begun before it in the run, as the clients rest at first, and takes effect at one step after its begin and at no other; no request of
+-- the client is answered between, as that would put it to rest. Whether the request has taken effect is told by the stage its client stands at, `pinsFound`: a
 -- step at which it takes effect leads from a stage that says no to one that says yes, or grants at a stage that says no; every other step of a working
 -- client leaves the answer as it is, and grants only where it is yes. Of the invariant only the arrays' lengths are used. Assumes nothing.
 use mathlib.Core.Path.{_≡_, refl, sym, ap, subst, _∙_}
