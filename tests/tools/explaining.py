@@ -1,49 +1,294 @@
-"""Reports in words."""
+"""Runs in words: each record's answer, what happened, and the totals."""
 
+import collections
 import re
 
 import generate
 import second
-from checking import same
+from checking import need, same
 from common import LISTING, answers_to, example
-from scheduling import BadInput, explain, report, words
+from scheduling import (BadInput, explain, happenings, moments, records,
+                        report, text, words)
+
+SEEDS = range(120)
 
 
-def check_explained(schedule):
-    """The lines tell the same as the report."""
-    written = second.run(schedule)[0]
-    heading, *lines = explain.explain(schedule,
-                                      answers_to(schedule)).splitlines()
-    at = heading.index("answer")
-    rows = [line for line in lines if re.match(r" *\d+  .*  ", line)]
-    numbers = [list(map(int, line.split())) for line in written.splitlines()]
+def explained(schedule, answers=None):
+    """The heading's columns, the rows, and what follows them."""
+    lines = explain.explain(schedule, answers_to(schedule)
+                            if answers is None else answers).splitlines()
+    blank = lines.index("")
+    return lines[0], lines[1:blank], lines[blank + 1:]
+
+
+def cells(heading, rows):
+    """What stands in each row below 'what happened' and below 'answer'."""
+    happened, answer = map(heading.index, ("what happened", "answer"))
+    for row in rows:
+        yield row[happened:answer].strip(), row[answer:]
+
+
+# The answers, and the totals.
+
+
+def check_answers(schedule):
+    """Each row tells the same as the report, and what a step did."""
+    heading, rows, _ = explained(schedule)
+    numbers = [list(map(int, line.split()))
+               for line in second.run(schedule)[0].splitlines()]
+    rows = [row for row in rows if re.match(r" *\d+  ", row)]
     same(len(rows), len(numbers), "the number of rows")
-    for row, (number, _, code, value) in zip(rows, numbers):
+    for row, (happened, answer), (number, _, code, value) in zip(
+            rows, cells(heading, rows), numbers):
         same(int(row.split()[0]), number, "the record's number")
-        said = {0: "done", 1: "now stands at stage %d: " % value,
-                2: "granted frame %d" % value}.get(
+        said = {0: "done", 1: "now at %d: " % value,
+                2: "granted frame %d for page" % value}.get(
                     code, "refused by %d: " % (code - 100))
-        if not row[at:].startswith(said) or row[at - 2:at] != "  ":
-            raise AssertionError("%r does not say %r" % (row, said))
-    codes = [code for _, _, code, _ in numbers]
-    refusals = sorted(code - 100 for code in codes if code > 100)
-    total = "%s answered: %s, %s" % (words.count(len(codes), "record"),
-                                     words.count(codes.count(2), "grant"),
-                                     words.count(len(refusals), "refusal"))
-    if refusals:
-        total += " (%s)" % ", ".join(
-            "%d by %d" % (refusals.count(number), number)
-            for number in sorted(set(refusals)))
-    same(lines[-1], total, "the totals")
+        need(answer.startswith(said), "%r does not say %r" % (row, said))
+        need(happened or code in range(103, 109),
+             "%r does not say what happened" % row)
     return len(rows)
 
 
+def check_totals(schedule):
+    """The totals are what the report's edges and codes add up to."""
+    written = second.run(schedule)[0]
+    edges = collections.Counter(generate.edges_taken(written))
+    codes = [int(line.split()[2]) for line in written.splitlines()]
+    begun = sum(record.kind == records.BEGIN and code == 0 for record, code
+                in zip(records.read(schedule)[0], codes))
+    grants = [edges[stage, generate.GRANT] for stage in (3, 21, 18, 22)]
+    heading, *rows = explained(schedule)[2]
+    same(heading.split(), ["client", *explain.COUNTS], "the counts' names")
+    found = [list(map(int, row.partition("(")[0].split()[1:]))
+             for row in rows]
+    same(found[-1], [begun, *grants, edges[14, 15],
+                     sum(code > 100 for code in codes)], "all counts")
+    same([sum(column) for column in zip(*found[:-1])] or [0] * 6 + [1],
+         found[-1], "the sum of the clients' counts")
+    by = re.findall(r"(\d+) by (\d+)", rows[-1])
+    same({int(number): int(times) for times, number in by},
+         dict(collections.Counter(code - 100 for code in codes
+                                  if code > 100)), "the refusals by number")
+
+
 def explanations():
-    rows = sum(check_explained(generate.generate(seed))
-               for seed in range(120))
+    rows = 0
+    for seed in SEEDS:
+        schedule = generate.generate(seed)
+        if second.run(schedule)[0]:  # a file that is too long has no report
+            rows += check_answers(schedule)
+            check_totals(schedule)
     same(sorted(words.STAGES), list(range(1, 24)), "the stages with a name")
     same(sorted(words.REFUSALS), list(range(1, 16)), "the refusals in words")
-    return "explain, seeds 0 to 119: %d records, totals" % rows
+    return ("explain, seeds 0 to %d: %d records, totals by client and in all"
+            % (SEEDS[-1], rows))
+
+
+# What happened.
+
+
+def variables(request):
+    """The variables of a running request of the second program."""
+    found = {}
+    while request is not None:
+        found.update(request.gi_frame.f_locals)
+        request = request.gi_yieldfrom
+    return found
+
+
+def check_remembered(pool, moment):
+    """What a client remembers of its search is what its request has."""
+    for client, shown in zip(pool.clients, moment.clients):
+        if client.request is None:
+            same(shown._replace(grants=()), moments.Client(), "a rest")
+            continue
+        known = variables(client.request)
+        expected = {}
+        if client.stage == 6:
+            expected.update(seen=known["free"])
+        if client.stage == 8:
+            expected.update(place=known["idx"])
+        if 11 <= client.stage <= 16:
+            expected.update(place=known["i"], start=known["start"])
+        if client.stage in (11, 12):
+            expected.update(busy=known["numpinning"])
+        for name, value in expected.items():
+            same(getattr(shown, name), value,
+                 "%s at stage %d" % (name, client.stage))
+
+
+def searches():
+    """The numbers that the tool follows by itself, beside the program's."""
+    count = 0
+    for seed in range(60):
+        schedule = generate.generate(seed)
+        run = moments.Run(schedule)
+        if not run.calls:
+            continue
+        pool = second.Pool(*run.setup)
+        for record, moment in zip(records.read(schedule)[0][1:],
+                                  run.moments[1:]):
+            if record.kind != records.SETUP:
+                second.call(pool, record.kind, *record.numbers)
+                check_remembered(pool, moment)
+                count += 1
+    return ("explain, what clients remember of their searches, %d records"
+            % count)
+
+
+SEARCHES = """\
+setup slots 2 clients 3 cap 3 hand 0
+begin 0 page 4                 # wants page 4
+step 0                         # the table does not have page 4
+step 0                         # takes frame 0 for page 4, with one pin and count 1
+step 0                         # 2 slots left to claim
+begin 1 page 5                 # wants page 5
+step 1                         # the table does not have page 5
+step 1                         # takes frame 1 for page 5, with one pin and count 1
+step 1                         # 2 slots left to claim
+step 1                         # claims a slot: free is 1 now
+step 0                         # free is 1 by now and not 2
+step 0                         # 1 slot left to claim
+step 0                         # claims a slot: free is 0 now
+step 1                         # the hand is 0: it looks from slot 0 on
+step 0                         # the hand is 0: it looks from slot 0 on
+step 1                         # frame 1 stands in slot 0, a candidate for page 5
+step 0                         # slot 0 has frame 1: slot 1 is next
+begin 2 page 9                 # wants page 9
+step 2                         # the table does not have page 9
+step 2                         # takes frame 2 for page 9, with one pin and count 1
+step 2                         # no slot is left to claim: it has to sweep
+step 2                         # the hand is 0: the sweep starts at slot 0
+step 2                         # slot 0: frame 1 (page 5)
+step 2                         # slot 0: frame 1 is in use, busy visit 1 of 2
+step 2                         # slot 1 is claimed and still empty, busy visit 2 of 2
+step 0                         # frame 0 stands in slot 1, a candidate for page 4
+step 0                         # the hand is 1 now: slot 1
+step 0                         # admitted: the table has page 4 in frame 0
+step 1 times 2                 # admitted: the table has page 5 in frame 1
+begin 0 page 5                 # wants page 5
+step 0                         # the table has page 5 in frame 1
+step 0                         # frame 1 is pinned: 2 pins now
+step 0                         # a hit: the count of frame 1 is 2 now
+begin 2 page 9                 # wants page 9
+begin 2 page 9                 # it stands at 1 and wants page 9
+release 0 page 4               # frame 0 has no pins now: nobody holds page 4
+release 0 page 4               # it holds page 5
+release 0 page 5               # frame 1 has 1 pin now
+step 0                         # it has no request
+step 7                         # the pool has 3 clients
+step 2 times 4                 # the hand is 2: the sweep starts at slot 0
+step 2 times 2                 # slot 0: frame 1 is in use, busy visit 1 of 2
+step 2                         # slot 1: frame 0 (page 4)
+step 2                         # slot 1: frame 0 is not in use
+release 1 page 5               # frame 1 has no pins now: nobody holds page 5
+begin 1 page 4                 # wants page 4
+step 1 times 2                 # frame 0 is pinned: 1 pin now
+step 2                         # the count of page 4 goes from 1 to 0: it may go
+step 2                         # frame 0 is in use by now: slot 0 is next
+step 2 times 3                 # the count of page 5 goes from 2 to 1: it stays, slot 1 is next
+step 1                         # a hit: the count of frame 0 is 1 now
+release 1 page 4               # frame 0 has no pins now: nobody holds page 4
+begin 1 page 8                 # wants page 8
+step 1 times 4                 # the hand is 2: the sweep starts at slot 0
+step 1 times 3                 # the count of page 5 goes from 1 to 0: it may go
+step 1                         # page 5 loses frame 1: its count was 0
+step 1                         # frame 4 stands in slot 0, a candidate for page 8, instead of frame 1
+step 1                         # the hand is 3 now: slot 1
+begin 0 page 5                 # wants page 5
+step 0                         # the table has page 5 in frame 1
+step 0                         # frame 1 is evicted and cannot be pinned
+step 2 times 3                 # the count of page 4 goes from 1 to 0: it may go
+step 2                         # page 4 loses frame 0: its count was 0
+step 0 times 4                 # slot 1: frame 0 (page 4)
+step 0                         # slot 1: frame 0 is evicted already
+step 2                         # frame 3 stands in slot 1, a candidate for page 9, instead of frame 0
+step 0                         # frame 0 is not in slot 1 any more: slot 0 is next
+step 1                         # page 5 leaves the table
+step 1                         # admitted: the table has page 8 in frame 4
+release 1 page 8               # frame 4 has no pins now: nobody holds page 8
+"""
+
+
+MEETINGS = """\
+setup slots 2 clients 3 cap 2 hand 0
+begin 0 page 9
+begin 1 page 9
+step 0 times 7
+step 1 times 7
+step 0                         # admitted: the table has page 9 in frame 0
+step 1                         # page 9 is in the table already, with frame 0: frame 1 stays a candidate
+step 1                         # frame 0 is pinned: 2 pins now
+step 1                         # gives its candidate up: frame 1 is evicted
+step 1                         # joined: the count of frame 0 is 2 now
+release 0 page 9
+release 1 page 9
+begin 1 page 9
+step 1 times 3                 # a hit: the count of frame 0 stays 2, the cap
+release 1 page 9
+begin 0 page 5
+step 0 times 7                 # the count of page 9 goes from 2 to 1: it stays, slot 1 is next
+step 0 times 2                 # slot 1: frame 1 is evicted already
+step 0                         # frame 2 stands in slot 1, a candidate for page 5, instead of frame 1
+step 0                         # the hand is 4 now: slot 0
+step 0                         # frame 1 was given up and has no entry: nothing removed
+step 0                         # admitted: the table has page 5 in frame 2
+release 0 page 5
+begin 0 page 7
+step 0 times 8                 # page 9 loses frame 0: its count was 0
+step 0 times 2                 # the hand is 5 now: slot 1
+begin 1 page 9
+step 1 times 9                 # page 5 loses frame 2: its count was 0
+begin 2 page 9
+step 2 times 3                 # takes frame 5 for page 9, with one pin and count 1
+step 2                         # no slot is left to claim: it has to sweep
+step 1 times 3                 # page 5 leaves the table
+step 1 times 2                 # frame 0 is evicted and cannot be joined
+step 1                         # revived: the table has page 9 in frame 4 and not in 0
+step 0                         # the entry was already replaced: nothing removed
+step 0                         # admitted: the table has page 7 in frame 3
+"""
+
+
+REMOVED = """\
+setup slots 2 clients 2 cap 3 hand 0
+begin 0 page 9
+step 0 times 8
+release 0 page 9
+begin 0 page 5
+step 0 times 8
+release 0 page 5
+begin 0 page 7
+step 0 times 10                # the hand is 3 now: slot 1
+begin 1 page 9
+step 1 times 14                # frame 0 is evicted and cannot be joined
+step 0                         # page 9 leaves the table
+step 1                         # page 9 has no entry by now: frame 3 stays a candidate
+step 1                         # gives its candidate up: frame 3 is evicted
+step 1                         # takes frame 4 for page 9, with one pin and count 1
+"""
+
+
+def check_sentences(told):
+    """The sentence in the comment is said of the last record of its line."""
+    lines = [line.partition("#") for line in told.splitlines()]
+    schedule = text.make("\n".join(line for line, _, _ in lines).encode())
+    said, at = happenings.of_run(moments.Run(schedule)), 0
+    for line, _, sentence in lines:
+        at += int((re.search(r"times (\d+)", line) or [0, 1])[1])
+        if sentence:
+            same(said[at - 1], sentence.strip(), "about '%s', record %d"
+                 % (line.strip(), at - 1))
+    return {sentence.strip() for _, _, sentence in lines if sentence}
+
+
+def sentences():
+    met = set().union(*map(check_sentences, (SEARCHES, MEETINGS, REMOVED)))
+    return "explain, %d sentences on what happened" % len(met)
+
+
+# Reports from elsewhere.
 
 
 WRONG_REPORTS = (  # a report of the first example, and what is said of it
@@ -62,14 +307,21 @@ def given_reports():
         try:
             report.read_report(wrong_report, schedule)
         except BadInput as wrong:
-            if not all(part in str(wrong) for part in parts):
-                raise AssertionError("it says: %s" % wrong)
+            need(all(part in str(wrong) for part in parts),
+                 "it says: %s" % wrong)
         else:
             raise AssertionError("no complaint about %r" % wrong_report)
     half = report.read_report(LISTING[:32], schedule)
-    if "64 bytes from byte 34" not in explain.explain(schedule, half):
-        raise AssertionError("nothing about what a short report leaves out")
-    return "explain, %d wrong reports and a short one" % len(WRONG_REPORTS)
+    need("64 bytes from byte 34" in explain.explain(schedule, half),
+         "nothing about what a short report leaves out")
+    strange = report.read_report(LISTING.replace(b"5 0 1 7", b"5 0 1 5"),
+                                 schedule)
+    heading, rows, _ = explained(schedule, strange)
+    same([bool(happened) for happened, _ in cells(heading, rows[:12])],
+         [True] * 5 + [False] * 7, "what is known of a strange report's run")
+    need("from record 5 on" in rows[-1], "no word on a strange report")
+    return ("explain, %d wrong reports, a short one and a strange one"
+            % len(WRONG_REPORTS))
 
 
-TESTS = (explanations, given_reports)
+TESTS = (explanations, searches, sentences, given_reports)

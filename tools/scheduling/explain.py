@@ -1,81 +1,93 @@
-"""Each record of a schedule file beside its answer, in words."""
+"""Each record of a schedule file beside its answer, in words.
 
-import collections
+What happened is known from the run that moments plays. The answers are those
+of a report, and where they are others than in that run, only they are told.
+"""
 
-from . import text, words
+from . import happenings, words
+from .moments import Run
 from .records import BEGIN, LONGEST_FILE, NAMES, SETUP, STEP, read
 from .report import DONE, GRANTED, WORKING
+from .tables import Column, lines_of
+from .totals import COUNTS, Client, Totals
 
-HEADING = ("record", "client", "asked", "answer")
-
-
-class Clients:
-    """What the answers so far tell about each client."""
-
-    def __init__(self):
-        self.stage = {}  # where a working client stands
-        self.page = {}  # what it wants
-
-    def note(self, record, answer):
-        client = record.client
-        if record.kind == BEGIN and answer.code == DONE:
-            self.stage[client], self.page[client] = 1, record.page
-        elif answer.code == WORKING:
-            self.stage[client] = answer.value
-        elif answer.code == GRANTED or answer.refusal == 15:
-            self.stage.pop(client, None)
+COLUMNS = (Column("record", right=True), Column("client", right=True),
+           Column("asked"), Column("what happened"), Column("answer"))
 
 
-def asked(record, clients):
-    """What a record asks for."""
+def asked(record, stage):
+    """What a record asks for, of a client that stands at a stage, if any."""
     if record is None:
         return "(cannot be read)"
     if record.kind == SETUP:
-        return text.command(record)
+        return "setup"
     if record.kind == STEP:
-        stage = clients.stage.get(record.client)
-        return "step" if stage is None else "step, at stage %d" % stage
+        return "step" if stage is None else "step at %d" % stage
     return "%s page %d" % (NAMES[record.kind], record.page)
 
 
-def answered(record, answer, clients):
-    """What the answer to a record says."""
+def answered(record, answer, wanted):
+    """What the answer to a record says, of a client that wants a page."""
     if answer.refusal:
         return words.refused(answer.refusal)
     if answer.code == WORKING:
-        return "now stands at " + words.stage(answer.value)
+        return "now at %d: %s" % (answer.value, words.STAGES.get(
+            answer.value, "no such stage"))
     if answer.code == GRANTED:
-        page = clients.page.get(answer.client)
         return ("granted frame %d" % answer.value
-                + ("" if page is None else " for page %d" % page))
+                + ("" if wanted is None else " for page %d" % wanted))
     if record is not None and record.kind == BEGIN:
-        return "done; now stands at " + words.stage(1)
+        return "done; now at 1: " + words.STAGES[1]
     return "done"
 
 
-def table(rows):
-    """Rows as lines, with the columns aligned: two of numbers, then text."""
-    widths = [max(map(len, column)) for column in zip(*rows)]
-    for number, client, asks, answer in rows:
-        yield "%s  %s  %s  %s" % (number.rjust(widths[0]),
-                                  client.rjust(widths[1]),
-                                  asks.ljust(widths[2]), answer)
+def agreed(run, answers):
+    """How many of the answers, from the first on, are those of the run."""
+    number = 0
+    for call, answer in zip(run.calls, answers):
+        if (call.code, call.value) != (answer.code, answer.value):
+            break
+        number += 1
+    return number
 
 
-def totals(answers):
-    """The line at the end."""
-    grants = sum(answer.code == GRANTED for answer in answers)
-    refusals = collections.Counter(answer.refusal for answer in answers
-                                   if answer.refusal)
-    line = "%s answered: %s, %s" % (words.count(len(answers), "record"),
-                                    words.count(grants, "grant"),
-                                    words.count(sum(refusals.values()),
-                                                "refusal"))
-    if refusals:
-        line += " (%s)" % ", ".join("%d by %d" % (times, number)
-                                    for number, times
-                                    in sorted(refusals.items()))
-    return line
+def rows_of(records, answers, happened):
+    """A row of the listing for each answer."""
+    clients = {}  # what is known of each, by the answers so far
+    for answer in answers:
+        number = answer.number
+        record = records[number] if number < len(records) else None
+        who = None if record is None else record.client
+        client = clients.setdefault(who, Client())
+        yield (str(number), "" if who is None else str(who),
+               asked(record, client.stage),
+               happened[number] if number < len(happened) else "",
+               answered(record, answer, client.page))
+        if who is not None and not answer.ends_run:
+            client.note(record, answer)
+
+
+def by_number(refusals):
+    """Refusals by their numbers, in brackets, if there are any."""
+    if not refusals:
+        return ""
+    return " (%s)" % ", ".join("%d by %d" % (times, number)
+                               for number, times in sorted(refusals.items()))
+
+
+def totals_of(totals):
+    """Lines with what each client came to, and all of them."""
+    columns = (Column("client", right=True),
+               *(Column(name, right=True) for name in COUNTS), Column(""))
+    parts = [(str(number), client)
+             for number, client in enumerate(totals.clients)]
+    if totals.strays.refusals:
+        parts.append(("none", totals.strays))
+    parts.append(("all", totals.all))
+    return lines_of(columns, [
+        (name, *(str(part.counts[count]) for count in COUNTS),
+         by_number(part.refusals).strip())
+        for name, part in parts])
 
 
 def left_over(data, records, answers):
@@ -95,20 +107,23 @@ def left_over(data, records, answers):
             % (words.count(len(data) - at, "byte"), at, why)]
 
 
+def unlike(known, answers):
+    """A line where a report leaves the run that is known."""
+    if known == len(answers):
+        return []
+    return ["from record %d on the answers are not those of this schedule's "
+            "run: what happened is not known" % known]
+
+
 def explain(data, answers):
     """The text that explains a schedule file by the answers to it."""
     records, _ = read(data)
-    clients = Clients()
-    rows = [HEADING]
-    for answer in answers:
-        record = (records[answer.number] if answer.number < len(records)
-                  else None)
-        who = "" if record is None or record.client is None \
-            else str(record.client)
-        rows.append((str(answer.number), who, asked(record, clients),
-                     answered(record, answer, clients)))
-        if record is not None:
-            clients.note(record, answer)
-    lines = [*table(rows), *left_over(data, records, answers),
-             totals(answers)]
-    return "".join(line + "\n" for line in lines)
+    run = Run(data)
+    known = agreed(run, answers)
+    happened = happenings.of_run(run)[:known]
+    lines = [*lines_of(COLUMNS, rows_of(records, answers, happened)),
+             *left_over(data, records, answers)]
+    if run.calls:
+        lines += unlike(known, answers)
+    lines += ["", *totals_of(Totals(records, answers))]
+    return "".join(line.rstrip() + "\n" for line in lines)

@@ -1,0 +1,115 @@
+"""What the answers to a schedule's records add up to, client by client.
+
+Records and answers are enough for this: a step's answer tells where the
+client stands, and so which stage it does next.
+"""
+
+import collections
+import statistics
+
+from .records import BEGIN, RELEASE, SETUP
+from .report import DONE, GRANTED, WORKING
+
+# Where a request is granted, and as what it counts: SPECIFICATION 7.1.
+GRANTS = {3: "hits", 21: "joins", 18: "admitted", 22: "revived"}
+COUNTS = ("requests", *GRANTS.values(), "drops", "refusals")
+
+
+class Client:
+    """What the answers so far tell of a client."""
+
+    def __init__(self):
+        self.stage = None  # where it stands while it works
+        self.page = None  # what it wants
+        self.taken = 0  # steps of the request that runs
+        self.steps = []  # of each request that was answered
+        self.held = collections.Counter()  # grants of each page
+        self.most_held = 0
+        self.counts = collections.Counter()
+        self.refusals = collections.Counter()
+
+    def note(self, record, answer):
+        """Take in the answer to a record of this client."""
+        if answer.refusal:
+            self.refuse(answer.refusal)
+        if record.kind == BEGIN and answer.code == DONE:
+            self.stage, self.page, self.taken = 1, record.page, 0
+            self.counts["requests"] += 1
+        elif record.kind == RELEASE and answer.code == DONE:
+            self.held[record.page] -= 1
+        elif answer.code == WORKING:
+            self.taken += 1
+            self.counts["drops"] += (self.stage, answer.value) == (14, 15)
+            self.stage = answer.value
+        elif answer.code == GRANTED or answer.refusal == 15:
+            self.end(answer)
+
+    def refuse(self, number):
+        self.refusals[number] += 1
+        self.counts["refusals"] += 1
+
+    def end(self, answer):
+        """The answer to its request."""
+        self.steps.append(self.taken + 1)
+        if answer.code == GRANTED:
+            self.counts[GRANTS.get(self.stage)] += 1
+            self.held[self.page] += 1
+            self.most_held = max(self.most_held, len(self.pages()))
+        self.stage = None
+
+    def pages(self):
+        """The pages that it holds."""
+        return {page for page, times in self.held.items() if times > 0}
+
+    def hit_rate(self):
+        """Hits among its answered requests, or None without any."""
+        return self.counts["hits"] / len(self.steps) if self.steps else None
+
+    def median_steps(self):
+        return statistics.median(self.steps) if self.steps else None
+
+    def longest_steps(self):
+        return max(self.steps, default=None)
+
+
+def sum_of(parts, most_held):
+    """Clients taken together, as if they were one."""
+    whole = Client()
+    for part in parts:
+        whole.counts.update(part.counts)
+        whole.refusals.update(part.refusals)
+        whole.steps += part.steps
+    whole.most_held = most_held
+    return whole
+
+
+class Totals:
+    """What each client of the pool came to, and what all of them did.
+
+    'strays' has the refusals of records that are of no client of the pool,
+    and of the one that ended the run.
+    """
+
+    def __init__(self, records, answers):
+        clients = (records[0].numbers[1]
+                   if records and answers and answers[0].code == DONE else 0)
+        self.clients = [Client() for _ in range(clients)]
+        self.strays = Client()
+        most_held = 0
+        for answer in answers:
+            record = (records[answer.number]
+                      if answer.number < len(records) else None)
+            if record is not None and record.kind != SETUP:
+                self.of(record, answer).note(record, answer)
+            elif answer.refusal:
+                self.strays.refuse(answer.refusal)
+            if answer.code == GRANTED:
+                held = (client.pages() for client in self.clients)
+                most_held = max(most_held, len(set().union(*held)))
+        self.all = sum_of([*self.clients, self.strays], most_held)
+
+    def of(self, record, answer):
+        """Whose answer it is."""
+        if answer.ends_run or record.client >= len(self.clients):
+            return self.strays
+        return self.clients[record.client]
