@@ -5,15 +5,15 @@ import xml.etree.ElementTree
 
 import generate
 import second
-from checking import same
+from checking import need, same
 from common import answers_to, example
-from scheduling import picture, svg, symbols
+from scheduling import BadInput, picture, records, svg, symbols, text
 
 PICTURE_SEEDS = (0, 1, 4, 7, 16, 20, 24, 25, 27, 35, 44, 50, 54, 57)
 
 
 SVG = "{http://www.w3.org/2000/svg}"
-ELEMENTS = {SVG + name for name in ("svg", "title", "defs", "pattern", "g",
+ELEMENTS = {SVG + name for name in ("svg", "title", "style", "defs", "pattern", "g",
                                     "rect", "line", "path", "polygon",
                                     "text")}
 
@@ -71,16 +71,23 @@ def check_steps(tips, schedule):
          list(zip(steps, did)), "the steps in the picture")
 
 
+def looks(rows, tag, look):
+    """The shapes of some rows that look so."""
+    return [shape for row in rows for shape in row.iter(SVG + tag)
+            if shape.get("class") == look]
+
+
 def check_slots(rows, schedule):
-    """Each page that comes and each eviction is drawn; by the edges."""
+    """Each frame that comes and each mark is drawn; by the edges."""
     edges = list(generate.edges_taken(second.run(schedule)[0]))
-    comes = sum(line.get("stroke") == symbols.INK
-                for row in rows for line in row.iter(SVG + "line"))
-    same(comes, edges.count((8, 9)) + edges.count((15, 16)), "pages put in")
+    same(len(looks(rows, "line", "comes")),
+         edges.count((8, 9)) + edges.count((15, 16)), "frames put in")
     tips = tips_of(rows)
-    for stage, next_stage in ((14, 15), (20, 21), (23, 4)):
-        same(sum(": stage %d evicts" % stage in tip for tip in tips),
-             edges.count((stage, next_stage)), "evictions by %d" % stage)
+    for stage, next_stage, does in (
+            (14, 15, "evicts"), (20, 21, "gives up"), (23, 4, "gives up"),
+            (22, generate.GRANT, "maps")):
+        same(sum(": stage %d %s" % (stage, does) in tip for tip in tips),
+             edges.count((stage, next_stage)), "marks of stage %d" % stage)
 
 
 def check_answers(root, schedule):
@@ -89,15 +96,129 @@ def check_answers(root, schedule):
     same(sum(" holds page " in tip
              for tip in tips_of(rows_of(root, "client"))),
          codes.count(2), "grants in the picture")
-    refusals = sum(shape.get("fill") == symbols.INK
-                   for group in root.iter(SVG + "g") if group.get("id")
-                   for shape in group.iter(SVG + "polygon"))
-    same(refusals, sum(code > 100 for code in codes), "refusals in it")
+    rows = [group for group in root.iter(SVG + "g") if group.get("id")]
+    same(len(looks(rows, "polygon", "refusal")),
+         sum(code > 100 for code in codes), "refusals in it")
+
+
+SHOWN = re.compile(r"slot \d+: frame (\d+) with page (\d+), (.*)")
+MEANT = re.compile(r"slot \d+: frame (\d+), a candidate for page (\d+) ")
+
+
+class Columns:
+    """Where the columns of a picture are, and what stands there."""
+
+    def __init__(self, root, first, last):
+        tick = next(text for text in root.iter(SVG + "text")
+                    if text.get("class") == "grey" and text.text.isdigit())
+        width = picture.column_width(last - max(first - 1, 0) + 1)
+        self.left = float(tick.get("x")) - (int(tick.text) + 0.5) * width
+        self.width = width
+
+    def covers(self, shape, column):
+        middle = self.left + (column + 0.5) * self.width
+        x = float(shape.get("x"))
+        return x <= middle <= x + float(shape.get("width"))
+
+    def shown(self, row, column):
+        """Frame, page and state that a slot's row shows in a column."""
+        for shape in row.iter(SVG + "rect"):
+            tip = shape.find(SVG + "title")
+            if tip is not None and self.covers(shape, column):
+                shown, meant = SHOWN.match(tip.text), MEANT.match(tip.text)
+                if shown:
+                    return int(shown[1]), int(shown[2]), shown[3]
+                return int(meant[1]), int(meant[2]), "candidate"
+        return None
+
+    def count(self, row, column, cap):
+        """The count that the bar of a slot's row shows in a column."""
+        for bar in looks([row], "rect", "count"):
+            if self.covers(bar, column):
+                return round(float(bar.get("height")) * cap
+                             / (picture.COUNT_HEIGHT - 1))
+        return 0
+
+
+def expected(pool, slot):
+    """The same of the second program's pool, and the count."""
+    frame = pool.cache.CLOCKBUF.POOL[slot]
+    if frame is None:
+        return None, 0
+    mapped = pool.cache.HASHTBL.get(frame.key) is frame
+    state = ("evicted" if frame.pinning < 0 else
+             "candidate" if not mapped else
+             "in use" if frame.pinning > 0 else "not held")
+    return ((frame.number, frame.key, state),
+            0 if state == "evicted" else frame.refcount)
+
+
+def check_contents(root, schedule, places, slots, first=0, last=None):
+    """In some columns each slot is drawn as it is, and no page is twice."""
+    found = records.read(schedule)[0]
+    count = second.run(schedule)[1]
+    last = count - 1 if last is None else last
+    columns = Columns(root, first, last)
+    pool, rows = second.Pool(*found[0].numbers), rows_of(root, "slot")
+    for number in range(count):
+        if number:
+            second.call(pool, found[number].kind, *found[number].numbers)
+        if number not in places:
+            continue
+        pages = []
+        for row, slot in zip(rows, slots):
+            what, references = expected(pool, slot)
+            same(columns.shown(row, number), what,
+                 "slot %d after record %d" % (slot, number))
+            same(columns.count(row, number, schedule[5]), references,
+                 "the count in slot %d after record %d" % (slot, number))
+            if what and what[2] in ("in use", "not held"):
+                pages.append(what[1])
+        same(len(pages), len(set(pages)), "pages drawn twice at %d" % number)
+
+
+def spread(count, wanted=10):
+    """Some records, the first and the last among them."""
+    return {count * place // wanted for place in range(wanted)} | {count - 1}
+
+
+def check_legend(root):
+    """It is wherever the reader is, and promises nothing that is not there."""
+    texts = [text for text in root.iter(SVG + "text")]
+    at = sorted({float(text.get("x")) for text in texts
+                 if text.text == "stages"})
+    need(all(b - a <= picture.RAIL + picture.NAME_WIDTH
+             for a, b in zip(at, at[1:])), "the legend's distances")
+    need(float(root.get("width")) - at[-1] < 2 * picture.RAIL,
+         "the end of the picture has no legend")
+    promised = any("refusal's number" in (text.text or "") for text in texts)
+    numbers = [text for text in texts if text.get("class") in
+               {"in-phase%d" % place for place in range(4)}]
+    need(promised or not numbers, "numbers are there and not explained")
+    steps = [tip for tip in tips_of(rows_of(root, "client"))
+             if " does stage " in tip]
+    need(numbers or not promised or not steps,
+         "numbers are promised and not there")
+
+
+def check_looks(root):
+    """Whatever has a look has it on light and on dark backgrounds."""
+    used = {element.get("class") for element in root.iter()} - {None}
+    light, _, dark = root.find(SVG + "style").text.partition("@media")
+    need(dark.startswith(" (prefers-color-scheme:dark)"), "no dark colours")
+    for sheet in (light, dark):
+        same(used - set(re.findall(r"\.([\w-]+)\{", sheet)), set(),
+             "looks without a rule")
+
+
+def drawn(schedule, **options):
+    return xml.etree.ElementTree.fromstring(
+        picture.draw(schedule, **options).encode())
 
 
 def check_picture(schedule):
     """The picture is sound and tells what the report tells."""
-    root = xml.etree.ElementTree.fromstring(picture.draw(schedule).encode())
+    root = drawn(schedule)
     same({element.tag for element in root.iter()} - ELEMENTS, set(),
          "elements that are not expected")
     clients, slots = rows_of(root, "client"), rows_of(root, "slot")
@@ -109,6 +230,10 @@ def check_picture(schedule):
     check_steps(tips_of(clients), schedule)
     check_slots(slots, schedule)
     check_answers(root, schedule)
+    check_contents(root, schedule, spread(second.run(schedule)[1]),
+                   range(schedule[3]))
+    check_legend(root)
+    check_looks(root)
     check_apart(text_boxes(root), float(root.get("width")))
 
 
@@ -135,4 +260,111 @@ def pictures():
             % len(schedules))
 
 
-TESTS = (pictures,)
+TWO_CANDIDATES = b"""\
+setup slots 2 clients 2 cap 3 hand 0
+begin 0 page 9
+begin 1 page 9
+step 0 times 4
+step 1 times 4
+step 0 times 4
+step 1 times 6
+"""
+
+
+def candidates():
+    """Two clients miss one page: it is drawn once, and the rest as meant."""
+    schedule = text.make(TWO_CANDIDATES)
+    root = drawn(schedule)
+    columns, rows = Columns(root, 0, 20), rows_of(root, "slot")
+    states = [[(columns.shown(row, column) or (0, 0, ""))[2]
+               for row in rows] for column in range(21)]
+    same(states[11:], [["", ""]] + 2 * [["candidate", ""]]
+         + 2 * [["in use", ""]] + 4 * [["in use", "candidate"]]
+         + [["in use", "evicted"]], "the two slots")
+    check_contents(root, schedule, range(21), range(2))
+    labels = [[text.text for text in row.iter(SVG + "text")
+               if text.text.startswith(("for", "page"))] for row in rows]
+    same(labels, [["page 9", "for 9"], ["for 9"]], "what is written there")
+    return "draw, a candidate is not drawn as a page"
+
+
+PARTS = (  # options, and the clients and slots that are drawn
+    (dict(first=100, last=160), range(5), range(8)),
+    (dict(first=100, last=160, clients="0,3", slots="0-2"), (0, 3), range(3)),
+    (dict(last=0, slots="7"), range(5), (7,)),
+    (dict(first=1999, clients=" 4 , 1-2"), (1, 2, 4), range(8)),
+    (dict(first=1, last=400, slots="0-1,1-2"), range(5), range(3)),
+)
+
+
+def check_part(schedule, whole, options, clients, slots):
+    """A part shows of its records and rows what the whole picture shows."""
+    root = drawn(schedule, **options)
+    for name, numbers in (("client", clients), ("slot", slots)):
+        same([row.get("id") for row in rows_of(root, name)],
+             ["%s-%d" % (name, number) for number in numbers], "the rows")
+    first, last = options.get("first", 0), options.get("last", 1999)
+    for row in rows_of(root, "client") + rows_of(root, "slot"):
+        theirs, = [other for other in whole.iter(SVG + "g")
+                   if other.get("id") == row.get("id")]
+        begins = re.compile(r"record (\d+): ")
+        due = [tip for tip in tips_of([theirs]) if begins.match(tip)
+               and first <= int(begins.match(tip)[1]) <= last]
+        same([tip for tip in tips_of([row]) if begins.match(tip)], due,
+             "what happens in " + row.get("id"))
+    before = {first - 1} if first else set()
+    check_contents(root, schedule, before | {first, last}, slots, first, last)
+    check_legend(root)
+    check_apart(text_boxes(root), float(root.get("width")))
+
+
+WRONG_PARTS = (  # options, and what is said of them
+    (dict(first=2000), "there is no record 2000; this run has 0 to 1999"),
+    (dict(last=2000), "there is no record 2000"),
+    (dict(first=-1), "there is no record -1"),
+    (dict(first=9, last=8), "record 8 comes before record 9"),
+    (dict(clients="5"), "there is no client 5; this run has 0 to 4"),
+    (dict(slots="7-8"), "there is no slot 8; this run has 0 to 7"),
+    (dict(slots="3-1"), "1 comes before 3"),
+    (dict(clients="all"), "expected numbers such as 0,3 or 0-7"),
+    (dict(clients=""), "expected numbers such as 0,3 or 0-7"),
+    (dict(slots="1-"), "expected numbers such as 0,3 or 0-7"),
+)
+
+
+def parts():
+    """Parts of a long run, with the state before them."""
+    schedule = crowded(8, 5, 1999)
+    whole = drawn(schedule)
+    for options, clients, slots in PARTS:
+        check_part(schedule, whole, options, clients, slots)
+    for options, said in WRONG_PARTS:
+        try:
+            picture.draw(schedule, **options)
+        except BadInput as wrong:
+            need(said in str(wrong), "of %r it says: %s" % (options, wrong))
+        else:
+            raise AssertionError("no complaint about %r" % options)
+    return "draw, %d parts of a long run and %d wrong ones" % (
+        len(PARTS), len(WRONG_PARTS))
+
+
+def grey(colour):
+    """How light a colour is without its hue, 0 to 255."""
+    red, green, blue = (int(colour[at:at + 2], 16) for at in (1, 3, 5))
+    return 0.299 * red + 0.587 * green + 0.114 * blue
+
+
+def greys():
+    """Without hues the phases differ, and their numbers can be read."""
+    for colours in symbols.PHASES.values():
+        order = sorted(map(grey, colours))
+        need(all(b - a >= 40 for a, b in zip(order, order[1:])),
+             "the greys of the phases are too near: %r" % order)
+        for colour, letter in zip(colours, symbols.LETTERS):
+            need(abs(grey(colour) - grey(letter)) >= 90,
+                 "%s on %s cannot be read" % (letter, colour))
+    return "draw, the phases of stages can be told apart in grey"
+
+
+TESTS = (pictures, candidates, parts, greys)

@@ -9,7 +9,7 @@ from .moments import Run
 from .records import BEGIN, LONGEST_FILE, NAMES, SETUP, STEP, read
 from .report import DONE, GRANTED, WORKING
 from .tables import Column, lines_of
-from .totals import COUNTS, Client, Totals
+from .totals import COUNTS, Client, Totals, by_number
 
 COLUMNS = (Column("record", right=True), Column("client", right=True),
            Column("asked"), Column("what happened"), Column("answer"))
@@ -67,27 +67,13 @@ def rows_of(records, answers, happened):
             client.note(record, answer)
 
 
-def by_number(refusals):
-    """Refusals by their numbers, in brackets, if there are any."""
-    if not refusals:
-        return ""
-    return " (%s)" % ", ".join("%d by %d" % (times, number)
-                               for number, times in sorted(refusals.items()))
-
-
 def totals_of(totals):
     """Lines with what each client came to, and all of them."""
     columns = (Column("client", right=True),
                *(Column(name, right=True) for name in COUNTS), Column(""))
-    parts = [(str(number), client)
-             for number, client in enumerate(totals.clients)]
-    if totals.strays.refusals:
-        parts.append(("none", totals.strays))
-    parts.append(("all", totals.all))
     return lines_of(columns, [
         (name, *(str(part.counts[count]) for count in COUNTS),
-         by_number(part.refusals).strip())
-        for name, part in parts])
+         by_number(part.refusals)) for name, part in totals.parts()])
 
 
 def left_over(data, records, answers):

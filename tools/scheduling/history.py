@@ -1,36 +1,16 @@
-"""What a run does to clients and slots, column by column.
+"""What a run does to clients and slots, as spans of columns.
 
 A run has a column for each record. What a column shows is the pool as the
-record left it. The report tells nothing of slots, so the schedule is played
-with the second program and its slots are looked at after each record.
+record left it.
 """
 
 import itertools
 from typing import NamedTuple, Optional
 
-import second
-
 from . import BadInput, words
-from .records import BEGIN, SETUP, STEP, read
-from .report import DONE, GRANTED, REFUSAL
-
-IN_USE, UNHELD, EVICTED = "in use", "not held", "evicted"  # by its pins
-
-
-class Call(NamedTuple):
-    """A record that was played, or the one that ended the run."""
-
-    number: int
-    kind: Optional[int]  # None where it cannot be read
-    client: Optional[int]
-    page: Optional[int]
-    did: Optional[int]  # the stage whose action a step did
-    code: int
-    value: int
-
-    @property
-    def refusal(self):
-        return self.code - REFUSAL if self.code > REFUSAL else 0
+from .moments import CANDIDATE, EVICTED, Run
+from .records import BEGIN
+from .report import DONE, GRANTED
 
 
 class Span(NamedTuple):
@@ -40,6 +20,11 @@ class Span(NamedTuple):
     end: int
     what: object
 
+    def within(self, first, end):
+        """The part of it between two columns, or None."""
+        first, end = max(self.first, first), min(self.end, end)
+        return self._replace(first=first, end=end) if first < end else None
+
 
 class Content(NamedTuple):
     """What a slot names."""
@@ -48,22 +33,31 @@ class Content(NamedTuple):
     frame: int
     state: str
 
+    @property
+    def label(self):
+        """What to write: of a candidate not that it is a page."""
+        return ("for %d" if self.state == CANDIDATE else "page %d") \
+            % self.page
+
 
 class Grant(NamedTuple):
-    """A grant from its answer until its release, in a lane of its client."""
+    """A grant from its answer until its release."""
 
     first: int
     end: Optional[int]  # None if it is still open at the end
     page: int
     frame: int
-    lane: int
 
 
-class Eviction(NamedTuple):
-    """A frame's pins became -1, by stage 14 (a drop) or by 20 or 23."""
+class Mark(NamedTuple):
+    """Something that a step did to the frame in a slot.
+
+    By stage 14 it is a drop, by 20 or 23 a candidate was given up, and by 22
+    a page was revived.
+    """
 
     column: int
-    slot: Optional[int]
+    slot: int
     page: int
     frame: int
     stage: int
@@ -80,71 +74,36 @@ def spans(values):
     return found
 
 
-def content(frame):
-    """What to say of a slot that names the frame."""
+def content(moment, frame):
+    """What to say of a slot that names the frame, if any."""
     if frame is None:
         return None
-    state = (EVICTED if frame.pinning < 0 else
-             IN_USE if frame.pinning > 0 else UNHELD)
-    return Content(frame.key, frame.number, state)
+    return Content(moment.frames[frame].page, frame, moment.state(frame))
 
 
-class Recorder:
-    """A pool that is played, and a value for each column and row."""
+def count(moment, frame):
+    """The count of the frame in a slot, as long as it matters."""
+    if frame is None or moment.state(frame) == EVICTED:
+        return None
+    return moment.frames[frame].count
 
-    def __init__(self, setup):
-        self.pool = second.Pool(*setup.numbers)
-        self.slots = self.pool.cache.CLOCKBUF.POOL
-        self.calls = [Call(0, SETUP, None, None, None, DONE,
-                           setup.numbers[0])]
-        self.evictions = []
-        self.stages = [[] for _ in self.pool.clients]
-        self.wanted = [[] for _ in self.pool.clients]
-        self.contents = [[] for _ in self.slots]
-        self.hands = []
-        self.look()
 
-    def look(self):
-        """Add a column: how things are now."""
-        for row, client in zip(self.stages, self.pool.clients):
-            row.append(client.stage)
-        for row, client in zip(self.wanted, self.pool.clients):
-            row.append(client.page)
-        for row, frame in zip(self.contents, self.slots):
-            row.append(content(frame))
-        self.hands.append(self.pool.cache.CLOCKBUF.CLOCKHAND
-                          % len(self.slots))
-
-    def play(self, record):
-        number, did, victim = len(self.calls), None, None
-        known = record.client < len(self.pool.clients)
-        if record.kind == STEP and known:
-            client = self.pool.clients[record.client]
-            did = client.stage
-            victim = {14: client.e, 20: client.newEntry,
-                      23: client.newEntry}.get(did)
-        before = None if victim is None else victim.pinning
-        code, value = second.call(self.pool, record.kind, *record.numbers)
-        if victim is not None and victim.pinning < 0 <= before:
-            self.evictions.append(Eviction(number, self.slot_of(victim),
-                                           victim.key, victim.number, did))
-        self.calls.append(Call(number, record.kind, record.client,
-                               record.page, did, code, value))
-        self.look()
-
-    def slot_of(self, frame):
-        return self.slots.index(frame) if frame in self.slots else None
-
-    def end_by(self, record, refusal):
-        """Add a column for the record that ended the run."""
-        self.calls.append(Call(len(self.calls),
-                               None if record is None else record.kind,
-                               None, None, None, REFUSAL + refusal, 0))
-        self.look()
+def marks_of(run):
+    """The marks of a whole run."""
+    for call, before, after in zip(run.calls[1:], run.moments,
+                                   run.moments[1:]):
+        frame = None
+        if (call.did, call.stage) == (14, 15):
+            frame = before.clients[call.client].victim
+        elif call.did in (20, 23) or call.did == 22 and call.code == GRANTED:
+            frame = before.clients[call.client].own
+        if frame is not None:
+            yield Mark(call.number, after.slot_of(frame),
+                       after.frames[frame].page, frame, call.did)
 
 
 def grants_of(client, calls):
-    """The grants of a client, each in the first lane that is free."""
+    """The grants of a client, in the order of their answers."""
     ended, running, page = [], [], None
     for call in calls:
         if call.client != client:
@@ -152,10 +111,7 @@ def grants_of(client, calls):
         if call.kind == BEGIN and call.code == DONE:
             page = call.page
         elif call.code == GRANTED:
-            taken = {grant.lane for grant in running}
-            lane = next(lane for lane in itertools.count()
-                        if lane not in taken)
-            running.append(Grant(call.number, None, page, call.value, lane))
+            running.append(Grant(call.number, None, page, call.value))
         elif call.code == DONE:  # a release ends the oldest of its page
             grant = next(grant for grant in running
                          if grant.page == call.page)
@@ -168,25 +124,28 @@ class History:
     """A whole run, ready to be drawn."""
 
     def __init__(self, data):
-        records, _ = read(data)
-        count, refusal = second.run(data)[1:]
-        if count == 0:  # not even a setup
+        run = Run(data)
+        if not run.calls:  # not even a setup
             raise BadInput("there is no run to draw: "
-                           + words.refused(refusal))
-        recorder = Recorder(records[0])
-        for record in records[1:count]:
-            recorder.play(record)
-        if refusal:
-            recorder.end_by(records[count] if count < len(records) else None,
-                            refusal)
-        self.setup = records[0].numbers
-        self.calls = recorder.calls
-        self.refusal = refusal
+                           + words.refused(run.refusal))
+        self.setup, self.calls, self.refusal = (run.setup, run.calls,
+                                                run.refusal)
         self.columns = len(self.calls)
-        self.standing = [spans(row) for row in recorder.stages]
-        self.wanted = [spans(row) for row in recorder.wanted]
-        self.contents = [spans(row) for row in recorder.contents]
-        self.hands = spans(recorder.hands)
-        self.evictions = recorder.evictions
+        size, clients = self.setup[:2]
+        moments = run.moments
+        self.standing = [spans(moment.clients[client].stage
+                               for moment in moments)
+                         for client in range(clients)]
+        self.wanted = [spans(moment.clients[client].wanted
+                             for moment in moments)
+                       for client in range(clients)]
+        self.contents = [spans(content(moment, moment.slots[slot])
+                               for moment in moments)
+                         for slot in range(size)]
+        self.counts = [spans(count(moment, moment.slots[slot])
+                             for moment in moments)
+                       for slot in range(size)]
+        self.hands = spans(moment.hand % size for moment in moments)
+        self.marks = list(marks_of(run))
         self.grants = [grants_of(client, self.calls)
-                       for client in range(self.setup[1])]
+                       for client in range(clients)]

@@ -1,18 +1,18 @@
 """The legend of a picture: what each colour and shape means."""
 
 from . import symbols, words
-from .history import EVICTED, IN_USE, UNHELD
+from .moments import CANDIDATE, EVICTED, IN_USE, UNHELD
 from .svg import text_width
 
 SIZE = 11
-SAMPLE_WIDTH, SAMPLE_GAP, ITEM_GAP = 22, 6, 18
-LINE_HEIGHT = 22
+SAMPLE_WIDTH, SAMPLE_GAP, ITEM_GAP = 22, 6, 16
+LINE_HEIGHT = 21
 HEADING_WIDTH = 62
 
 
-def box(fill, height=14):
+def box(look, height=14):
     def sample(canvas, x, y):
-        canvas.box(x, y - height / 2, SAMPLE_WIDTH, height, fill=fill)
+        canvas.box(x, y - height / 2, SAMPLE_WIDTH, height, look=look)
     return sample
 
 
@@ -23,35 +23,46 @@ def shape(draw):
 
 
 def grant(canvas, x, y):
-    symbols.grant(canvas, x, y - 6, SAMPLE_WIDTH, 12, is_open=False)
+    symbols.grant(canvas, x, y - 6, SAMPLE_WIDTH, 12)
 
 
 def hand(canvas, x, y):
     symbols.hand(canvas, x, x + SAMPLE_WIDTH, y)
 
 
-STAGES = [(box(fill), "%d-%d %s" % phase)
-          for fill, phase in zip(symbols.FILLS, words.PHASES)]
-STAGES.append((box(symbols.FAINT[2], 8),
-               "stands there while others act"))
+def count(canvas, x, y):
+    for place in range(3):
+        symbols.count(canvas, x + 7 * place, y + 5, 7, 10, 1 - place / 3)
 
-CLIENTS = [
-    (shape(symbols.begin), "begin"),
-    (shape(symbols.release), "release"),
-    (shape(symbols.refusal), "refused (with the refusal's number)"),
-    (grant, "grant of a page, from its answer to its release"),
-]
 
-SLOTS = [
-    (box(symbols.CONTENT_FILLS[IN_USE]), "page in use"),
-    (box(symbols.CONTENT_FILLS[UNHELD]), "page that nobody holds"),
-    (box(symbols.CONTENT_FILLS[EVICTED]), "evicted frame"),
-    (shape(symbols.drop), "drop (14 evicts)"),
-    (shape(symbols.given_up), "own frame evicted (20, 23)"),
-    (hand, "hand's slot"),
-]
+def of_clients(numbered):
+    """The lines about clients; narrow columns have no numbers."""
+    stages = [(box("phase%d" % place), "%d-%d %s" % phase)
+              for place, phase in enumerate(words.PHASES)]
+    stages.append((box("faint2", 8), "stands there while others act"))
+    calls = [(shape(symbols.begin), "begin"),
+             (shape(symbols.release), "release"),
+             (shape(symbols.refusal), "refused (with the refusal's number)"
+              if numbered else "refused"),
+             (grant, "grant of a page, from its answer to its release")]
+    return ("stages", stages), ("clients", calls)
 
-LINES = (("stages", STAGES), ("clients", CLIENTS), ("slots", SLOTS))
+
+def of_slots():
+    """The lines about slots."""
+    contents = [
+        (box(symbols.CONTENTS[IN_USE]), "page in use"),
+        (box(symbols.CONTENTS[UNHELD]), "page that nobody uses"),
+        (box(symbols.CONTENTS[CANDIDATE]),
+         "candidate for a page, not in the table: nobody was given it"),
+        (box(symbols.CONTENTS[EVICTED]), "evicted frame"),
+        (hand, "hand's slot")]
+    marks = [
+        (count, "reference count, full height is the cap C"),
+        (shape(symbols.drop), "drop (14 evicts)"),
+        (shape(symbols.given_up), "candidate given up (20, 23)"),
+        (shape(symbols.revival), "page revived (22)")]
+    return ("slots", contents), ("in slots", marks)
 
 
 def item_width(text):
@@ -60,20 +71,24 @@ def item_width(text):
 
 def width():
     """How wide the widest line is."""
+    lines = *of_clients(True), *of_slots()
     return HEADING_WIDTH + max(sum(item_width(text) for _, text in items)
-                               for _, items in LINES)
+                               for _, items in lines)
 
 
-def draw(canvas, left, y):
-    """Draw the legend from a height on; where it ends."""
-    for heading, items in LINES:
+def height(lines):
+    return LINE_HEIGHT * len(lines) + LINE_HEIGHT / 2
+
+
+def draw(canvas, left, y, lines):
+    """Draw some lines of the legend from a height on."""
+    for heading, items in lines:
         y += LINE_HEIGHT
         canvas.text(left, y + 4, heading, font_size=SIZE,
-                    font_weight="bold", fill=symbols.INK)
+                    font_weight="bold", look="ink")
         x = left + HEADING_WIDTH
         for sample, text in items:
             sample(canvas, x, y)
             canvas.text(x + SAMPLE_WIDTH + SAMPLE_GAP, y + 4, text,
-                        font_size=SIZE, fill=symbols.INK)
+                        font_size=SIZE, look="ink")
             x += item_width(text)
-    return y + LINE_HEIGHT / 2

@@ -1,15 +1,18 @@
-"""The picture of a run.
+"""The picture of a run, or of a part of it.
 
 Time goes from left to right, one column a record. Each client has a row with
 the stages it does and, below, its grants; each slot has a row with the page
-it holds. A column shows the pool as its record left it. What has no room for
-words has a tip, which most programs show where the reader points.
+it holds and, below, its reference count. A column shows the pool as its
+record left it. What has no room for words has a tip, which most programs show
+where the reader points.
 """
 
 import math
 
 from . import legend, symbols, words
+from . import part as parts
 from .history import History
+from .moments import CANDIDATE, EVICTED
 from .records import BEGIN, NAMES, RELEASE, STEP
 from .report import GRANTED, WORKING
 from .svg import Canvas, Lane
@@ -17,16 +20,20 @@ from .svg import Canvas, Lane
 MARGIN = 16  # around everything
 NAME_WIDTH = 66  # for the names of rows, at both ends
 NAME_GAP = 8
-RAIL = 1200  # names are repeated at this distance, for who scrolls
+RAIL = 1200  # names and legend are repeated at this distance, for who scrolls
+SCREEN = 700  # what is higher has its legend at both ends
 
+TITLE = "A run of the page buffer pool"
 TITLE_SIZE, SUBTITLE_SIZE, NAME_SIZE, STAGE_SIZE, SMALL = 18, 13, 12, 11, 10
+COUNT_SIZE = 9
 
 WANT_HEIGHT, STAGE_HEIGHT, GRANT_HEIGHT, CLIENT_GAP = 13, 18, 14, 9
-SLOT_GAP = 3
-AXIS_HEIGHT = 26
+COUNT_HEIGHT, HAND_HEIGHT, SLOT_GAP = 11, 3, 4
+AXIS_HEIGHT, FOOT_HEIGHT = 26, 8
 
 WIDTHS = (  # up to so many columns, each is so wide
-    (60, 22), (300, 18), (600, 10), (1200, 6), (2048, 4))
+    (60, 22), (300, 18), (600, 10), (1200, 6), (2049, 4))
+NUMBER_WIDTH = 30  # of a record's number on the axis
 NUMBERED = 16  # from this width on there is room for the stage's number
 
 
@@ -40,120 +47,182 @@ def tick_distance(width):
                 if distance * width >= 40)
 
 
+def listed(numbers):
+    """Numbers with ranges, as '0 to 3, 7'."""
+    runs = []
+    for number in numbers:
+        if runs and runs[-1][-1] == number - 1:
+            runs[-1] = runs[-1][0], number
+        else:
+            runs.append((number, number))
+    return ", ".join(str(low) if low == high else "%d to %d" % (low, high)
+                     for low, high in runs)
+
+
 class Picture:
     """A history and where its parts go on the canvas."""
 
-    def __init__(self, history):
-        self.history = history
+    def __init__(self, history, part):
+        self.history, self.part = history, part
         self.slots, self.clients, self.cap, self.hand = history.setup
         self.canvas = Canvas()
-        self.column = column_width(history.columns)
+        self.column = column_width(part.columns)
+        self.numbered = self.column >= NUMBERED
         self.symbol = min(6.5, max(3, self.column * 0.36))  # half its size
-        self.slot_height = 18 if self.slots <= 16 else 14
+        self.page_height = 18 if len(part.slots) <= 16 else 14
         self.left = MARGIN + NAME_WIDTH
-        self.right = self.left + self.column * history.columns
+        self.right = self.left + self.column * part.columns
         self.width = MARGIN + max(self.right + NAME_WIDTH,
                                   MARGIN + legend.width())
 
     def x(self, column):
-        return self.left + self.column * column
+        return self.left + self.column * (column - self.part.origin)
 
     def middle(self, column):
         return self.x(column) + self.column / 2
+
+    def seen(self, spans):
+        """The spans as far as they are in the part."""
+        end = self.part.last + 1
+        clipped = (span.within(self.part.origin, end) for span in spans)
+        return [span for span in clipped if span is not None]
+
+    def calls(self):
+        """The calls that are drawn."""
+        return self.history.calls[self.part.first:self.part.last + 1]
 
     def rails(self):
         """Where names are repeated, from left to right."""
         return range(self.left + RAIL, int(self.right) - RAIL // 2, RAIL)
 
     def draw(self):
-        top = self.draw_head() + AXIS_HEIGHT
-        rows, bottom = self.place_rows(top)
-        self.draw_grid(top, bottom)
-        for draw_row, number, y in rows:
-            draw_row(number, y)
-        self.draw_axis(top - 8)
-        self.draw_axis(bottom + 16)
-        self.canvas.text(self.left, bottom + 34, "time: one column for each "
-                         "record, which shows the pool as the record left it",
-                         font_size=STAGE_SIZE, fill=symbols.GREY)
+        y = self.draw_head()
+        y = self.draw_part(y, legend.of_clients(self.numbered),
+                           self.client_rows())
+        if self.part.slots:
+            y = self.draw_part(y, legend.of_slots(), self.slot_rows())
+        self.draw_foot(y)
         return self.canvas.whole(math.ceil(self.width),
-                                 math.ceil(bottom + 34 + MARGIN),
-                                 "A run of the page buffer pool",
-                                 symbols.DEFS)
+                                 math.ceil(y + FOOT_HEIGHT + MARGIN), TITLE,
+                                 symbols.style(), symbols.DEFS)
+
+    def draw_part(self, y, lines, rows):
+        """Rows under their legend and between two axes; where they end.
+
+        What is higher than a screen has the legend at its end, too.
+        """
+        top = self.draw_legend(y, lines) + AXIS_HEIGHT
+        bottom = top + sum(height for _, _, height in rows)
+        self.draw_columns(top, bottom)
+        y = top
+        for draw_row, number, height in rows:
+            draw_row(number, y)
+            y += height
+        y += AXIS_HEIGHT
+        return self.draw_legend(y, lines) if bottom - top > SCREEN else y
 
     # What stands around the rows.
 
     def draw_head(self):
-        """The title and the legend; where they end."""
+        """The title; where it ends."""
         y = MARGIN + TITLE_SIZE - 4
-        self.canvas.text(MARGIN, y, "A run of the page buffer pool",
-                         font_size=TITLE_SIZE, fill=symbols.INK)
+        self.canvas.text(MARGIN, y, TITLE, font_size=TITLE_SIZE, look="ink")
         for line in self.subtitles():
             y += 20
             self.canvas.text(MARGIN, y, line, font_size=SUBTITLE_SIZE,
-                             fill=symbols.INK)
-        return legend.draw(self.canvas, MARGIN, y + 4)
+                             look="ink")
+        return y + 4
 
     def subtitles(self):
+        history, part = self.history, self.part
         yield "S = %s, T = %s, cap C = %d, first hand %d; %s" % (
             words.count(self.slots, "slot"),
             words.count(self.clients, "client"), self.cap, self.hand,
-            words.count(self.history.columns, "record"))
-        if self.history.refusal:
+            words.count(history.columns, "record"))
+        whole = parts.of(history.setup, history.columns)
+        if part != whole:
+            yield "Drawn: records %s; clients %s; slots %s" % (
+                listed(range(part.first, part.last + 1)),
+                listed(part.clients), listed(part.slots))
+        if history.refusal and part.last == whole.last:
             yield ("The last record ends the run, %s."
-                   % words.refused(self.history.refusal))
+                   % words.refused(history.refusal))
+        if not self.numbered:
+            yield ("Columns as narrow as these have no room for the numbers "
+                   "of stages and refusals; a part of at most %d records, by "
+                   "--from and --to, has it." % (WIDTHS[1][0] - 1))
 
-    def place_rows(self, y):
-        """What draws each row, its number and its height; and their end."""
+    def draw_legend(self, y, lines):
+        """The same lines wherever the reader has scrolled to; their end."""
+        for x in (MARGIN, *self.rails()):
+            if x + legend.width() <= self.width:
+                legend.draw(self.canvas, x, y, lines)
+        return y + legend.height(lines)
+
+    def client_rows(self):
+        """What draws each row, its number and its height."""
         rows = []
         if self.strays():
-            rows.append((self.draw_strays, None, y))
-            y += STAGE_HEIGHT + CLIENT_GAP
-        for client in range(self.clients):
-            rows.append((self.draw_client, client, y))
-            y += self.client_height(client)
-        y += SLOT_GAP
-        for slot in range(self.slots):
-            rows.append((self.draw_slot, slot, y))
-            y += self.slot_height + SLOT_GAP
-        return rows, y
+            rows.append((self.draw_strays, None, STAGE_HEIGHT + CLIENT_GAP))
+        return rows + [(self.draw_client, client, self.client_height(client))
+                       for client in self.part.clients]
+
+    def slot_rows(self):
+        height = self.page_height + COUNT_HEIGHT + HAND_HEIGHT + SLOT_GAP
+        return [(self.draw_slot, slot, height) for slot in self.part.slots]
 
     def ticks(self):
-        return range(0, self.history.columns, tick_distance(self.column))
+        """The columns that have a number; the first one has, if it can."""
+        first, distance = self.part.first, tick_distance(self.column)
+        even = -(-first // distance) * distance
+        ticks = list(range(even, self.part.last + 1, distance))
+        if not ticks or (even - first) * self.column >= NUMBER_WIDTH:
+            ticks.insert(0, first)
+        return ticks
 
-    def draw_grid(self, top, bottom):
-        """Lines that lead the eye from a column to its number."""
-        self.canvas.open("g", stroke="#e9ecef", stroke_width=1)
+    def draw_columns(self, top, bottom):
+        """Numbers, and lines that lead the eye to them."""
+        if self.part.origin < self.part.first:
+            self.canvas.box(self.left, top - 4, self.column, bottom - top + 8,
+                            look="before", tip="the pool before record %d"
+                            % self.part.first)
         for column in self.ticks():
             x = self.middle(column)
-            self.canvas.line(x, top - 4, x, bottom + 4)
-        self.canvas.close("g")
+            self.canvas.line(x, top - 4, x, bottom + 4, look="grid")
+        self.draw_axis(top - 8)
+        self.draw_axis(bottom + 16)
 
     def draw_axis(self, y):
-        self.canvas.open("g", font_size=SMALL, fill=symbols.GREY,
-                         text_anchor="middle")
+        self.canvas.open("g", font_size=SMALL, text_anchor="middle")
         for column in self.ticks():
-            self.canvas.text(self.middle(column), y, str(column))
+            self.canvas.text(self.middle(column), y, str(column),
+                             look="grey")
         self.canvas.close("g")
-        self.canvas.text(self.left - NAME_GAP, y, "record", fill=symbols.GREY,
+        self.canvas.text(self.left - NAME_GAP, y, "record", look="grey",
                          font_size=STAGE_SIZE, text_anchor="end")
+
+    def draw_foot(self, y):
+        before = ("; the first column is the pool before them"
+                  if self.part.origin < self.part.first else "")
+        self.canvas.text(self.left, y + 8, "time: one column for each "
+                         "record, which shows the pool as the record left it"
+                         + before, font_size=STAGE_SIZE, look="grey")
 
     def draw_name(self, name, y):
         """The name of a row, at both ends of it."""
         self.canvas.text(self.left - NAME_GAP, y, name, font_size=NAME_SIZE,
-                         fill=symbols.INK, text_anchor="end")
-        self.canvas.text(self.right + NAME_GAP, y, name, fill=symbols.INK,
+                         look="ink", text_anchor="end")
+        self.canvas.text(self.right + NAME_GAP, y, name, look="ink",
                          font_size=NAME_SIZE)
 
     def draw_rule(self, y):
-        self.canvas.line(MARGIN, y, self.right + NAME_WIDTH, y,
-                         stroke=symbols.PALE, stroke_width=1)
+        self.canvas.line(MARGIN, y, self.right + NAME_WIDTH, y, look="rule")
 
     # The row of the records that are of no client.
 
     def strays(self):
         """Those whose client is not there, and one that ends the run."""
-        return [call for call in self.history.calls if call.refusal
+        return [call for call in self.calls() if call.refusal
                 and (call.client is None or call.client >= self.clients)]
 
     def draw_strays(self, _, y):
@@ -166,9 +235,15 @@ class Picture:
 
     # A client's row: what it wants, its stages, its grants.
 
+    def grants(self, client):
+        """Its grants that are open in the part, each with its lane."""
+        return in_lanes(
+            grant for grant in self.history.grants[client]
+            if grant.first <= self.part.last
+            and (grant.end is None or grant.end > self.part.origin))
+
     def client_height(self, client):
-        lanes = max((grant.lane + 1 for grant in self.history.grants[client]),
-                    default=1)
+        lanes = max((lane + 1 for _, lane in self.grants(client)), default=1)
         return (WANT_HEIGHT + STAGE_HEIGHT + GRANT_HEIGHT * lanes
                 + CLIENT_GAP)
 
@@ -179,31 +254,32 @@ class Picture:
         self.draw_name("client %d" % client, stage_y + 13)
         self.draw_wants(client, stage_y - 3)
         self.draw_standing(client, stage_y)
-        for call in self.history.calls:
+        for call in self.calls():
             if call.client == client:
                 self.draw_call(call, stage_y)
-        for grant in self.history.grants[client]:
+        for grant, lane in self.grants(client):
             self.draw_grant(client, grant, stage_y + STAGE_HEIGHT + 1
-                            + GRANT_HEIGHT * grant.lane)
+                            + GRANT_HEIGHT * lane)
         self.canvas.close("g")
 
     def draw_wants(self, client, y):
         """The page of each request, and between them the client's name."""
         lane, end = Lane(self.canvas, y, SMALL), self.right
-        for span in reversed(self.history.wanted[client]):
+        for span in reversed(self.seen(self.history.wanted[client])):
             x = self.x(span.first)
             lane.put(x + 1, end, "wants %d" % span.what, str(span.what),
-                     fill=symbols.GREY)
+                     look="grey")
             end = x - Lane.GAP
         for x in self.rails():
-            lane.put(x, self.right, "client %d" % client, fill=symbols.INK)
+            lane.put(x, self.right, "client %d" % client, look="ink")
 
     def draw_standing(self, client, y):
         """A band behind the stages, in the colour of the one to come."""
-        for span in self.history.standing[client]:
-            x = self.middle(span.first)
+        for span in self.seen(self.history.standing[client]):
+            x = (self.middle(span.first) if span.first >= self.part.first
+                 else self.left)
             self.canvas.box(x, y + 5, self.x(span.end) - x, STAGE_HEIGHT - 10,
-                            fill=symbols.FAINT[words.phase(span.what)],
+                            look="faint%d" % words.phase(span.what),
                             tip="client %d stands at %s"
                             % (client, words.stage(span.what)))
 
@@ -212,7 +288,7 @@ class Picture:
         tip = "record %d: %s" % (call.number, call_in_words(call))
         if call.refusal:
             symbols.refusal(self.canvas, x, middle, self.symbol * 1.2, tip)
-            self.draw_number(x, middle + 3.2, call.refusal, 9, "#ffffff")
+            self.draw_number(x, middle + 3.2, call.refusal, 9, "in-refusal")
         elif call.kind == BEGIN:
             symbols.begin(self.canvas, x, middle - self.apart(),
                           self.symbol * 0.8, tip)
@@ -230,96 +306,142 @@ class Picture:
         place = words.phase(call.did)
         gap = 1 if self.column >= 10 else 0
         self.canvas.box(self.x(call.number) + gap / 2, y, self.column - gap,
-                        STAGE_HEIGHT, fill=symbols.FILLS[place], tip=tip)
+                        STAGE_HEIGHT, look="phase%d" % place, tip=tip)
         self.draw_number(self.middle(call.number), y + 13, call.did,
-                         STAGE_SIZE, symbols.LETTERS[place])
+                         STAGE_SIZE, "in-phase%d" % place)
 
-    def draw_number(self, x, y, number, size, fill):
+    def draw_number(self, x, y, number, size, look):
         """A number in a cell, if there is room for it."""
-        if self.column >= NUMBERED:
-            self.canvas.text(x, y, str(number), font_size=size, fill=fill,
+        if self.numbered:
+            self.canvas.text(x, y, str(number), font_size=size, look=look,
                              text_anchor="middle")
 
     def draw_grant(self, client, grant, y):
-        is_open = grant.end is None
-        x = self.x(grant.first)
-        end = self.right if is_open else self.x(grant.end)
+        begins = grant.first >= self.part.origin
+        ends = grant.end is not None and grant.end <= self.part.last
+        x = self.x(grant.first) if begins else self.left
+        end = self.x(grant.end) if ends else self.right
         symbols.grant(self.canvas, x, y + 0.5, end - x, GRANT_HEIGHT - 2,
-                      is_open, "client %d holds page %d in frame %d"
-                      % (client, grant.page, grant.frame))
+                      "client %d holds page %d in frame %d"
+                      % (client, grant.page, grant.frame), begins, ends)
         lane = Lane(self.canvas, y + GRANT_HEIGHT - 4, SMALL)
         for place in (x + 4, *self.rails()):
             if place > x:
                 lane.put(place, end - 2, "page %d" % grant.page,
-                         str(grant.page), fill=symbols.INK)
+                         str(grant.page), look="ink")
 
-    # A slot's row: the page it holds and what happens to it.
+    # A slot's row: the page it holds, its count, and what happens to it.
+
+    def marks(self, slot):
+        return [mark for mark in self.history.marks if mark.slot == slot
+                and self.part.first <= mark.column <= self.part.last]
 
     def draw_slot(self, slot, y):
         self.canvas.open("g", id="slot-%d" % slot)
-        bottom = y + self.slot_height
-        evictions = [eviction for eviction in self.history.evictions
-                     if eviction.slot == slot]
+        bottom = y + self.page_height
+        marks = self.marks(slot)
         self.draw_name("slot %d" % slot, bottom - 3)
-        self.canvas.line(self.left, bottom, self.right, bottom,
-                         stroke=symbols.PALE, stroke_width=1)
-        for span in self.history.contents[slot]:
+        for span in self.seen(self.history.contents[slot]):
             self.draw_content(slot, span, y)
-        self.draw_pages(slot, bottom, evictions)
-        for span in self.history.hands:
+        self.draw_pages(slot, bottom, marks)
+        self.draw_counts(slot, bottom + COUNT_HEIGHT)
+        for span in self.seen(self.history.hands):
             if span.what == slot:
                 symbols.hand(self.canvas, self.x(span.first),
-                             self.x(span.end), bottom)
-        for eviction in evictions:
-            self.draw_eviction(eviction, y + self.slot_height / 2)
+                             self.x(span.end),
+                             bottom + COUNT_HEIGHT + HAND_HEIGHT / 2)
+        for mark in marks:
+            self.draw_mark(mark, y + self.page_height / 2)
         self.canvas.close("g")
 
     def draw_content(self, slot, span, y):
         page, frame, state = span.what
         x = self.x(span.first)
-        self.canvas.box(x, y, self.x(span.end) - x, self.slot_height,
-                        fill=symbols.CONTENT_FILLS[state],
-                        tip="slot %d: page %d in frame %d, %s"
-                        % (slot, page, frame, state))
+        inset = 0.5 if state == CANDIDATE else 0  # its edge is a line
+        what = ("frame %d, a candidate for page %d that nobody was given"
+                if state == CANDIDATE else "frame %d with page %d, " + state)
+        self.canvas.box(x + inset, y + inset,
+                        self.x(span.end) - x - 2 * inset,
+                        self.page_height - 2 * inset,
+                        look=symbols.CONTENTS[state],
+                        tip="slot %d: %s" % (slot, what % (frame, page)))
 
-    def draw_pages(self, slot, bottom, evictions):
-        """The page where it comes into the slot, and again at the rails."""
+    def draw_pages(self, slot, bottom, marks):
+        """What comes into the slot, and the same again at the rails."""
         lane = Lane(self.canvas, bottom - 4, SMALL)
-        for eviction in evictions:
-            middle = self.middle(eviction.column)
+        for mark in marks:
+            middle = self.middle(mark.column)
             lane.reserve(middle - self.symbol - 2, middle + self.symbol + 2)
-        end, starts = self.right, pages_from(self.history.contents[slot])
-        for column, page in reversed(starts):
-            x = self.x(column)
-            self.canvas.line(x, bottom - self.slot_height, x, bottom,
-                             stroke=symbols.INK, stroke_width=1)
-            lane.put(x + 4, end - 2, "page %d" % page, str(page),
-                     fill=symbols.INK)
+        marked = {mark.column for mark in marks}
+        end = self.right
+        for column, content, comes in reversed(
+                labels_of(self.history.contents[slot])):
+            if column > self.part.last or self.x(column) >= end:
+                continue
+            if comes and column >= self.part.first:
+                x = self.x(column)
+                self.canvas.line(x, bottom - self.page_height, x, bottom,
+                                 look="comes")
+            x = max(self.x(column), self.left)
+            begin = (self.middle(column) + self.symbol + 3
+                     if column in marked else x + 4)
+            lane.put(begin, end - 2, content.label, str(content.page),
+                     look="ink")
             for rail in self.rails():
                 if x < rail < end:
-                    lane.put(rail, end - 2, "slot %d: page %d" % (slot, page),
-                             fill=symbols.INK)
+                    lane.put(rail, end - 2, "slot %d: %s"
+                             % (slot, content.label), look="ink")
             end = x
+            if column <= self.part.origin:
+                break
 
-    def draw_eviction(self, eviction, y):
-        draw_symbol = (symbols.drop if eviction.stage == 14
-                       else symbols.given_up)
-        draw_symbol(self.canvas, self.middle(eviction.column), y,
-                    self.symbol * 0.75,
-                    "record %d: stage %d evicts page %d in frame %d"
-                    % (eviction.column, eviction.stage, eviction.page,
-                       eviction.frame))
+    def draw_counts(self, slot, bottom):
+        """The count below the page: a bar, and a number where it changes."""
+        self.canvas.line(self.left, bottom, self.right, bottom, look="rule")
+        lane = Lane(self.canvas, bottom - 1.5, COUNT_SIZE)
+        for span in self.seen(self.history.counts[slot]):
+            x, end = self.x(span.first), self.x(span.end)
+            symbols.count(self.canvas, x, bottom, end - x, COUNT_HEIGHT - 1,
+                          span.what / self.cap)
+            lane.put(x + 2, max(end, x + self.column), str(span.what),
+                     look="ink")
+
+    def draw_mark(self, mark, y):
+        what = {14: "evicts page %d in frame %d",
+                22: "maps page %d anew, to frame %d"}.get(
+                    mark.stage, "gives up the candidate for page %d, frame "
+                    "%d")
+        symbols.MARKS[mark.stage](
+            self.canvas, self.middle(mark.column), y, self.symbol * 0.75,
+            "record %d: stage %d %s" % (mark.column, mark.stage,
+                                        what % (mark.page, mark.frame)))
 
 
-def pages_from(contents):
-    """Pairs of a column and the page that comes into the slot there."""
-    starts, last = [], None
+def in_lanes(grants):
+    """Grants by their beginnings, each in the first lane that is free."""
+    placed, ends = [], []  # where each lane is free again
+    for grant in grants:
+        lane = next((lane for lane, end in enumerate(ends)
+                     if end <= grant.first), len(ends))
+        ends[lane:lane + 1] = [math.inf if grant.end is None else grant.end]
+        placed.append((grant, lane))
+    return placed
+
+
+def labels_of(contents):
+    """Where a label is due: its column and content, and if a frame comes.
+
+    A frame comes once, but is called something else when it is mapped.
+    """
+    labels, last, called = [], None, None
     for span in contents:
-        now = span.what.page, span.what.frame
-        if now != last:
-            starts.append((span.first, span.what.page))
-        last = now
-    return starts
+        page, frame, state = span.what
+        comes = (page, frame) != last
+        if comes or state != EVICTED and span.what.label != called:
+            labels.append((span.first, span.what, comes))
+            called = span.what.label
+        last = page, frame
+    return labels
 
 
 def call_in_words(call):
@@ -343,6 +465,11 @@ def call_in_words(call):
     return what
 
 
-def draw(data):
-    """The picture of a schedule file's run, as the text of an SVG file."""
-    return Picture(History(data)).draw()
+def draw(data, **options):
+    """The picture of a schedule file's run, as the text of an SVG file.
+
+    The options are those of part.of.
+    """
+    history = History(data)
+    part = parts.of(history.setup, history.columns, **options)
+    return Picture(history, part).draw()

@@ -17,13 +17,16 @@ def number(value):
 
 
 def attributes(values):
-    """Attributes out of keywords: '_' stands for '-', None for no such."""
+    """Attributes out of keywords: '_' stands for '-', None for no such.
+
+    A look is the name of a rule in the style sheet.
+    """
     parts = []
     for name, value in values.items():
         if value is not None:
             shown = value if isinstance(value, str) else number(value)
-            parts.append(' %s="%s"' % (name.replace("_", "-"),
-                                       escape(shown)))
+            name = "class" if name == "look" else name.replace("_", "-")
+            parts.append(' %s="%s"' % (name, escape(shown)))
     return "".join(parts)
 
 
@@ -63,18 +66,19 @@ class Canvas:
                           % (attributes(dict(x=x, y=y, **values)),
                              escape(text)))
 
-    def whole(self, width, height, title, defs):
-        """The picture as a file."""
+    def whole(self, width, height, title, style, defs):
+        """The picture as a file; the look 'ground' is its background."""
         head = attributes({
             "xmlns": "http://www.w3.org/2000/svg", "version": "1.1",
             "width": width, "height": height,
             "viewBox": "0 0 %s %s" % (number(width), number(height)),
             "font-family": "sans-serif"})
         return ('<?xml version="1.0" encoding="UTF-8"?>\n'
-                "<svg%s>\n<title>%s</title>\n<defs>%s</defs>\n"
-                '<rect width="%s" height="%s" fill="#ffffff"/>\n%s\n</svg>\n'
-                % (head, escape(title), defs, number(width), number(height),
-                   "\n".join(self.parts)))
+                "<svg%s>\n<title>%s</title>\n<style>%s</style>\n"
+                "<defs>%s</defs>\n"
+                '<rect width="%s" height="%s" class="ground"/>\n%s\n</svg>\n'
+                % (head, escape(title), style, defs, number(width),
+                   number(height), "\n".join(self.parts)))
 
 
 class Lane:
@@ -90,14 +94,14 @@ class Lane:
         """Keep texts away from here."""
         self.taken.append((x, end))
 
-    def put(self, x, end, *texts, fill):
+    def put(self, x, end, *texts, look):
         """Put the first of the texts that has room from x to the end."""
         for text in texts:
             width = text_width(text, self.size)
             if x + width <= end and self.is_free(x, x + width):
                 self.reserve(x, x + width + self.GAP)
                 self.canvas.text(x, self.y, text, font_size=self.size,
-                                 fill=fill)
+                                 look=look)
                 return
 
     def is_free(self, x, end):

@@ -1,42 +1,105 @@
-"""The small shapes that a picture is made of.
+"""The small shapes that a picture is made of, and how they look.
 
-The colours of the phases differ in lightness as well as in hue (two bluish,
-two yellowish, a light and a dark one of each), so they can be told apart by
-colour-blind readers and in print without colours. Everything else is black,
-grey or a pattern.
+A look is a name that a style sheet gives colours to, once for light
+backgrounds and once for dark ones. The colours of the phases differ in
+lightness as well as in hue, so they can be told apart by colour-blind readers
+and in print without colours. Everything else is black, grey or a pattern.
 """
 
-from .history import EVICTED, IN_USE, UNHELD
+from .moments import CANDIDATE, EVICTED, IN_USE, UNHELD
 
-INK, GREY, PALE = "#1a1a1a", "#6b7480", "#d5dae0"
+COLOURS = {  # on a light background, on a dark one
+    "ground": ("#ffffff", "#14181d"),
+    "ink": ("#1a1a1a", "#eceff2"),
+    "grey": ("#5f6873", "#9aa5b1"),
+    "pale": ("#d5dae0", "#39424c"),
+    "grid": ("#e9ecef", "#262d35"),
+    "edge": ("#4a5561", "#8b97a4"),
+    "grant": ("#f1f3f5", "#262d35"),
+    "busy": ("#b4bdc8", "#5a6673"),
+    "idle": ("#e8ebee", "#2b333c"),
+    "bar": ("#c9b3d6", "#5d4570"),
+    "hand": ("#7a2f8f", "#cf8fe3"),
+    "held": ("#7a2f8f", "#a871ba"),
+}
+# Of the four phases: to do a stage (in greys that are at least 40 of 255
+# apart), the letters on it, and to stand there.
+PHASES = {"light": ("#6db8e8", "#f7e463", "#c8601a", "#173a6b"),
+          "dark": ("#6db8e8", "#f7e463", "#c8601a", "#24539a")}
+LETTERS = ("#1a1a1a", "#1a1a1a", "#ffffff", "#ffffff")
+FAINT = {"light": ("#cfe6f7", "#fbf5c9", "#efc9ac", "#aebfd9"),
+         "dark": ("#24506b", "#5c551d", "#6b3510", "#2a4170")}
 
-FILLS = ("#7cc4f0", "#f5df4d", "#b84a00", "#1f4e8c")  # of the four phases
-FAINT = ("#cfe9fa", "#faf3c0", "#ecc4a8", "#b3c6e2")  # standing there
-LETTERS = (INK, INK, "#ffffff", "#ffffff")  # readable on FILLS
+RULES = {  # the looks; {name} stands for the colour of that name
+    "ground": "fill:{ground}",
+    "ink": "fill:{ink}",
+    "grey": "fill:{grey}",
+    "rule": "stroke:{pale}",
+    "grid": "stroke:{grid}",
+    "before": "fill:{grid}",
+    "mark": "fill:{ground};stroke:{ink};stroke-width:1.2",
+    "refusal": "fill:{ink}",
+    "in-refusal": "fill:{ground}",
+    "cross": "fill:none;stroke:{ink};stroke-width:1.8",
+    "halo": "fill:none;stroke:{ground};stroke-width:4",
+    "grant": "fill:{grant}",
+    "grant-edge": "fill:none;stroke:{edge}",
+    "comes": "stroke:{ink}",
+    "in-use": "fill:{busy}",
+    "unheld": "fill:{idle}",
+    "candidate": "fill:url(#dots);stroke:{edge};stroke-dasharray:3,2",
+    "evicted": "fill:url(#gone)",
+    "stripe": "stroke:{edge};stroke-width:0.8",
+    "dot": "fill:{busy}",
+    "count": "fill:{bar}",
+    "hand": "stroke:{hand};stroke-width:2.5",
+    "filled": "fill:{idle};stroke:{grey}",
+    "held": "fill:{held}",
+}
+CONTENTS = {IN_USE: "in-use", UNHELD: "unheld", CANDIDATE: "candidate",
+            EVICTED: "evicted"}
 
-GRANT_FILL, GRANT_EDGE = "#f1f3f5", "#4a5561"
-CONTENT_FILLS = {IN_USE: "#b4bdc8", UNHELD: "#e8ebee", EVICTED: "url(#gone)"}
-HAND_INK = "#7a2f8f"
-
-# The pattern of a slot whose frame is evicted.
+# The patterns of an evicted frame and of a candidate.
 DEFS = ('<pattern id="gone" width="5" height="5" '
         'patternUnits="userSpaceOnUse"><rect width="5" height="5" '
-        'fill="#ffffff"/><path d="M-1,1 L1,-1 M0,5 L5,0 M4,6 L6,4" '
-        'stroke="#8a939e" stroke-width="0.8"/></pattern>')
+        'class="ground"/><path d="M-1,1 L1,-1 M0,5 L5,0 M4,6 L6,4" '
+        'class="stripe"/></pattern>'
+        '<pattern id="dots" width="6" height="6" '
+        'patternUnits="userSpaceOnUse"><rect width="6" height="6" '
+        'class="ground"/><rect x="2" y="2" width="1.2" height="1.2" '
+        'class="dot"/></pattern>')
+
+
+def sheet(background):
+    """The rules for one kind of background."""
+    at = ("light", "dark").index(background)
+    colours = {name: pair[at] for name, pair in COLOURS.items()}
+    rules = [".%s{%s}" % (look, rule.format(**colours))
+             for look, rule in RULES.items()]
+    for place, letter in enumerate(LETTERS):
+        rules.append(".phase%d{fill:%s}" % (place,
+                                            PHASES[background][place]))
+        rules.append(".faint%d{fill:%s}" % (place, FAINT[background][place]))
+        rules.append(".in-phase%d{fill:%s}" % (place, letter))
+    return "".join(rules)
+
+
+def style():
+    """The whole style sheet."""
+    return ("%s@media (prefers-color-scheme:dark){%s}"
+            % (sheet("light"), sheet("dark")))
 
 
 def begin(canvas, x, y, size, tip=None):
     """A request begins: an open triangle that points forward."""
     canvas.polygon(((x - size * 0.7, y - size), (x + size * 0.9, y),
-                    (x - size * 0.7, y + size)),
-                   tip=tip, fill="#ffffff", stroke=INK, stroke_width=1.2)
+                    (x - size * 0.7, y + size)), look="mark", tip=tip)
 
 
 def release(canvas, x, y, size, tip=None):
     """A grant ends: an open triangle that points back."""
     canvas.polygon(((x + size * 0.7, y - size), (x - size * 0.9, y),
-                    (x + size * 0.7, y + size)),
-                   tip=tip, fill="#ffffff", stroke=INK, stroke_width=1.2)
+                    (x + size * 0.7, y + size)), look="mark", tip=tip)
 
 
 def refusal(canvas, x, y, size, tip=None):
@@ -46,34 +109,53 @@ def refusal(canvas, x, y, size, tip=None):
                     (x + cut, y - size), (x + size, y - cut),
                     (x + size, y + cut), (x + cut, y + size),
                     (x - cut, y + size), (x - size, y + cut)),
-                   tip=tip, fill=INK)
+                   look="refusal", tip=tip)
 
 
 def drop(canvas, x, y, size, tip=None):
-    """A cross, with a white edge so that it is seen on any ground."""
+    """A cross, with a clear edge so that it is seen on any ground."""
     path = "M%.2f,%.2f L%.2f,%.2f M%.2f,%.2f L%.2f,%.2f" % (
         x - size, y - size, x + size, y + size,
         x - size, y + size, x + size, y - size)
-    canvas.shape("path", d=path, stroke="#ffffff", stroke_width=4)
-    canvas.shape("path", tip=tip, d=path, stroke=INK, stroke_width=1.8)
+    canvas.shape("path", d=path, look="halo")
+    canvas.shape("path", tip=tip, d=path, look="cross")
 
 
 def given_up(canvas, x, y, size, tip=None):
     """An open diamond."""
     canvas.polygon(((x, y - size), (x + size, y), (x, y + size),
-                    (x - size, y)),
-                   tip=tip, fill="#ffffff", stroke=INK, stroke_width=1.2)
+                    (x - size, y)), look="mark", tip=tip)
 
 
-def grant(canvas, x, y, width, height, is_open, tip=None):
-    """A bar; the end of one that is still open has no edge."""
-    canvas.box(x, y, width, height, tip=tip, fill=GRANT_FILL)
+def revival(canvas, x, y, size, tip=None):
+    """An open arrow that points up."""
+    half = size * 0.45
+    canvas.polygon(((x, y - size * 1.1), (x + size, y), (x + half, y),
+                    (x + half, y + size), (x - half, y + size),
+                    (x - half, y), (x - size, y)), look="mark", tip=tip)
+
+
+MARKS = {14: drop, 20: given_up, 23: given_up, 22: revival}
+
+
+def grant(canvas, x, y, width, height, tip=None, begins=True, ends=True):
+    """A bar; where it goes on out of sight it has no edge."""
+    canvas.box(x, y, width, height, tip=tip, look="grant")
     left, right, bottom = x + 0.5, x + width - 0.5, y + height
-    path = "M%.2f,%.2f H%.2f V%.2f H%.2f" % (right, y, left, bottom, right)
-    canvas.shape("path", d=path + ("" if is_open else " Z"), fill="none",
-                 stroke=GRANT_EDGE, stroke_width=1)
+    path = "M%.2f,%.2f H%.2f" % (left, y, right)
+    path += (" V%.2f" if ends else " M%.2f,%%.2f" % right) % bottom
+    path += " H%.2f" % left
+    canvas.shape("path", d=path + (" V%.2f" % y if begins else ""),
+                 look="grant-edge")
 
 
 def hand(canvas, x1, x2, y):
     """A line below the slot that the hand's value stands for."""
-    canvas.line(x1, y, x2, y, stroke=HAND_INK, stroke_width=2.5)
+    canvas.line(x1, y, x2, y, look="hand")
+
+
+def count(canvas, x, bottom, width, height, part):
+    """A bar as high as a part of the height."""
+    if part > 0:
+        canvas.box(x, bottom - height * part, width, height * part,
+                   look="count")

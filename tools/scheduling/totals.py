@@ -72,6 +72,13 @@ class Client:
         return max(self.steps, default=None)
 
 
+def by_number(refusals):
+    """Refusals by their numbers, in brackets, if there are any."""
+    return "" if not refusals else "(%s)" % ", ".join(
+        "%d by %d" % (times, number)
+        for number, times in sorted(refusals.items()))
+
+
 def sum_of(parts, most_held):
     """Clients taken together, as if they were one."""
     whole = Client()
@@ -113,3 +120,11 @@ class Totals:
         if answer.ends_run or record.client >= len(self.clients):
             return self.strays
         return self.clients[record.client]
+
+    def parts(self):
+        """Pairs of a name and what it came to; the last is all."""
+        named = [(str(number), client)
+                 for number, client in enumerate(self.clients)]
+        if self.strays.refusals:
+            named.append(("none", self.strays))
+        return named + [("all", self.all)]
