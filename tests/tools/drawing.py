@@ -7,7 +7,8 @@ import generate
 import second
 from checking import need, same
 from common import answers_to, example
-from scheduling import BadInput, picture, records, svg, symbols, text
+from scheduling import (BadInput, picture, records, sheet, slot_rows, svg,
+                        symbols, text)
 
 PICTURE_SEEDS = (0, 1, 4, 7, 16, 20, 24, 25, 27, 35, 44, 50, 54, 57)
 
@@ -111,7 +112,7 @@ class Columns:
     def __init__(self, root, first, last):
         tick = next(text for text in root.iter(SVG + "text")
                     if text.get("class") == "grey" and text.text.isdigit())
-        width = picture.column_width(last - max(first - 1, 0) + 1)
+        width = sheet.column_width(last - max(first - 1, 0) + 1)
         self.left = float(tick.get("x")) - (int(tick.text) + 0.5) * width
         self.width = width
 
@@ -136,7 +137,7 @@ class Columns:
         for bar in looks([row], "rect", "count"):
             if self.covers(bar, column):
                 return round(float(bar.get("height")) * cap
-                             / (picture.COUNT_HEIGHT - 1))
+                             / (slot_rows.COUNT_HEIGHT - 1))
         return 0
 
 
@@ -187,9 +188,9 @@ def check_legend(root):
     texts = [text for text in root.iter(SVG + "text")]
     at = sorted({float(text.get("x")) for text in texts
                  if text.text == "stages"})
-    need(all(b - a <= picture.RAIL + picture.NAME_WIDTH
+    need(all(b - a <= sheet.RAIL + sheet.NAME_WIDTH
              for a, b in zip(at, at[1:])), "the legend's distances")
-    need(float(root.get("width")) - at[-1] < 2 * picture.RAIL,
+    need(float(root.get("width")) - at[-1] < 2 * sheet.RAIL,
          "the end of the picture has no legend")
     promised = any("refusal's number" in (text.text or "") for text in texts)
     numbers = [text for text in texts if text.get("class") in
@@ -206,8 +207,8 @@ def check_looks(root):
     used = {element.get("class") for element in root.iter()} - {None}
     light, _, dark = root.find(SVG + "style").text.partition("@media")
     need(dark.startswith(" (prefers-color-scheme:dark)"), "no dark colours")
-    for sheet in (light, dark):
-        same(used - set(re.findall(r"\.([\w-]+)\{", sheet)), set(),
+    for rules in (light, dark):
+        same(used - set(re.findall(r"\.([\w-]+)\{", rules)), set(),
              "looks without a rule")
 
 

@@ -1,15 +1,36 @@
 """The parts of tools/schedule.
 
-    words     stages, phases and refusals in words
-    records   the records of a schedule file, as bytes and as numbers
-    text      schedule files from readable text and back
-    report    the report of a run, read and checked
-    explain   each record beside its answer, in words
-    history   what a run does to clients and slots, column by column
-    svg       shapes and text of a picture
-    symbols   the small shapes that a picture is made of
-    legend    what each of them means
-    picture   the picture of a run
+What is read and said:
+
+    words         stages, phases and refusals in words
+    records       the records of a schedule file, as bytes and as numbers
+    text          schedule files from readable text and back
+    report        the report of a run, read and checked
+    tables        tables of text
+
+What a run comes to:
+
+    moments       a run played, and the pool as each record left it
+    happenings    what each record did, in words
+    totals        what the answers add up to, client by client
+    explain       what each record did beside its answer
+    stats         a table of the totals, and a plot of the slots
+    makeup        a made-up day
+
+Pictures:
+
+    svg           shapes and text of a picture
+    symbols       the small shapes that a picture is made of, and their looks
+    legend        what each of them means
+    history       what a run does to clients and slots, as spans of columns
+    part          which records, clients and slots are drawn
+    sheet         where things go
+    client_rows   the rows of clients
+    slot_rows     the rows of slots
+    picture       the picture of a run
+    page          a page to step through a run
+
+    playing       the proved program built and run: what ./replay is made of
 """
 
 import pathlib

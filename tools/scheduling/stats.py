@@ -97,12 +97,8 @@ class Plot:
 
     def draw_head(self):
         self.canvas.text(MARGIN, MARGIN + 14, TITLE, font_size=18, look="ink")
-        slots, clients, cap, hand = self.run.setup
-        self.canvas.text(
-            MARGIN, MARGIN + 34, "S = %s, T = %s, cap C = %d, first hand %d; "
-            "%s" % (words.count(slots, "slot"),
-                    words.count(clients, "client"), cap, hand,
-                    words.count(self.records, "record")),
+        self.canvas.text(MARGIN, MARGIN + 34, "%s; %s" % (
+            words.setup(self.run.setup), words.count(self.records, "record")),
             font_size=13, look="ink")
         items = [(legend.box(look), name)
                  for look, name in zip(LOOKS, NAMES)]

@@ -74,3 +74,10 @@ def phase(stage_number):
 def count(number, thing):
     """A number and its thing, which takes an s unless there is one."""
     return "%d %s%s" % (number, thing, "" if number == 1 else "s")
+
+
+def setup(numbers):
+    """The numbers of a setup."""
+    slots, clients, cap, hand = numbers
+    return "S = %s, T = %s, cap C = %d, first hand %d" % (
+        count(slots, "slot"), count(clients, "client"), cap, hand)
