@@ -9,7 +9,8 @@ EXAMPLES = TOP / "examples"
 README = TOP / "README.md"
 sys.path[:0] = [str(TOP / "tools"), str(TOP / "tests")]
 
-import second  # noqa: E402 (after the line above)
+import generate  # noqa: E402 (after the line above)
+import second  # noqa: E402
 from scheduling import report, text  # noqa: E402
 
 LISTING = b"""\
@@ -28,10 +29,10 @@ LISTING = b"""\
 """
 
 
-def run(*arguments, data=b""):
+def run(*arguments, data=b"", stdout=subprocess.PIPE):
     """Run tools/schedule; its exit status, output and messages."""
     done = subprocess.run([sys.executable, str(TOP / "tools" / "schedule"),
-                           *arguments], input=data, stdout=subprocess.PIPE,
+                           *arguments], input=data, stdout=stdout,
                           stderr=subprocess.PIPE)
     return done.returncode, done.stdout, done.stderr.decode()
 
@@ -42,3 +43,13 @@ def example(name):
 
 def answers_to(schedule):
     return report.read_report(second.run(schedule)[0], schedule)
+
+
+def crowded(slots, clients, calls, pages=None, greed=6):
+    """A run with much of everything, on some pages or a drawn number."""
+    dice = generate.Dice(slots)
+    script = generate.Script(slots, clients, 3, generate.LARGEST - 5)
+    generate.play(dice, script, generate.bursts, calls, greed=greed,
+                  percent=2,
+                  pages=pages and generate.draw_pages(dice, pages))
+    return bytes(script.data)

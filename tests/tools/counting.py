@@ -76,7 +76,8 @@ def tables():
                 try:
                     tried(schedule)
                 except BadInput as wrong:
-                    need("there is no run" in str(wrong), "it says: %s" % wrong)
+                    need("there is no run" in str(wrong),
+                         "it says: %s" % wrong)
                 else:
                     raise AssertionError("a run without a setup is counted")
     return "stats, %d runs counted anew with the second program" % count

@@ -6,17 +6,18 @@ import xml.etree.ElementTree
 import generate
 import second
 from checking import need, same
-from common import answers_to, example
-from scheduling import (BadInput, picture, records, sheet, slot_rows, svg,
-                        symbols, text)
+from common import answers_to, crowded, example
+from played import played
+from scheduling import (BadInput, picture, sheet, slot_rows, svg, symbols,
+                        text)
 
 PICTURE_SEEDS = (0, 1, 4, 7, 16, 20, 24, 25, 27, 35, 44, 50, 54, 57)
 
 
 SVG = "{http://www.w3.org/2000/svg}"
-ELEMENTS = {SVG + name for name in ("svg", "title", "style", "defs", "pattern", "g",
-                                    "rect", "line", "path", "polygon",
-                                    "text")}
+ELEMENTS = {SVG + name for name in (
+    "svg", "title", "style", "defs", "pattern", "g", "rect", "line", "path",
+    "polygon", "text")}
 
 
 def text_boxes(root):
@@ -141,40 +142,23 @@ class Columns:
         return 0
 
 
-def expected(pool, slot):
-    """The same of the second program's pool, and the count."""
-    frame = pool.cache.CLOCKBUF.POOL[slot]
-    if frame is None:
-        return None, 0
-    mapped = pool.cache.HASHTBL.get(frame.key) is frame
-    state = ("evicted" if frame.pinning < 0 else
-             "candidate" if not mapped else
-             "in use" if frame.pinning > 0 else "not held")
-    return ((frame.number, frame.key, state),
-            0 if state == "evicted" else frame.refcount)
-
-
 def check_contents(root, schedule, places, slots, first=0, last=None):
     """In some columns each slot is drawn as it is, and no page is twice."""
-    found = records.read(schedule)[0]
-    count = second.run(schedule)[1]
-    last = count - 1 if last is None else last
-    columns = Columns(root, first, last)
-    pool, rows = second.Pool(*found[0].numbers), rows_of(root, "slot")
-    for number in range(count):
-        if number:
-            second.call(pool, found[number].kind, *found[number].numbers)
-        if number not in places:
-            continue
+    run = played(schedule)
+    columns = Columns(root, first, run.last if last is None else last)
+    for number in places:
         pages = []
-        for row, slot in zip(rows, slots):
-            what, references = expected(pool, slot)
-            same(columns.shown(row, number), what,
+        for row, slot in zip(rows_of(root, "slot"), slots):
+            frame, page, _, count, state = (run.pools[number]["slots"][slot]
+                                            or 4 * [0] + [""])
+            same(columns.shown(row, number),
+                 (frame, page, state) if state else None,
                  "slot %d after record %d" % (slot, number))
-            same(columns.count(row, number, schedule[5]), references,
+            same(columns.count(row, number, schedule[5]),
+                 0 if state == "evicted" else count,
                  "the count in slot %d after record %d" % (slot, number))
-            if what and what[2] in ("in use", "not held"):
-                pages.append(what[1])
+            if state in ("in use", "not held"):
+                pages.append(page)
         same(len(pages), len(set(pages)), "pages drawn twice at %d" % number)
 
 
@@ -236,14 +220,6 @@ def check_picture(schedule):
     check_legend(root)
     check_looks(root)
     check_apart(text_boxes(root), float(root.get("width")))
-
-
-def crowded(slots, clients, calls):
-    """A run with the most of everything."""
-    dice = generate.Dice(slots)
-    script = generate.Script(slots, clients, 3, generate.LARGEST - 5)
-    generate.play(dice, script, generate.bursts, calls, greed=6, percent=2)
-    return bytes(script.data)
 
 
 def pictures():

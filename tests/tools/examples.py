@@ -1,11 +1,15 @@
 """The examples, and what README.md shows of them."""
 
 import itertools
+import pathlib
+import re
+import subprocess
+import tempfile
 
 import second
-from checking import same
+from checking import need, same
 from common import EXAMPLES, LISTING, README, TOP, answers_to, example
-from scheduling import explain, picture, text
+from scheduling import explain, picture, playing, text
 
 EXAMPLE_FILES = (EXAMPLES / "example.schedule",
                  *(TOP / "crates" / name / "stdin"
@@ -20,7 +24,7 @@ def first_example():
     for path in EXAMPLE_FILES:
         same(path.read_bytes(), schedule, "the bytes of %s" % path)
     row = explain.explain(schedule, answers_to(schedule)).splitlines()[1]
-    same(row.split(None, 1)[1], "setup slots 1 clients 1 cap 3 hand 0  done",
+    same(row.split(), "0 setup 1 slot and 1 client: 3 frames done".split(),
          "how a setup is explained")
     return ("examples/example.txt gives the example's listing, and the %d "
             "files of it are the same" % len(EXAMPLE_FILES))
@@ -29,10 +33,9 @@ def first_example():
 def second_example():
     schedule = example("two-clients.txt")
     lines = explain.explain(schedule, answers_to(schedule)).splitlines()
-    grants = [line.split(None, 2)[1:] for line in lines if "granted" in line]
-    same([(client, rest.split("  ")[0]) for client, rest in grants],
-         [("0", "step, at stage 18"), ("0", "step, at stage 18"),
-          ("1", "step, at stage 22"), ("0", "step, at stage 18")],
+    grants = [line.split()[1:5] for line in lines if "granted" in line]
+    same(grants, [[client, "step", "at", stage] for client, stage in
+                  (("0", "18"), ("0", "18"), ("1", "22"), ("0", "18"))],
          "who is granted where")
     same(picture.draw(schedule), (EXAMPLES / "two-clients.svg").read_text(),
          "examples/two-clients.svg, the picture of examples/two-clients.txt")
@@ -54,7 +57,7 @@ def readme_lines(first, mark):
 
 
 def readme_listings():
-    """The example as text, and the numbers of its report."""
+    """The example as text, its report, and an explanation."""
     schedule = example("example.txt")
     shown = readme_lines("setup ", "    ")
     same("".join(line.strip() + "\n" for line in shown),
@@ -62,7 +65,40 @@ def readme_listings():
     lines = readme_lines("0 0 0 1 ", "    ")
     same("".join(" ".join(line.split()[:4]) + "\n" for line in lines),
          second.run(schedule)[0].decode(), "the report in README.md")
-    return "README.md, the example as text and its report"
+    schedule = example("two-clients.txt")
+    said = explain.explain(schedule, answers_to(schedule)).splitlines()
+    shown = [line[4:] for line in readme_lines("record  client ", "    ")]
+    same(shown, [line for line in said if line in shown],
+         "the explanation in README.md")
+    return "README.md, the example as text, its report, an explanation"
 
 
-TESTS = (first_example, second_example, readme_listings)
+def readme_commands():
+    """What README.md tells to type is there, and does what is said."""
+    written = README.read_text(encoding="utf-8")
+    typed = re.findall(r"^    (tools/schedule [^#\n]*[^# \n])", written, re.M)
+    with tempfile.TemporaryDirectory() as folder:
+        made = pathlib.Path(folder)
+        (made / "tools").symlink_to(TOP / "tools")
+        (made / "examples").symlink_to(EXAMPLES)
+        for command in typed:
+            done = subprocess.run(command, shell=True, cwd=made,
+                                  stdout=subprocess.PIPE,
+                                  stderr=subprocess.PIPE)
+            same(done.returncode, 0, "the exit status of %s" % command)
+            target = command.partition(" > ")[2]
+            need(done.stdout or (made / target).stat().st_size,
+                 "nothing comes of %s" % command)
+    names = {command.split()[1] for command in typed}
+    same({"make", "explain", "stats", "draw", "page", "make-up"} - names,
+         set(), "commands that README.md does not tell")
+    crates = len(playing.needed("replay"))
+    need("3 of %d proved" % crates in written,
+         "README.md does not say that ./replay proves %d crates" % crates)
+    for status in re.findall(r"^  (\d)  ", (TOP / "replay").read_text(), re.M):
+        need("\n| %s | " % status in written,
+             "README.md does not have status %s of ./replay" % status)
+    return "README.md, %d commands, the statuses of ./replay" % len(typed)
+
+
+TESTS = (first_example, second_example, readme_listings, readme_commands)

@@ -7,6 +7,7 @@ import generate
 import second
 from checking import need, same
 from common import LISTING, answers_to, example
+from played import played
 from scheduling import (BadInput, explain, happenings, moments, records,
                         report, text, words)
 
@@ -88,126 +89,115 @@ def explanations():
 # What happened.
 
 
-def variables(request):
-    """The variables of a running request of the second program."""
-    found = {}
-    while request is not None:
-        found.update(request.gi_frame.f_locals)
-        request = request.gi_yieldfrom
-    return found
+def in_numbers(moment):
+    """A moment in the form of what played tells."""
+    return {
+        "free": moment.free, "hand": moment.hand,
+        "slots": [None if frame is None else
+                  [frame, *moment.frames[frame], moment.state(frame)]
+                  for frame in moment.slots],
+        "table": sorted([page, frame, moment.frames[frame].pins < 0]
+                        for page, frame in moment.table.items()),
+        "clients": [dict(client._asdict(),
+                         grants=sorted(map(list, client.grants)))
+                    for client in moment.clients]}
 
 
-def check_remembered(pool, moment):
-    """What a client remembers of its search is what its request has."""
-    for client, shown in zip(pool.clients, moment.clients):
-        if client.request is None:
-            same(shown._replace(grants=()), moments.Client(), "a rest")
-            continue
-        known = variables(client.request)
-        expected = {}
-        if client.stage == 6:
-            expected.update(seen=known["free"])
-        if client.stage == 8:
-            expected.update(place=known["idx"])
-        if 11 <= client.stage <= 16:
-            expected.update(place=known["i"], start=known["start"])
-        if client.stage in (11, 12):
-            expected.update(busy=known["numpinning"])
-        for name, value in expected.items():
-            same(getattr(shown, name), value,
-                 "%s at stage %d" % (name, client.stage))
+def check_moment(moment, expected):
+    """Of clients all is compared that the second program tells of them."""
+    found = in_numbers(moment)
+    for client, known in zip(found["clients"], expected["clients"]):
+        for name in set(client) - set(known):
+            if client["stage"] is None:
+                same(client[name], None, name + " of a client at rest")
+            del client[name]
+    same(found, expected, "the pool")
 
 
-def searches():
-    """The numbers that the tool follows by itself, beside the program's."""
+def pools():
+    """The pool that sentences are made from is the second program's."""
     count = 0
-    for seed in range(60):
-        schedule = generate.generate(seed)
+    for schedule in map(generate.generate, range(60)):
         run = moments.Run(schedule)
-        if not run.calls:
-            continue
-        pool = second.Pool(*run.setup)
-        for record, moment in zip(records.read(schedule)[0][1:],
-                                  run.moments[1:]):
-            if record.kind != records.SETUP:
-                second.call(pool, record.kind, *record.numbers)
-                check_remembered(pool, moment)
+        if run.calls:
+            same(len(run.moments), played(schedule).last + 1, "moments")
+            for moment, pool in zip(run.moments, played(schedule).pools):
+                check_moment(moment, pool)
                 count += 1
-    return ("explain, what clients remember of their searches, %d records"
-            % count)
+    return "explain, the pool after each of %d records" % count
 
 
 SEARCHES = """\
 setup slots 2 clients 3 cap 3 hand 0
-begin 0 page 4                 # wants page 4
-step 0                         # the table does not have page 4
-step 0                         # takes frame 0 for page 4, with one pin and count 1
-step 0                         # 2 slots left to claim
-begin 1 page 5                 # wants page 5
-step 1                         # the table does not have page 5
-step 1                         # takes frame 1 for page 5, with one pin and count 1
-step 1                         # 2 slots left to claim
-step 1                         # claims a slot: free is 1 now
-step 0                         # free is 1 by now and not 2
-step 0                         # 1 slot left to claim
-step 0                         # claims a slot: free is 0 now
-step 1                         # the hand is 0: it looks from slot 0 on
-step 0                         # the hand is 0: it looks from slot 0 on
-step 1                         # frame 1 stands in slot 0, a candidate for page 5
-step 0                         # slot 0 has frame 1: slot 1 is next
-begin 2 page 9                 # wants page 9
-step 2                         # the table does not have page 9
-step 2                         # takes frame 2 for page 9, with one pin and count 1
-step 2                         # no slot is left to claim: it has to sweep
-step 2                         # the hand is 0: the sweep starts at slot 0
-step 2                         # slot 0: frame 1 (page 5)
-step 2                         # slot 0: frame 1 is in use, busy visit 1 of 2
-step 2                         # slot 1 is claimed and still empty, busy visit 2 of 2
-step 0                         # frame 0 stands in slot 1, a candidate for page 4
-step 0                         # the hand is 1 now: slot 1
-step 0                         # admitted: the table has page 4 in frame 0
-step 1 times 2                 # admitted: the table has page 5 in frame 1
-begin 0 page 5                 # wants page 5
-step 0                         # the table has page 5 in frame 1
-step 0                         # frame 1 is pinned: 2 pins now
-step 0                         # a hit: the count of frame 1 is 2 now
-begin 2 page 9                 # wants page 9
-begin 2 page 9                 # it stands at 1 and wants page 9
-release 0 page 4               # frame 0 has no pins now: nobody holds page 4
-release 0 page 4               # it holds page 5
-release 0 page 5               # frame 1 has 1 pin now
-step 0                         # it has no request
-step 7                         # the pool has 3 clients
-step 2 times 4                 # the hand is 2: the sweep starts at slot 0
-step 2 times 2                 # slot 0: frame 1 is in use, busy visit 1 of 2
-step 2                         # slot 1: frame 0 (page 4)
-step 2                         # slot 1: frame 0 is not in use
-release 1 page 5               # frame 1 has no pins now: nobody holds page 5
-begin 1 page 4                 # wants page 4
-step 1 times 2                 # frame 0 is pinned: 1 pin now
-step 2                         # the count of page 4 goes from 1 to 0: it may go
-step 2                         # frame 0 is in use by now: slot 0 is next
-step 2 times 3                 # the count of page 5 goes from 2 to 1: it stays, slot 1 is next
-step 1                         # a hit: the count of frame 0 is 1 now
-release 1 page 4               # frame 0 has no pins now: nobody holds page 4
-begin 1 page 8                 # wants page 8
-step 1 times 4                 # the hand is 2: the sweep starts at slot 0
-step 1 times 3                 # the count of page 5 goes from 1 to 0: it may go
-step 1                         # page 5 loses frame 1: its count was 0
-step 1                         # frame 4 stands in slot 0, a candidate for page 8, instead of frame 1
-step 1                         # the hand is 3 now: slot 1
-begin 0 page 5                 # wants page 5
-step 0                         # the table has page 5 in frame 1
-step 0                         # frame 1 is evicted and cannot be pinned
-step 2 times 3                 # the count of page 4 goes from 1 to 0: it may go
-step 2                         # page 4 loses frame 0: its count was 0
-step 0 times 4                 # slot 1: frame 0 (page 4)
-step 0                         # slot 1: frame 0 is evicted already
-step 2                         # frame 3 stands in slot 1, a candidate for page 9, instead of frame 0
-step 0                         # frame 0 is not in slot 1 any more: slot 0 is next
-step 1                         # page 5 leaves the table
-step 1                         # admitted: the table has page 8 in frame 4
-release 1 page 8               # frame 4 has no pins now: nobody holds page 8
+begin 0 page 4   # wants page 4
+step 0           # the table does not have page 4
+step 0           # takes frame 0 for page 4, with one pin and count 1
+step 0           # 2 slots left to claim
+begin 1 page 5   # wants page 5
+step 1           # the table does not have page 5
+step 1           # takes frame 1 for page 5, with one pin and count 1
+step 1           # 2 slots left to claim
+step 1           # claims a slot: free is 1 now
+step 0           # free is 1 by now and not 2
+step 0           # 1 slot left to claim
+step 0           # claims a slot: free is 0 now
+step 1           # the hand is 0: it looks from slot 0 on
+step 0           # the hand is 0: it looks from slot 0 on
+step 1           # frame 1 stands in slot 0, a candidate for page 5
+step 0           # slot 0 has frame 1: slot 1 is next
+begin 2 page 9   # wants page 9
+step 2           # the table does not have page 9
+step 2           # takes frame 2 for page 9, with one pin and count 1
+step 2           # no slot is left to claim: it has to sweep
+step 2           # the hand is 0: the sweep starts at slot 0
+step 2           # slot 0: frame 1 (page 5)
+step 2           # slot 0: frame 1 is in use, busy visit 1 of 2
+step 2           # slot 1 is claimed and still empty, busy visit 2 of 2
+step 0           # frame 0 stands in slot 1, a candidate for page 4
+step 0           # the hand is 1 now: slot 1
+step 0           # admitted: the table has page 4 in frame 0
+step 1 times 2   # admitted: the table has page 5 in frame 1
+begin 0 page 5   # wants page 5
+step 0           # the table has page 5 in frame 1
+step 0           # frame 1 is pinned: 2 pins now
+step 0           # a hit: the count of frame 1 is 2 now
+begin 2 page 9   # wants page 9
+begin 2 page 9   # it stands at 1 and wants page 9
+release 0 page 4 # frame 0 has no pins now: nobody holds page 4
+release 0 page 4 # it holds page 5
+release 0 page 5 # frame 1 has 1 pin now
+step 0           # it has no request
+step 7           # the pool has 3 clients
+step 2 times 4   # the hand is 2: the sweep starts at slot 0
+step 2 times 2   # slot 0: frame 1 is in use, busy visit 1 of 2
+step 2           # slot 1: frame 0 (page 4)
+step 2           # slot 1: frame 0 is not in use
+release 1 page 5 # frame 1 has no pins now: nobody holds page 5
+begin 1 page 4   # wants page 4
+step 1 times 2   # frame 0 is pinned: 1 pin now
+step 2           # the count of page 4 goes from 1 to 0: it may go
+step 2           # frame 0 is in use by now: slot 0 is next
+step 2 times 3   # the count of page 5 goes from 2 to 1: it stays, slot 1 is next
+step 1           # a hit: the count of frame 0 is 1 now
+release 1 page 4 # frame 0 has no pins now: nobody holds page 4
+begin 1 page 8   # wants page 8
+step 1 times 4   # the hand is 2: the sweep starts at slot 0
+step 1 times 3   # the count of page 5 goes from 1 to 0: it may go
+step 1           # page 5 loses frame 1: its count was 0
+step 1           # frame 4 stands in slot 0, a candidate for page 8, instead of frame 1
+step 1           # the hand is 3 now: slot 1
+begin 0 page 5   # wants page 5
+step 0           # the table has page 5 in frame 1
+step 0           # frame 1 is evicted and cannot be pinned
+step 2 times 3   # the count of page 4 goes from 1 to 0: it may go
+step 2           # page 4 loses frame 0: its count was 0
+step 0 times 4   # slot 1: frame 0 (page 4)
+step 0           # slot 1: frame 0 is evicted already
+step 2           # frame 3 stands in slot 1, a candidate for page 9, instead of frame 0
+step 0           # frame 0 is not in slot 1 any more: slot 0 is next
+step 1           # page 5 leaves the table
+step 1           # admitted: the table has page 8 in frame 4
+release 1 page 8 # frame 4 has no pins now: nobody holds page 8
 """
 
 
@@ -217,37 +207,37 @@ begin 0 page 9
 begin 1 page 9
 step 0 times 7
 step 1 times 7
-step 0                         # admitted: the table has page 9 in frame 0
-step 1                         # page 9 is in the table already, with frame 0: frame 1 stays a candidate
-step 1                         # frame 0 is pinned: 2 pins now
-step 1                         # gives its candidate up: frame 1 is evicted
-step 1                         # joined: the count of frame 0 is 2 now
+step 0           # admitted: the table has page 9 in frame 0
+step 1           # page 9 is in the table already, with frame 0: frame 1 stays a candidate
+step 1           # frame 0 is pinned: 2 pins now
+step 1           # gives its candidate up: frame 1 is evicted
+step 1           # joined: the count of frame 0 is 2 now
 release 0 page 9
 release 1 page 9
 begin 1 page 9
-step 1 times 3                 # a hit: the count of frame 0 stays 2, the cap
+step 1 times 3   # a hit: the count of frame 0 stays 2, the cap
 release 1 page 9
 begin 0 page 5
-step 0 times 7                 # the count of page 9 goes from 2 to 1: it stays, slot 1 is next
-step 0 times 2                 # slot 1: frame 1 is evicted already
-step 0                         # frame 2 stands in slot 1, a candidate for page 5, instead of frame 1
-step 0                         # the hand is 4 now: slot 0
-step 0                         # frame 1 was given up and has no entry: nothing removed
-step 0                         # admitted: the table has page 5 in frame 2
+step 0 times 7   # the count of page 9 goes from 2 to 1: it stays, slot 1 is next
+step 0 times 2   # slot 1: frame 1 is evicted already
+step 0           # frame 2 stands in slot 1, a candidate for page 5, instead of frame 1
+step 0           # the hand is 4 now: slot 0
+step 0           # frame 1 was given up and has no entry: nothing removed
+step 0           # admitted: the table has page 5 in frame 2
 release 0 page 5
 begin 0 page 7
-step 0 times 8                 # page 9 loses frame 0: its count was 0
-step 0 times 2                 # the hand is 5 now: slot 1
+step 0 times 8   # page 9 loses frame 0: its count was 0
+step 0 times 2   # the hand is 5 now: slot 1
 begin 1 page 9
-step 1 times 9                 # page 5 loses frame 2: its count was 0
+step 1 times 9   # page 5 loses frame 2: its count was 0
 begin 2 page 9
-step 2 times 3                 # takes frame 5 for page 9, with one pin and count 1
-step 2                         # no slot is left to claim: it has to sweep
-step 1 times 3                 # page 5 leaves the table
-step 1 times 2                 # frame 0 is evicted and cannot be joined
-step 1                         # revived: the table has page 9 in frame 4 and not in 0
-step 0                         # the entry was already replaced: nothing removed
-step 0                         # admitted: the table has page 7 in frame 3
+step 2 times 3   # takes frame 5 for page 9, with one pin and count 1
+step 2           # no slot is left to claim: it has to sweep
+step 1 times 3   # page 5 leaves the table
+step 1 times 2   # frame 0 is evicted and cannot be joined
+step 1           # revived: the table has page 9 in frame 4 and not in 0
+step 0           # the entry was already replaced: nothing removed
+step 0           # admitted: the table has page 7 in frame 3
 """
 
 
@@ -260,13 +250,13 @@ begin 0 page 5
 step 0 times 8
 release 0 page 5
 begin 0 page 7
-step 0 times 10                # the hand is 3 now: slot 1
+step 0 times 10  # the hand is 3 now: slot 1
 begin 1 page 9
-step 1 times 14                # frame 0 is evicted and cannot be joined
-step 0                         # page 9 leaves the table
-step 1                         # page 9 has no entry by now: frame 3 stays a candidate
-step 1                         # gives its candidate up: frame 3 is evicted
-step 1                         # takes frame 4 for page 9, with one pin and count 1
+step 1 times 14  # frame 0 is evicted and cannot be joined
+step 0           # page 9 leaves the table
+step 1           # page 9 has no entry by now: frame 3 stays a candidate
+step 1           # gives its candidate up: frame 3 is evicted
+step 1           # takes frame 4 for page 9, with one pin and count 1
 """
 
 
@@ -324,4 +314,4 @@ def given_reports():
             % len(WRONG_REPORTS))
 
 
-TESTS = (explanations, searches, sentences, given_reports)
+TESTS = (explanations, pools, sentences, given_reports)

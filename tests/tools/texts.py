@@ -5,7 +5,7 @@ import re
 import generate
 import second
 from checking import same
-from common import example
+from common import EXAMPLES, LISTING, example, run
 from scheduling import BadInput, text, words
 
 SEEDS = range(200)
@@ -116,18 +116,99 @@ ERRORS = (  # a text, the line that is wrong, and parts of what is said
 )
 
 
+def complaint(given):
+    """What 'make' complains of, which must be something."""
+    try:
+        text.make(given)
+    except BadInput as wrong:
+        return str(wrong)
+    raise AssertionError("no complaint about %.80r" % given)
+
+
 def errors_in_texts():
     for written, number, parts in ERRORS:
-        try:
-            text.make(written.encode())
-        except BadInput as wrong:
-            said = str(wrong)
-        else:
-            raise AssertionError("no complaint about %.80r" % written)
+        said = complaint(written.encode())
         if not (said.startswith("line %d: " % number) and "\n" not in said
                 and all(part in said for part in parts)):
             raise AssertionError("about %.80r it says: %s" % (written, said))
     return "make, %d wrong texts: line number and message" % len(ERRORS)
 
 
-TESTS = (round_trips, cuts_and_spoils, forms_of_text, errors_in_texts)
+def many_errors():
+    """All of a text's errors are told, up to a number of them."""
+    written = (b"setup slots 2\nbegin 0 page 9\n\nstop\nstep 0 times 3000\n"
+               b"step 0 times 3000\nbegin 0 pages 9 # too many\n")
+    said = complaint(written).split("\n")
+    same([line[:24] for line in said],
+         ["line 1: a word is missin", "line 4: unknown word 'st",
+          "line 5: the file would b", "line 7: unknown word 'pa"],
+         "all that is wrong, the length once")
+    same(run("make", data=written),
+         (1, b"", "".join("schedule: standard input: %s\n" % line
+                          for line in said)), "what the program says")
+    said = complaint(b"step 0\n" + 25 * b"stop\n").split("\n")
+    same([line.split()[1] for line in said[:-1]],
+         ["%d:" % number for number in range(2, 22)], "the lines told of")
+    same(said[-1], "and 5 more", "what is said of the others")
+    same(len(complaint(20 * b"stop\n").split("\n")), 20, "20 lines")
+    return "make, texts with several errors: each with its line"
+
+
+def other_files():
+    picture = (EXAMPLES / "two-clients.svg").read_bytes()
+    for given, what in ((example("example.txt"), "a schedule file already"),
+                        (LISTING, "a report"),
+                        (picture, "a picture or a page")):
+        same(complaint(given), "this is %s; expected a text" % what,
+             "what is said of %s" % what)
+    return "make, a schedule file, a report, a picture in place of a text"
+
+
+GOOD = "setup slots 64 clients 16 cap 100 hand 4294967295\nbegin 200 page 9\n"
+WARNINGS = (  # a text, and the parts of each warning of it
+    (GOOD, ()),
+    (GOOD.replace("64", "1").replace("16", "1").replace("100", "1"), ()),
+    ("", (("no command", words.refused(3)),)),
+    ("# nothing\n\n", (("no command", words.refused(3)),)),
+    ("\nstep 0\nbegin 0 page 9\n",
+     (("line 2: a step comes first", "with a setup", words.refused(6)),)),
+    ("begin 0 page 9\n" + GOOD,
+     (("line 1: a begin comes first", "the setup of line 2",
+       words.refused(6)),)),
+    (GOOD + "\n" + GOOD,
+     (("line 4: another setup ends the run here", "the first is at line 1",
+       words.refused(6)),)),
+    ("setup slots 0 clients 17 cap 101 hand 0\nstep 0\n",
+     (("line 1: slots is 0 and must be from 1 to 64", words.refused(8)),
+      ("line 1: clients is 17 and must be from 1 to 16", words.refused(8)),
+      ("line 1: cap is 101 and must be from 1 to 100", words.refused(8)))),
+    ("step 0\nsetup slots 65 clients 0 cap 0 hand 0\n" + GOOD,
+     (("line 1: a step comes first", "line 2"), ("line 2: slots is 65",),
+      ("line 2: clients is 0",), ("line 2: cap is 0",),
+      ("line 3: another setup", "at line 2"))),
+)
+
+
+def warnings_of_texts():
+    """Of what no pool can play; the file is made all the same."""
+    for written, expected in WARNINGS:
+        said = text.warnings(written.encode())
+        same(len(said), len(expected), "the number of warnings of %.80r: %s"
+             % (written, said))
+        for line, parts in zip(said, expected):
+            if "\n" in line or not all(part in line for part in parts):
+                raise AssertionError("it says %r, and not %r" % (line, parts))
+        made = text.make(written.encode())
+        same(bool(said), second.run(made)[2] != 0,
+             "whether the run of %.80r ends early" % written)
+        same(run("make", data=written.encode()),
+             (0, made, "".join("schedule: warning: standard input: %s\n"
+                               % line for line in said)),
+             "what the program makes and says")
+    said = text.warnings(30 * GOOD.encode())
+    same((len(said), said[-1]), (21, "and 9 more"), "warnings of 30 setups")
+    return "make, %d texts with and without warnings" % len(WARNINGS)
+
+
+TESTS = (round_trips, cuts_and_spoils, forms_of_text, errors_in_texts,
+         many_errors, other_files, warnings_of_texts)

@@ -30,7 +30,11 @@ Pictures:
     picture       the picture of a run
     page          a page to step through a run
 
-    playing       the proved program built and run: what ./replay is made of
+What ./replay is made of:
+
+    playing       the proved program, built and run
+    endings       why a run ended, in words
+    output        standard output, written whole
 """
 
 import pathlib
@@ -43,4 +47,4 @@ sys.path.insert(0, str(TOP / "tests"))
 
 
 class BadInput(Exception):
-    """What was given to read is wrong; one line that says what and why."""
+    """What was given to read is wrong; a line for each fault."""

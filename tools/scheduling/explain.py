@@ -7,7 +7,7 @@ of a report, and where they are others than in that run, only they are told.
 from . import happenings, words
 from .moments import Run
 from .records import BEGIN, LONGEST_FILE, NAMES, SETUP, STEP, read
-from .report import DONE, GRANTED, WORKING
+from .report import GRANTED, WORKING
 from .tables import Column, lines_of
 from .totals import COUNTS, Client, Totals, by_number
 

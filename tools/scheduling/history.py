@@ -7,8 +7,7 @@ record left it.
 import itertools
 from typing import NamedTuple, Optional
 
-from . import BadInput, words
-from .moments import CANDIDATE, EVICTED, Run
+from .moments import CANDIDATE, EVICTED, run_to
 from .records import BEGIN
 from .report import DONE, GRANTED
 
@@ -124,10 +123,7 @@ class History:
     """A whole run, ready to be drawn."""
 
     def __init__(self, data):
-        run = Run(data)
-        if not run.calls:  # not even a setup
-            raise BadInput("there is no run to draw: "
-                           + words.refused(run.refusal))
+        run = run_to("draw", data)
         self.setup, self.calls, self.refusal = (run.setup, run.calls,
                                                 run.refusal)
         self.columns = len(self.calls)

@@ -3,8 +3,8 @@
 A few pages are hot and most are seldom asked for. All clients but the last
 pick pages by their heat and keep some of them for long. The last one walks
 over all pages in order, at leisure, and keeps none for long. Who acts next is
-drawn, so requests overlap. A client that is refused for want of a frame gives back what
-it has and asks again.
+drawn, so requests overlap. A client that is refused for want of a frame gives
+back what it has and asks again.
 """
 
 import bisect

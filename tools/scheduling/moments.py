@@ -9,6 +9,7 @@ from typing import Dict, NamedTuple, Optional, Tuple
 
 import second
 
+from . import BadInput, words
 from .records import SETUP, STEP, read
 from .report import DONE, REFUSAL, WORKING
 
@@ -192,3 +193,15 @@ class Run:
                           self.refusal)
         self.setup = records[0].numbers
         self.calls, self.moments = player.calls, player.moments
+
+
+def run_to(purpose, data):
+    """The run of a schedule file, which must have one for this purpose."""
+    run = Run(data)
+    if not run.calls:
+        raise BadInput(no_run_to(purpose, run.refusal))
+    return run
+
+
+def no_run_to(purpose, refusal):
+    return "there is no run to %s: %s" % (purpose, words.refused(refusal))

@@ -93,7 +93,8 @@ def is_built():
         return False
     sources = TOP / "crates.txt", *(TOP / "crates").rglob("*")
     built = PROGRAM.stat().st_mtime
-    return all(source.stat().st_mtime <= built for source in sources)
+    # A link that leads nowhere, as some editors make, is a file, too.
+    return all(source.lstat().st_mtime <= built for source in sources)
 
 
 def proved_report(schedule):

@@ -1,7 +1,7 @@
 """What a run came to: a table of numbers, and a plot of the slots."""
 
 from . import BadInput, legend, symbols, words
-from .moments import CANDIDATE, IN_USE, Run
+from .moments import CANDIDATE, IN_USE, no_run_to, run_to
 from .records import read
 from .svg import Canvas
 from .tables import Column, lines_of
@@ -13,10 +13,11 @@ COLUMNS = (Column("client", right=True), Column("requests", right=True),
            Column("refusals", right=True), Column(""))
 
 NOTES = """\
-A request counts from its begin on, a hit rate and steps once it is answered.
-A hit is a grant at stage 3: the page was there. The steps of a request are
-those from its begin to its answer, a grant or refusal 15. Most held: on how
-many different pages grants were open at the same time.
+requests:  begins that were done
+hit rate:  of the requests that were answered (a grant, or refusal 15), those
+           that were granted at stage 3, since the page was there
+steps:     of a request that was answered, from its begin to its answer
+most held: how many different pages were held at one time
 """
 
 
@@ -38,8 +39,8 @@ def table(data, answers):
     records, _ = read(data)
     totals = Totals(records, answers)
     if not totals.clients:
-        raise BadInput("there is no run to count: " + words.refused(
-            answers[0].refusal if answers else 1))
+        raise BadInput(no_run_to("count", answers[0].refusal if answers
+                                 else 1))
     lines = lines_of(COLUMNS, [row(*part) for part in totals.parts()])
     return "".join(line + "\n" for line in lines) + "\n" + NOTES
 
@@ -134,8 +135,4 @@ class Plot:
 
 def plot(data):
     """The plot of a schedule file's run, as the text of an SVG file."""
-    run = Run(data)
-    if not run.calls:
-        raise BadInput("there is no run to plot: "
-                       + words.refused(run.refusal))
-    return Plot(run).draw()
+    return Plot(run_to("plot", data)).draw()

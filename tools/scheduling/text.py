@@ -11,13 +11,14 @@ hexadecimal:
 
 import itertools
 import re
-from typing import NamedTuple, Optional
+from typing import NamedTuple, Optional, Tuple
 
 import second
 
 from . import BadInput, words
 from .records import (BEGIN, LONGEST_FILE, MARK, NAMES, RELEASE, SETUP, STEP,
-                      pack, read)
+                      length, pack, read)
+from .report import LINE
 
 
 class Field(NamedTuple):
@@ -66,11 +67,61 @@ SAMPLES = {
     RELEASE: "release 0 page 9",
 }
 
+MOST_PLAYED = {  # of the numbers that fit, a pool takes these, from 1 on
+    "slots": second.MOST_SLOTS,
+    "clients": second.MOST_CLIENTS,
+    "cap": second.MOST_COUNT,
+}
+
 NUMBER = re.compile(r"0[xX]([0-9a-fA-F]+)|([0-9]+)")
 MOST_DIGITS = 20  # more than any field takes; longer ones are not computed
+MOST_TOLD = 20  # complaints about one text; the others are only counted
+
+
+# What a file is that was given for another.
+
+SCHEDULE, REPORT, PICTURE, TEXT = ("a schedule file", "a report",
+                                   "a picture or a page", "a text")
+LOOKED_AT = 1000  # bytes; enough to tell
+
+
+def is_readable(start):
+    """Whether bytes read as text, but for a letter here and there."""
+    letters = start.decode("utf-8-sig", "replace")
+    return (letters.count("\ufffd") * 10 < len(letters)
+            and all(letter.isprintable() or letter in "\t\n\f\r"
+                    for letter in letters))
+
+
+def seems(data):
+    """What a file seems to be, by its first bytes; None for none of these."""
+    start = data[:LOOKED_AT]
+    if start.startswith(MARK) and start[2:3] in b"\0\1\2\3":
+        return SCHEDULE
+    if LINE.fullmatch(start.partition(b"\n")[0].rstrip(b"\r")):
+        return REPORT
+    if start.lstrip().startswith(b"<"):
+        return PICTURE
+    return TEXT if is_readable(start) else None
 
 
 # From text to bytes.
+
+
+class Command(NamedTuple):
+    """A line of a text, read."""
+
+    line: int  # its number, from 1
+    kind: int
+    numbers: Tuple[int, ...]  # of its record
+    times: int  # how often the record is written
+
+    @property
+    def size(self):
+        return self.times * length(self.kind)
+
+    def records(self):
+        return self.times * pack(self.kind, *self.numbers)
 
 
 def shortened(word):
@@ -114,8 +165,8 @@ def read_field(rest, field, sample):
     return read_number(rest.pop(0), field)
 
 
-def read_command(line_words):
-    """The bytes of a command's record, and how often it is to be written."""
+def read_command(line, line_words):
+    """The command that the words of a line are."""
     first, *rest = line_words
     if first not in NAMES:
         raise BadInput("unknown word %s; expected setup, begin, step or "
@@ -130,34 +181,104 @@ def read_command(line_words):
                        "as in: %s" % (quoted(rest[0]), SAMPLES[kind]))
     if kind == STEP:
         client, times = (numbers + [1])[:2]
-        return pack(STEP, client, 0), times
-    return pack(kind, *numbers), 1
+        return Command(line, STEP, (client, 0), times)
+    return Command(line, kind, tuple(numbers), 1)
 
 
-def check_length(length, more):
-    if length + more > LONGEST_FILE:
-        raise BadInput("the file would be longer than 16,384 bytes: it has "
-                       "%d before this line; expected at most %d more, not %d"
-                       % (length, LONGEST_FILE - length, more))
-
-
-def make(data):
-    """The schedule file that a text, given as bytes, stands for."""
-    if data.startswith(MARK) and data[2:3] in (b"\0", b"\1", b"\2", b"\3"):
-        raise BadInput("this is a schedule file already; expected a text")
-    schedule = bytearray()
+def read_lines(data):
+    """The commands of a text, and for each wrong line its number and why."""
+    commands, wrong = [], []
     text = data.decode("utf-8-sig", "replace")  # comments may be anything
     for number, line in enumerate(text.split("\n"), 1):
         line_words = line.partition("#")[0].split()
-        if not line_words:
-            continue
-        try:
-            record, times = read_command(line_words)
-            check_length(len(schedule), times * len(record))
-        except BadInput as wrong:
-            raise BadInput("line %d: %s" % (number, wrong)) from None
-        schedule += record * times
-    return bytes(schedule)
+        if line_words:
+            try:
+                commands.append(read_command(number, line_words))
+            except BadInput as why:
+                wrong.append((number, str(why)))
+    return commands, wrong
+
+
+def past_the_end(commands):
+    """The same of the first command that makes the file too long, if any."""
+    so_far = 0
+    for command in commands:
+        if so_far + command.size > LONGEST_FILE:
+            return [(command.line, "the file would be longer than 16,384 "
+                     "bytes: it has %d before this line; expected at most %d "
+                     "more, not %d" % (so_far, LONGEST_FILE - so_far,
+                                       command.size))]
+        so_far += command.size
+    return []
+
+
+def told(found):
+    """Lines and what is to be said of each, in their order: the first few."""
+    lines = ["line %d: %s" % one
+             for one in sorted(found, key=lambda one: one[0])]
+    if len(lines) > MOST_TOLD:
+        lines[MOST_TOLD:] = ["and %d more" % (len(lines) - MOST_TOLD)]
+    return lines
+
+
+def read_text(data):
+    """The commands of a text; complains of all that is wrong in it."""
+    what = seems(data)
+    if what in (SCHEDULE, REPORT, PICTURE):
+        raise BadInput("this is %s%s; expected a text"
+                       % (what, " already" if what == SCHEDULE else ""))
+    commands, wrong = read_lines(data)
+    wrong += past_the_end(commands)
+    if wrong:
+        raise BadInput("\n".join(told(wrong)))
+    return commands
+
+
+def make(data):
+    """The schedule file that a text, given as bytes, stands for.
+
+    Where the text is wrong, the complaint has a line for each wrong one.
+    """
+    return b"".join(command.records() for command in read_text(data))
+
+
+# What no pool can play.
+
+
+def out_of_range(numbers):
+    """What a pool refuses of a setup's numbers, in words, one by one."""
+    for field, number in zip(FORMS[SETUP], numbers):
+        most = MOST_PLAYED.get(field.name)
+        if most is not None and not 1 <= number <= most:
+            yield ("%s is %d and must be from 1 to %d"
+                   % (field.name, number, most))
+
+
+def faults(first, setups):
+    """Lines that end every run, and why, by the first command and setups."""
+    if first.kind != SETUP:
+        better = ("the setup of line %d" % setups[0].line if setups
+                  else "a setup")
+        yield first.line, ("a %s comes first and ends the run here; begin "
+                           "with %s: %s" % (NAMES[first.kind], better,
+                                            words.refused(6)))
+    for setup in setups[:1]:
+        for why in out_of_range(setup.numbers):
+            yield setup.line, "%s: %s" % (why, words.refused(8))
+    for setup in setups[1:]:
+        yield setup.line, ("another setup ends the run here (the first is at "
+                           "line %d): %s"
+                           % (setups[0].line, words.refused(6)))
+
+
+def warnings(data):
+    """Lines about what no pool can play of a text that 'make' takes."""
+    commands = read_text(data)
+    if not commands:
+        return ["there is no command, so the file is empty: "
+                + words.refused(3)]
+    return told(faults(commands[0], [command for command in commands
+                                     if command.kind == SETUP]))
 
 
 # From bytes to text.
