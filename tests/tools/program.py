@@ -17,6 +17,7 @@ WRONG = (  # arguments, what is read, the exit status
     (("explain", "--report"), b"", 2), (("show", "--wide"), b"", 2),
     (("explain", "--report", "-"), b"", 2),
     (("stats", "--report", "-"), b"", 2),
+    (("stats", "--svg", "--report", "report"), b"", 2),
     (("draw", "--from", "first"), b"", 2), (("make-up", "day"), b"", 2),
     (("make-up", "--clients", "many"), b"", 2),
     (("make",), b"begin", 1), (("make",), LISTING, 1),
