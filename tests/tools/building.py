@@ -117,7 +117,9 @@ def interrupted():
         (top / "file").write_bytes(EXAMPLE)
         with begun(top, "file") as process:
             said = process.stderr.readline().decode()
-            while not (asked.exists() and asked.read_text()):
+            for _ in range(3000):
+                if asked.exists() and asked.read_text():
+                    break
                 time.sleep(0.01)
             process.send_signal(signal.SIGINT)
             output, more = process.communicate()

@@ -1,4 +1,4 @@
-"""Pictures of runs."""
+"""Pictures of runs: what stands around the columns, and parts."""
 
 import re
 import xml.etree.ElementTree
@@ -6,15 +6,12 @@ import xml.etree.ElementTree
 import generate
 import second
 from checking import need, same
-from common import answers_to, crowded, example
-from played import played
-from scheduling import (BadInput, picture, sheet, slot_rows, svg, symbols,
-                        text)
+from columns import SVG, Drawing
+from common import crowded, example
+from scheduling import BadInput, picture, sheet, svg, symbols, text
 
 PICTURE_SEEDS = (0, 1, 4, 7, 16, 20, 24, 25, 27, 35, 44, 50, 54, 57)
 
-
-SVG = "{http://www.w3.org/2000/svg}"
 ELEMENTS = {SVG + name for name in (
     "svg", "title", "style", "defs", "pattern", "g", "rect", "line", "path",
     "polygon", "text")}
@@ -61,129 +58,37 @@ def tips_of(rows):
     return [title.text for row in rows for title in row.iter(SVG + "title")]
 
 
-def check_steps(tips, schedule):
-    """Each step is drawn with the stage that it did."""
-    written = second.run(schedule)[0]
-    steps = [answer.number for answer in answers_to(schedule)
-             if answer.code in (1, 2, 115)]
-    did = [stage for stage, _ in generate.edges_taken(written)]
-    drawn = (re.match(r"record (\d+): client \d+ steps, does stage (\d+):",
-                      tip) for tip in tips)
-    same(sorted((int(found[1]), int(found[2])) for found in drawn if found),
-         list(zip(steps, did)), "the steps in the picture")
+def headings(root, heading):
+    """The places of a line of the legend."""
+    return sorted((float(text.get("x")), float(text.get("y")))
+                  for text in root.iter(SVG + "text")
+                  if text.text == heading)
 
 
-def looks(rows, tag, look):
-    """The shapes of some rows that look so."""
-    return [shape for row in rows for shape in row.iter(SVG + tag)
-            if shape.get("class") == look]
-
-
-def check_slots(rows, schedule):
-    """Each frame that comes and each mark is drawn; by the edges."""
-    edges = list(generate.edges_taken(second.run(schedule)[0]))
-    same(len(looks(rows, "line", "comes")),
-         edges.count((8, 9)) + edges.count((15, 16)), "frames put in")
-    tips = tips_of(rows)
-    for stage, next_stage, does in (
-            (14, 15, "evicts"), (20, 21, "gives up"), (23, 4, "gives up"),
-            (22, generate.GRANT, "maps")):
-        same(sum(": stage %d %s" % (stage, does) in tip for tip in tips),
-             edges.count((stage, next_stage)), "marks of stage %d" % stage)
-
-
-def check_answers(root, schedule):
-    """Each grant and each refusal is drawn."""
-    codes = [answer.code for answer in answers_to(schedule)]
-    same(sum(" holds page " in tip
-             for tip in tips_of(rows_of(root, "client"))),
-         codes.count(2), "grants in the picture")
-    rows = [group for group in root.iter(SVG + "g") if group.get("id")]
-    same(len(looks(rows, "polygon", "refusal")),
-         sum(code > 100 for code in codes), "refusals in it")
-
-
-SHOWN = re.compile(r"slot \d+: frame (\d+) with page (\d+), (.*)")
-MEANT = re.compile(r"slot \d+: frame (\d+), a candidate for page (\d+) ")
-
-
-class Columns:
-    """Where the columns of a picture are, and what stands there."""
-
-    def __init__(self, root, first, last):
-        tick = next(text for text in root.iter(SVG + "text")
-                    if text.get("class") == "grey" and text.text.isdigit())
-        width = sheet.column_width(last - max(first - 1, 0) + 1)
-        self.left = float(tick.get("x")) - (int(tick.text) + 0.5) * width
-        self.width = width
-
-    def covers(self, shape, column):
-        middle = self.left + (column + 0.5) * self.width
-        x = float(shape.get("x"))
-        return x <= middle <= x + float(shape.get("width"))
-
-    def shown(self, row, column):
-        """Frame, page and state that a slot's row shows in a column."""
-        for shape in row.iter(SVG + "rect"):
-            tip = shape.find(SVG + "title")
-            if tip is not None and self.covers(shape, column):
-                shown, meant = SHOWN.match(tip.text), MEANT.match(tip.text)
-                if shown:
-                    return int(shown[1]), int(shown[2]), shown[3]
-                return int(meant[1]), int(meant[2]), "candidate"
-        return None
-
-    def count(self, row, column, cap):
-        """The count that the bar of a slot's row shows in a column."""
-        for bar in looks([row], "rect", "count"):
-            if self.covers(bar, column):
-                return round(float(bar.get("height")) * cap
-                             / (slot_rows.COUNT_HEIGHT - 1))
-        return 0
-
-
-def check_contents(root, schedule, places, slots, first=0, last=None):
-    """In some columns each slot is drawn as it is, and no page is twice."""
-    run = played(schedule)
-    columns = Columns(root, first, run.last if last is None else last)
-    for number in places:
-        pages = []
-        for row, slot in zip(rows_of(root, "slot"), slots):
-            frame, page, _, count, state = (run.pools[number]["slots"][slot]
-                                            or 4 * [0] + [""])
-            same(columns.shown(row, number),
-                 (frame, page, state) if state else None,
-                 "slot %d after record %d" % (slot, number))
-            same(columns.count(row, number, schedule[5]),
-                 0 if state == "evicted" else count,
-                 "the count in slot %d after record %d" % (slot, number))
-            if state in ("in use", "not held"):
-                pages.append(page)
-        same(len(pages), len(set(pages)), "pages drawn twice at %d" % number)
-
-
-def spread(count, wanted=10):
-    """Some records, the first and the last among them."""
-    return {count * place // wanted for place in range(wanted)} | {count - 1}
+def near(places, most, what):
+    """Those that follow each other are no further apart than so much."""
+    for place, following in zip(places, places[1:]):
+        need(following - place <= most, "%s at %d and then at %d"
+             % (what, place, following))
 
 
 def check_legend(root):
     """It is wherever the reader is, and promises nothing that is not there."""
-    texts = [text for text in root.iter(SVG + "text")]
-    at = sorted({float(text.get("x")) for text in texts
-                 if text.text == "stages"})
-    need(all(b - a <= sheet.RAIL + sheet.NAME_WIDTH
-             for a, b in zip(at, at[1:])), "the legend's distances")
-    need(float(root.get("width")) - at[-1] < 2 * sheet.RAIL,
-         "the end of the picture has no legend")
-    promised = any("refusal's number" in (text.text or "") for text in texts)
-    numbers = [text for text in texts if text.get("class") in
-               {"in-phase%d" % place for place in range(4)}]
-    need(promised or not numbers, "numbers are there and not explained")
-    steps = [tip for tip in tips_of(rows_of(root, "client"))
-             if " does stage " in tip]
-    need(numbers or not promised or not steps,
-         "numbers are promised and not there")
+    width, height = float(root.get("width")), float(root.get("height"))
+    across = sorted({x for x, _ in headings(root, "stages")})
+    same({x for x, _ in headings(root, "slots")}, set(across), "legends")
+    near([*across, width - sheet.SCREEN / 3], 1.4 * sheet.SCREEN, "a legend")
+    down = [y for x, y in sorted(headings(root, "stages")
+                                 + headings(root, "slots")) if x == across[0]]
+    near([*sorted(down), height], 1.7 * picture.SCREEN, "a legend")
+    texts = list(root.iter(SVG + "text"))
+    promised = any("refusal's number" in text.text for text in texts)
+    numbers = any(text.get("class").startswith("in-phase") for text in texts)
+    steps = any(" does stage " in tip
+                for tip in tips_of(rows_of(root, "client")))
+    same(promised, numbers or not steps and promised, "a promise of numbers")
+    need(promised or any("no room for the numbers" in text.text
+                         for text in texts), "no word on missing numbers")
 
 
 def check_looks(root):
@@ -196,30 +101,15 @@ def check_looks(root):
              "looks without a rule")
 
 
-def drawn(schedule, **options):
-    return xml.etree.ElementTree.fromstring(
-        picture.draw(schedule, **options).encode())
-
-
-def check_picture(schedule):
-    """The picture is sound and tells what the report tells."""
-    root = drawn(schedule)
+def check_picture(schedule, **options):
+    """The picture is sound."""
+    root = Drawing(schedule, **options).root
     same({element.tag for element in root.iter()} - ELEMENTS, set(),
          "elements that are not expected")
-    clients, slots = rows_of(root, "client"), rows_of(root, "slot")
-    same([row.get("id") for row in clients],
-         ["client-%d" % client for client in range(schedule[4])],
-         "client rows")
-    same([row.get("id") for row in slots],
-         ["slot-%d" % slot for slot in range(schedule[3])], "slot rows")
-    check_steps(tips_of(clients), schedule)
-    check_slots(slots, schedule)
-    check_answers(root, schedule)
-    check_contents(root, schedule, spread(second.run(schedule)[1]),
-                   range(schedule[3]))
     check_legend(root)
     check_looks(root)
     check_apart(text_boxes(root), float(root.get("width")))
+    return root
 
 
 def pictures():
@@ -231,10 +121,17 @@ def pictures():
         if second.run(schedule)[1]:  # without a setup nothing can be drawn
             schedules.append(schedule)
     for schedule in schedules:
-        check_picture(schedule)
+        root = check_picture(schedule)
+        for name, count in (("slot", schedule[3]), ("client", schedule[4])):
+            same([row.get("id") for row in rows_of(root, name)],
+                 ["%s-%d" % (name, number) for number in range(count)],
+                 "the rows")
+        ended = second.run(schedule)[2]
+        same(any("ends the run" in (text.text or "")
+                 for text in root.iter(SVG + "text")), ended != 0,
+             "that the last record ends the run")
     return ("draw, %d pictures: well-formed, a row for each client and slot, "
-            "every step, grant, refusal and eviction, no text in another"
-            % len(schedules))
+            "the legend in sight, no text in another" % len(schedules))
 
 
 TWO_CANDIDATES = b"""\
@@ -250,18 +147,20 @@ step 1 times 6
 
 def candidates():
     """Two clients miss one page: it is drawn once, and the rest as meant."""
-    schedule = text.make(TWO_CANDIDATES)
-    root = drawn(schedule)
-    columns, rows = Columns(root, 0, 20), rows_of(root, "slot")
-    states = [[(columns.shown(row, column) or (0, 0, ""))[2]
-               for row in rows] for column in range(21)]
-    same(states[11:], [["", ""]] + 2 * [["candidate", ""]]
-         + 2 * [["in use", ""]] + 4 * [["in use", "candidate"]]
+    drawing = Drawing(text.make(TWO_CANDIDATES))
+    drawing.check()
+    states = [[content and content[4] for content in pool["slots"]]
+              for pool in drawing.run.pools]
+    same(states[11:], [[None, None]] + 2 * [["candidate", None]]
+         + 2 * [["in use", None]] + 4 * [["in use", "candidate"]]
          + [["in use", "evicted"]], "the two slots")
-    check_contents(root, schedule, range(21), range(2))
     labels = [[text.text for text in row.iter(SVG + "text")
-               if text.text.startswith(("for", "page"))] for row in rows]
+               if " " in text.text and not text.text.startswith("slot")]
+              for row in rows_of(drawing.root, "slot")]
     same(labels, [["page 9", "for 9"], ["for 9"]], "what is written there")
+    need(any("candidate" in (text.text or "")
+             for text in drawing.root.iter(SVG + "text")),
+         "the legend has no candidate")
     return "draw, a candidate is not drawn as a page"
 
 
@@ -274,32 +173,11 @@ PARTS = (  # options, and the clients and slots that are drawn
 )
 
 
-def check_part(schedule, whole, options, clients, slots):
-    """A part shows of its records and rows what the whole picture shows."""
-    root = drawn(schedule, **options)
-    for name, numbers in (("client", clients), ("slot", slots)):
-        same([row.get("id") for row in rows_of(root, name)],
-             ["%s-%d" % (name, number) for number in numbers], "the rows")
-    first, last = options.get("first", 0), options.get("last", 1999)
-    for row in rows_of(root, "client") + rows_of(root, "slot"):
-        theirs, = [other for other in whole.iter(SVG + "g")
-                   if other.get("id") == row.get("id")]
-        begins = re.compile(r"record (\d+): ")
-        due = [tip for tip in tips_of([theirs]) if begins.match(tip)
-               and first <= int(begins.match(tip)[1]) <= last]
-        same([tip for tip in tips_of([row]) if begins.match(tip)], due,
-             "what happens in " + row.get("id"))
-    before = {first - 1} if first else set()
-    check_contents(root, schedule, before | {first, last}, slots, first, last)
-    check_legend(root)
-    check_apart(text_boxes(root), float(root.get("width")))
-
-
 WRONG_PARTS = (  # options, and what is said of them
     (dict(first=2000), "there is no record 2000; this run has 0 to 1999"),
     (dict(last=2000), "there is no record 2000"),
     (dict(first=-1), "there is no record -1"),
-    (dict(first=9, last=8), "record 8 comes before record 9"),
+    (dict(first=9, last=8), "--from 9 --to 8: the last record comes before"),
     (dict(clients="5"), "there is no client 5; this run has 0 to 4"),
     (dict(slots="7-8"), "there is no slot 8; this run has 0 to 7"),
     (dict(slots="3-1"), "1 comes before 3"),
@@ -309,12 +187,33 @@ WRONG_PARTS = (  # options, and what is said of them
 )
 
 
+def said_of(root, words):
+    return any(words in (text.text or "") for text in root.iter(SVG + "text"))
+
+
+def check_part(schedule, options, clients, slots):
+    """Its rows are those asked for; what stands before it is told."""
+    root = xml.etree.ElementTree.fromstring(
+        picture.draw(schedule, **options).encode())
+    for name, numbers in (("client", clients), ("slot", slots)):
+        same([row.get("id") for row in rows_of(root, name)],
+             ["%s-%d" % (name, number) for number in numbers], "the rows")
+    first = options.get("first", 0)
+    same(said_of(root, "the pool before record %d" % first), first > 0,
+         "that the legend tells of the pool before")
+    same(any(line.get("class") == "before" for line in
+             root.iter(SVG + "line")), first > 0, "the line after it")
+    need(said_of(root, "Drawn: record"), "nothing says what is drawn")
+    check_legend(root)
+    check_looks(root)
+    check_apart(text_boxes(root), float(root.get("width")))
+
+
 def parts():
-    """Parts of a long run, with the state before them."""
+    """Parts of a long run; their columns are another test's."""
     schedule = crowded(8, 5, 1999)
-    whole = drawn(schedule)
     for options, clients, slots in PARTS:
-        check_part(schedule, whole, options, clients, slots)
+        check_part(schedule, options, clients, slots)
     for options, said in WRONG_PARTS:
         try:
             picture.draw(schedule, **options)
@@ -341,6 +240,10 @@ def greys():
         for colour, letter in zip(colours, symbols.LETTERS):
             need(abs(grey(colour) - grey(letter)) >= 90,
                  "%s on %s cannot be read" % (letter, colour))
+    for colours in symbols.FAINT.values():
+        order = sorted(map(grey, colours))
+        need(all(b - a >= 12 for a, b in zip(order, order[1:])),
+             "the greys of the bands are too near: %r" % order)
     return "draw, the phases of stages can be told apart in grey"
 
 

@@ -47,6 +47,7 @@ REFUSED = (  # a file, the refusal that ends its run, and parts of what is said
      ("has 16,394", "nothing was played", "16378 bytes", "2047 records")),
     (SETUP + 2**18 * STEP, 1, ("has more than 1,048,576", "16378 bytes")),
     (bytes(16385), 1, ("has 16,385", "no schedule file")),
+    (EXAMPLE + bytes(16384), 1, ("has 16,482", "damaged at byte 98")),
     (b"", 3, ("record 0 at byte 0", "it is empty", "make TEXT")),
     (SETUP[:9], 3, ("record 0 at byte 0", "1 byte short of 10")),
     (SETUP[:2], 3, ("record 0 at byte 0", "46 43, 8 bytes short of 10")),
@@ -116,8 +117,8 @@ def mistaken_files():
         (b"step 0\n", 3, "a text", "make 'a file' > schedule\n"),
         (b"# caf\xe9\n" + 3000 * b"step 0\n", 1, "a text", "make 'a file' >"),
         (b"FC, in words\n", 5, "a text", "make 'a file' > schedule\n"),
-        (LISTING, 4, "a report", "the schedule file that it is of"),
-        (drawn, 1, "a picture or a page", "the schedule file that it is of"),
+        (LISTING, 4, "a report", "the schedule file that it belongs to"),
+        (drawn, 1, "a picture or a page", "the schedule file that it belongs to"),
     )
     with a_top() as top:
         for given, refusal, what, advice in cases:

@@ -146,11 +146,15 @@ def many_errors():
     same(run("make", data=written),
          (1, b"", "".join("schedule: standard input: %s\n" % line
                           for line in said)), "what the program says")
-    said = complaint(b"step 0\n" + 25 * b"stop\n").split("\n")
+    said = complaint(b"step 0\n" + 105 * b"stop\n").split("\n")
     same([line.split()[1] for line in said[:-1]],
-         ["%d:" % number for number in range(2, 22)], "the lines told of")
+         ["%d:" % number for number in range(2, 102)], "the lines told of")
     same(said[-1], "and 5 more", "what is said of the others")
-    same(len(complaint(20 * b"stop\n").split("\n")), 20, "20 lines")
+    same(len(complaint(100 * b"stop\n").split("\n")), 100, "100 lines")
+    said = complaint(b"\nsetup slots 256 clients 300 cap nine hands 0\n")
+    same([line[:16] for line in said.split("\n")],
+         ["line 2: slots 25", "line 2: clients ", "line 2: 'nine' i"],
+         "all that is wrong with one line, as far as it can be read")
     return "make, texts with several errors: each with its line"
 
 
@@ -192,7 +196,7 @@ WARNINGS = (  # a text, and the parts of each warning of it
 def warnings_of_texts():
     """Of what no pool can play; the file is made all the same."""
     for written, expected in WARNINGS:
-        said = text.warnings(written.encode())
+        said = text.warnings(text.read_text(written.encode()))
         same(len(said), len(expected), "the number of warnings of %.80r: %s"
              % (written, said))
         for line, parts in zip(said, expected):
@@ -205,8 +209,8 @@ def warnings_of_texts():
              (0, made, "".join("schedule: warning: standard input: %s\n"
                                % line for line in said)),
              "what the program makes and says")
-    said = text.warnings(30 * GOOD.encode())
-    same((len(said), said[-1]), (21, "and 9 more"), "warnings of 30 setups")
+    said = text.warnings(text.read_text(130 * GOOD.encode()))
+    same((len(said), said[-1]), (101, "and 29 more"), "warnings of setups")
     return "make, %d texts with and without warnings" % len(WARNINGS)
 
 

@@ -30,11 +30,12 @@ Pictures:
     picture       the picture of a run
     page          a page to step through a run
 
-What ./replay is made of:
+What ./replay is made of, and tools/schedule shares:
 
+    console       how the two read, speak and end
+    output        standard output, written whole
     playing       the proved program, built and run
     endings       why a run ended, in words
-    output        standard output, written whole
 """
 
 import pathlib
@@ -48,3 +49,7 @@ sys.path.insert(0, str(TOP / "tests"))
 
 class BadInput(Exception):
     """What was given to read is wrong; a line for each fault."""
+
+
+class BadUsage(BadInput):
+    """What was asked for makes no sense, whatever there is to read."""

@@ -4,8 +4,8 @@ import shlex
 from typing import NamedTuple
 
 from . import BadInput, text, words
+from .console import MOST_READ
 from .output import NotWritten
-from .playing import MOST_READ
 from .records import (CALL_LENGTH, LONGEST_FILE, MARK, NAMES, SETUP_LENGTH,
                       length, read, read_one)
 from .report import read_line
@@ -42,7 +42,7 @@ def end_of(schedule, report):
 NO_SCHEDULE = "this is no schedule file; tools/schedule --help has the form"
 MAKE = "to make a schedule file of a text: tools/schedule make %s > schedule"
 PIPE = "to play a text: tools/schedule make | ./replay"
-GIVE = "give the schedule file that it is of"
+GIVE = "give the schedule file that it belongs to"
 
 
 def mistaken(schedule, path):
@@ -63,10 +63,13 @@ def mistaken(schedule, path):
 def too_long(_, schedule):
     size = "{}{:,}".format("more than " if len(schedule) > MOST_READ else "",
                            min(len(schedule), MOST_READ))
-    fitting, _ = read(schedule)
-    return ("it has %s, and nothing was played" % size,
-            "keep its first %d bytes, the %d records that fit"
-            % (fitting[-1].end, len(fitting)) if fitting else NO_SCHEDULE)
+    fitting, damage = read(schedule)
+    what = "it has %s, and nothing was played" % size
+    if damage.refusal > 1:
+        return what, ("besides, it is damaged at byte %d" % damage.at
+                      if fitting else NO_SCHEDULE)
+    return what, ("keep its first %d bytes, the %d records that fit"
+                  % (damage.at, len(fitting)))
 
 
 def cut(end, schedule):

@@ -93,23 +93,21 @@ def left_over(data, records, answers):
             % (words.count(len(data) - at, "byte"), at, why)]
 
 
-def unlike(known, answers):
-    """A line where a report leaves the run that is known."""
-    if known == len(answers):
+def unlike(run, answers):
+    """A line where answers leave the run that is known, if they do."""
+    known = agreed(run, answers)
+    if not run.calls or known == len(answers):
         return []
     return ["from record %d on the answers are not those of this schedule's "
-            "run: what happened is not known" % known]
+            "run" % known]
 
 
 def explain(data, answers):
     """The text that explains a schedule file by the answers to it."""
     records, _ = read(data)
     run = Run(data)
-    known = agreed(run, answers)
-    happened = happenings.of_run(run)[:known]
+    happened = happenings.of_run(run)[:agreed(run, answers)]
     lines = [*lines_of(COLUMNS, rows_of(records, answers, happened)),
-             *left_over(data, records, answers)]
-    if run.calls:
-        lines += unlike(known, answers)
-    lines += ["", *totals_of(Totals(records, answers))]
+             *left_over(data, records, answers), *unlike(run, answers), "",
+             *totals_of(Totals(records, answers))]
     return "".join(line.rstrip() + "\n" for line in lines)

@@ -27,10 +27,6 @@ class Step:
     def page(self):
         return self.was.wanted
 
-    def frame(self, number):
-        """A frame and its page, as they were before the step."""
-        return "frame %d (page %d)" % (number, self.before.frames[number].page)
-
     def raised(self, frame):
         """What became of the count of the frame that is granted."""
         was, now = (moment.frames[frame].count
@@ -119,7 +115,7 @@ def stage10(step):
 def stage11(step):
     slot = step.was.place
     if step.call.stage == 12:
-        return "slot %d: %s" % (slot, step.frame(step.now.victim))
+        return "slot %d: %s" % (slot, step.before.told(step.now.victim))
     return "slot %d is claimed and still empty, %s" % (slot,
                                                        step.busy_visit())
 
@@ -151,8 +147,9 @@ def stage14(step):
     victim = step.was.victim
     page, pins, count = step.before.frames[victim]
     if step.call.stage == 15:
-        return "page %d loses frame %d: its count was %d" % (page, victim,
-                                                             count)
+        # This stage looks at the pins alone: others may have used the page.
+        return "page %d loses frame %d: its count was 0%s" % (
+            page, victim, " at 13 and is %d by now" % count if count else "")
     return "frame %d is %s by now: %s" % (victim, EVICTED if pins < 0
                                           else IN_USE, step.following())
 
@@ -165,8 +162,7 @@ def stage15(step):
         step.was.victim, step.was.place, step.following())
 
 
-def stage16(step):
-    return step.hand()
+stage16 = stage9
 
 
 def stage17(step):
@@ -214,8 +210,7 @@ def stage22(step):
         step.page, step.call.value, step.was.found)
 
 
-def stage23(step):
-    return "gives its candidate up: frame %d is evicted" % step.was.own
+stage23 = stage20
 
 
 STAGES = (stage1, stage2, stage3, stage4, stage5, stage6, stage7, stage8,

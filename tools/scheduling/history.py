@@ -31,12 +31,19 @@ class Content(NamedTuple):
     page: int
     frame: int
     state: str
+    told: str  # all that in words
 
     @property
-    def label(self):
-        """What to write: of a candidate not that it is a page."""
-        return ("for %d" if self.state == CANDIDATE else "page %d") \
-            % self.page
+    def labels(self):
+        """What to write: the first that there is room for.
+
+        It is called a page only where it is the page's copy.
+        """
+        if self.state == CANDIDATE:
+            return ("for %d" % self.page,)
+        if self.state == EVICTED:
+            return ("was for %d" % self.page,)
+        return "page %d" % self.page, str(self.page)
 
 
 class Grant(NamedTuple):
@@ -77,7 +84,8 @@ def content(moment, frame):
     """What to say of a slot that names the frame, if any."""
     if frame is None:
         return None
-    return Content(moment.frames[frame].page, frame, moment.state(frame))
+    return Content(moment.frames[frame].page, frame, moment.state(frame),
+                   moment.told(frame))
 
 
 def count(moment, frame):
@@ -141,6 +149,8 @@ class History:
         self.counts = [spans(count(moment, moment.slots[slot])
                              for moment in moments)
                        for slot in range(size)]
+        self.most_count = max((span.what for row in self.counts
+                               for span in row), default=0)
         self.hands = spans(moment.hand % size for moment in moments)
         self.marks = list(marks_of(run))
         self.grants = [grants_of(client, self.calls)

@@ -32,11 +32,19 @@ def hand(canvas, x, y):
 
 def count(canvas, x, y):
     for place in range(3):
-        symbols.count(canvas, x + 7 * place, y + 5, 7, 10, 1 - place / 3)
+        symbols.count(canvas, x + 7 * place, y + 5, 7, 10, 3 - place, 3)
 
 
-def of_clients(numbered):
-    """The lines about clients; narrow columns have no numbers."""
+def before(canvas, x, y):
+    middle = x + SAMPLE_WIDTH / 2
+    canvas.line(middle, y - 7, middle, y + 7, look="before")
+
+
+def of_clients(numbered, first):
+    """The lines about clients; narrow columns have no numbers.
+
+    Where the first record is not the run's, something stands before it.
+    """
     stages = [(box("phase%d" % place), "%d-%d %s" % phase)
               for place, phase in enumerate(words.PHASES)]
     stages.append((box("faint2", 8), "stands there while others act"))
@@ -45,11 +53,14 @@ def of_clients(numbered):
              (shape(symbols.refusal), "refused (with the refusal's number)"
               if numbered else "refused"),
              (grant, "grant of a page, from its answer to its release")]
+    if first:
+        calls.append((before, "left of it, the pool before record %d"
+                      % first))
     return ("stages", stages), ("clients", calls)
 
 
-def of_slots():
-    """The lines about slots."""
+def of_slots(most_count):
+    """The lines about slots; the highest count has the highest bar."""
     contents = [
         (box(symbols.CONTENTS[IN_USE]), "page in use"),
         (box(symbols.CONTENTS[UNHELD]), "page that nobody uses"),
@@ -58,7 +69,7 @@ def of_slots():
         (box(symbols.CONTENTS[EVICTED]), "evicted frame"),
         (hand, "hand's slot")]
     marks = [
-        (count, "reference count, full height is the cap C"),
+        (count, "reference count, the highest is %d" % most_count),
         (shape(symbols.drop), "drop (14 evicts)"),
         (shape(symbols.given_up), "candidate given up (20, 23)"),
         (shape(symbols.revival), "page revived (22)")]
@@ -69,9 +80,23 @@ def item_width(text):
     return SAMPLE_WIDTH + SAMPLE_GAP + text_width(text, SIZE) + ITEM_GAP
 
 
-def width():
+def broken(lines, width):
+    """The same lines, none of them wider than so much."""
+    found = []
+    for heading, items in lines:
+        found.append((heading, []))
+        room = width - HEADING_WIDTH
+        for item in items:
+            if found[-1][1] and item_width(item[1]) > room:
+                found.append((None, []))
+                room = width - HEADING_WIDTH
+            found[-1][1].append(item)
+            room -= item_width(item[1])
+    return found
+
+
+def width(lines):
     """How wide the widest line is."""
-    lines = *of_clients(True), *of_slots()
     return HEADING_WIDTH + max(sum(item_width(text) for _, text in items)
                                for _, items in lines)
 
@@ -84,8 +109,9 @@ def draw(canvas, left, y, lines):
     """Draw some lines of the legend from a height on."""
     for heading, items in lines:
         y += LINE_HEIGHT
-        canvas.text(left, y + 4, heading, font_size=SIZE,
-                    font_weight="bold", look="ink")
+        if heading:
+            canvas.text(left, y + 4, heading, font_size=SIZE,
+                        font_weight="bold", look="ink")
         x = left + HEADING_WIDTH
         for sample, text in items:
             sample(canvas, x, y)

@@ -2,8 +2,8 @@
 
 A few pages are hot and most are seldom asked for. All clients but the last
 pick pages by their heat and keep some of them for long. The last one walks
-over all pages in order, at leisure, and keeps none for long. Who acts next is
-drawn, so requests overlap. A client that is refused for want of a frame gives
+over all pages in order, evenly over the day, and keeps none for long. Who
+acts next is drawn, so requests overlap. A client that is refused for want of a frame gives
 back what it has and asks again.
 """
 
@@ -14,7 +14,7 @@ from typing import NamedTuple
 import second
 from generate import Dice, Script
 
-from . import BadInput
+from . import BadInput, BadUsage
 
 
 class Numbers(NamedTuple):
@@ -25,7 +25,7 @@ class Numbers(NamedTuple):
     pages: int = 40
     requests: int = 200
     seed: int = 1
-    skew: float = 1.5
+    skew: float = 2.0
     cap: int = 3
 
 
@@ -35,8 +35,8 @@ RANGES = {  # the least and the most; None: there is no most
     "skew": (0, 10), "cap": (1, second.MOST_COUNT)}
 
 MOST_STEPS = 6  # that a client does in one turn
-# For how many turns, of all clients together, a page is kept.
-SHORT, LONG, WALKING = (2, 12), (30, 120), (20, 40)
+SHORT, LONG = (2, 12), (30, 120)  # for how many turns a page is kept
+WALK_SHARE = 3  # at most one request in so many is the walk's
 
 
 def check(numbers):
@@ -45,7 +45,7 @@ def check(numbers):
         value = getattr(numbers, name)
         # A skew that is no number compares as false.
         if not (least <= value and (most is None or value <= most)):
-            raise BadInput("--%s %s: expected %d %s" % (
+            raise BadUsage("--%s %s: expected %d %s" % (
                 name, value, least,
                 "or more" if most is None else "to %d" % most))
 
@@ -70,6 +70,7 @@ class Person:
         self.client, self.most_held = client, most_held
         self.next_page = next_page  # draws the page for a request
         self.keeps = keeps  # draws for how long
+        self.begun = 0
         self.due = {}  # for each page held, when it is given back
         self.wants = None  # a page still to be granted
 
@@ -77,27 +78,43 @@ class Person:
 class Day:
     """A script that is written turn by turn."""
 
-    def __init__(self, numbers):
+    def __init__(self, numbers, requests):
         self.dice = dice = Dice(numbers.seed)
         self.script = Script(numbers.slots, numbers.clients, numbers.cap, 0)
-        self.now = self.begun = 0
+        self.now, self.requests = 0, requests
         heat = Heat(dice, numbers.pages, numbers.skew)
         # Most of the time not all slots are held.
         share = min(max(1, numbers.slots // numbers.clients + 1), 4)
         self.people = [Person(client, share, heat.page, self.mixed)
                        for client in range(numbers.clients)]
+        self.walk, self.walker = min(numbers.pages,
+                                     requests // WALK_SHARE), None
         if numbers.clients > 1:
-            walk = itertools.cycle(range(numbers.pages))
-            self.people[-1] = Person(numbers.clients - 1, 1,
-                                     lambda: next(walk), self.walking)
+            pages = itertools.cycle(range(numbers.pages))
+            self.walker = self.people[-1] = Person(
+                numbers.clients - 1, 1, lambda: next(pages), self.short)
 
-    def walking(self):
-        return self.dice.between(*WALKING)
+    def short(self):
+        return self.dice.between(*SHORT)
 
     def mixed(self):
         """One page in four is kept for long."""
         return self.dice.between(*(LONG if self.dice.chance(1, 4)
                                    else SHORT))
+
+    def begun(self):
+        return sum(person.begun for person in self.people)
+
+    def is_behind(self):
+        """Whether the walk has to go on, to be over with the day."""
+        return (self.walker is not None and self.walker.begun * self.requests
+                < self.walk * self.begun())
+
+    def next_person(self):
+        """Anyone; while the walk is behind, its client every other time."""
+        if self.is_behind() and self.dice.chance(1, 2):
+            return self.walker
+        return self.dice.pick(self.people)
 
     def full(self):
         return not self.script.room()
@@ -115,7 +132,8 @@ class Day:
         late = [page for page, due in person.due.items() if due <= self.now]
         if late:
             self.give_back(person, late[0])
-        elif len(person.due) < person.most_held:
+        elif len(person.due) < person.most_held and (
+                person is not self.walker or self.is_behind()):
             self.ask(person)
 
     def answered(self, person):
@@ -136,14 +154,14 @@ class Day:
             if person.wants in person.due:  # it has that one
                 person.wants = None
                 return
-        self.begun += 1
+        person.begun += 1
         self.script.begin(person.client, person.wants)
 
-    def play(self, requests):
+    def play(self):
         """All requests from the first begin to the last release."""
-        while self.begun < requests and not self.full():
+        while self.begun() < self.requests and not self.full():
             self.now += 1
-            self.turn(self.dice.pick(self.people))
+            self.turn(self.next_person())
         for client in range(len(self.people)):
             self.script.finish(client)
             for page in self.script.held(client):
@@ -154,11 +172,11 @@ class Day:
 def make_up(numbers):
     """The file, and how many of the requests have room in it."""
     check(numbers)
-    day = Day(numbers).play(numbers.requests)
-    requests = day.begun
+    day = Day(numbers, numbers.requests).play()
+    requests = day.begun()
     while day.full():
         requests -= 1
         if requests == 0:
             raise BadInput("not one request has room in a schedule file")
-        day = Day(numbers).play(requests)
+        day = Day(numbers, requests).play()
     return bytes(day.script.data), requests

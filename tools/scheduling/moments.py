@@ -11,7 +11,7 @@ import second
 
 from . import BadInput, words
 from .records import SETUP, STEP, read
-from .report import DONE, REFUSAL, WORKING
+from .report import DONE, REFUSAL, WORKING, refusal_of
 
 # What can be said of a frame in a slot. A candidate is what the
 # specification calls placed: its page is not in the table with this frame
@@ -60,6 +60,17 @@ class Moment(NamedTuple):
             return CANDIDATE
         return IN_USE if pins else UNHELD
 
+    def told(self, frame):
+        """A frame that stands in a slot, in words.
+
+        It has a page only where the table has the page with it: else two
+        copies of a page could be read out of it that nobody was given.
+        """
+        return {CANDIDATE: "frame %d, a candidate for page %d",
+                EVICTED: "frame %d, evicted, which was for page %d"}.get(
+                    self.state(frame), "frame %d with page %d") % (
+                        frame, self.frames[frame].page)
+
     def slot_of(self, frame):
         """The slot that names a frame, or None."""
         return self.slots.index(frame) if frame in self.slots else None
@@ -82,7 +93,7 @@ class Call(NamedTuple):
 
     @property
     def refusal(self):
-        return self.code - REFUSAL if self.code > REFUSAL else 0
+        return refusal_of(self.code)
 
     @property
     def stage(self):
@@ -199,9 +210,6 @@ def run_to(purpose, data):
     """The run of a schedule file, which must have one for this purpose."""
     run = Run(data)
     if not run.calls:
-        raise BadInput(no_run_to(purpose, run.refusal))
+        raise BadInput("there is no run to %s: %s"
+                       % (purpose, words.refused(run.refusal)))
     return run
-
-
-def no_run_to(purpose, refusal):
-    return "there is no run to %s: %s" % (purpose, words.refused(refusal))

@@ -3,7 +3,7 @@
 import re
 from typing import List, NamedTuple
 
-from . import BadInput
+from . import BadInput, BadUsage
 from .text import quoted
 
 ITEM = re.compile(r"(\d{1,9})(?:-(\d{1,9}))?")
@@ -44,11 +44,11 @@ def numbers(written, what, count):
     for item in written.split(","):
         match = ITEM.fullmatch(item.strip())
         if not match:
-            raise BadInput("--%ss %s: expected numbers such as 0,3 or 0-7"
+            raise BadUsage("--%ss %s: expected numbers such as 0,3 or 0-7"
                            % (what, quoted(written)))
         low, high = int(match[1]), int(match[2] or match[1])
         if high < low:
-            raise BadInput("--%ss %s: %d comes before %d"
+            raise BadUsage("--%ss %s: %d comes before %d"
                            % (what, quoted(written), high, low))
         if high >= count:
             raise BadInput("there is no %s %d; this run has %s"
@@ -66,6 +66,7 @@ def of(setup, records, first=None, last=None, clients=None, slots=None):
             raise BadInput("there is no record %d; this run has %s"
                            % (number, limits(records)))
     if last < first:
-        raise BadInput("record %d comes before record %d" % (last, first))
+        raise BadUsage("--from %d --to %d: the last record comes before the "
+                       "first" % (first, last))
     return Part(first, last, numbers(clients, "client", setup[1]),
                 numbers(slots, "slot", setup[0]))

@@ -13,25 +13,39 @@ from . import legend, symbols, words
 from . import part as parts
 from .client_rows import ClientRows
 from .history import History
-from .sheet import MARGIN, NAME_GAP, SMALL, WIDTHS, Sheet
+from .sheet import MARGIN, NAME_GAP, NARROW_LEGEND, SMALL, WIDTHS, Sheet
 from .slot_rows import SlotRows
 
 TITLE = "A run of the page buffer pool"
 TITLE_SIZE, SUBTITLE_SIZE, FOOT_SIZE = 18, 13, 11
 AXIS_HEIGHT, FOOT_HEIGHT = 26, 8
-SCREEN = 700  # what is higher has its legend at both ends
+SCREEN = 700  # rows are drawn in blocks that are about so high
 
 
-def listed(numbers):
-    """Numbers with ranges, as '0 to 3, 7'."""
+def listed(name, numbers):
+    """A name and numbers with ranges, as 'slots 0 to 3, 7'."""
     runs = []
     for number in numbers:
         if runs and runs[-1][-1] == number - 1:
             runs[-1] = runs[-1][0], number
         else:
             runs.append((number, number))
-    return ", ".join(str(low) if low == high else "%d to %d" % (low, high)
-                     for low, high in runs)
+    return "%s%s %s" % (name, "s" if len(numbers) > 1 else "", ", ".join(
+        str(low) if low == high else "%d to %d" % (low, high)
+        for low, high in runs))
+
+
+def blocks(rows):
+    """Rows in groups of about the same height, none much above a screen."""
+    whole = sum(height for _, _, height in rows)
+    most = whole / max(1, round(whole / SCREEN))
+    groups, so_far = [[]], 0
+    for row in rows:
+        if groups[-1] and so_far + row[-1] / 2 > most * len(groups):
+            groups.append([])
+        groups[-1].append(row)
+        so_far += row[-1]
+    return groups
 
 
 class Picture:
@@ -43,30 +57,33 @@ class Picture:
         self.canvas = self.sheet.canvas
 
     def draw(self):
+        clients = legend.of_clients(self.sheet.numbered, self.part.first)
+        slots = legend.of_slots(self.history.most_count)
+        if self.sheet.scrolled:
+            clients, slots = (legend.broken(lines, NARROW_LEGEND)
+                              for lines in (clients, slots))
         y = self.draw_head()
-        y = self.draw_rows(y, legend.of_clients(self.sheet.numbered),
-                           ClientRows(self.sheet, self.history).rows())
-        y = self.draw_rows(y, legend.of_slots(),
-                           SlotRows(self.sheet, self.history).rows())
+        for lines, rows in ((clients, ClientRows), (slots, SlotRows)):
+            for block in blocks(rows(self.sheet, self.history).rows()):
+                y = self.draw_block(y, lines, block)
         self.draw_foot(y)
-        return self.canvas.whole(math.ceil(self.sheet.width),
+        width = max(self.sheet.width, *(legend.width(lines) + 2 * MARGIN
+                                        for lines in (clients, slots)))
+        return self.canvas.whole(math.ceil(width),
                                  math.ceil(y + FOOT_HEIGHT + MARGIN), TITLE,
                                  symbols.style(), symbols.DEFS)
 
-    def draw_rows(self, y, lines, rows):
-        """Rows under their legend and between two axes; where they end.
-
-        What is higher than a screen has the legend at its end, too.
-        """
-        top = self.draw_legend(y, lines) + AXIS_HEIGHT
+    def draw_block(self, y, lines, rows):
+        """Rows under their legend and between two axes; where they end."""
+        for x in (MARGIN, *self.sheet.rails()):
+            legend.draw(self.canvas, x, y, lines)
+        top = y + legend.height(lines) + AXIS_HEIGHT
         bottom = top + sum(height for _, _, height in rows)
         self.draw_columns(top, bottom)
-        y = top
         for draw_row, number, height in rows:
-            draw_row(number, y)
-            y += height
-        y += AXIS_HEIGHT
-        return self.draw_legend(y, lines) if bottom - top > SCREEN else y
+            draw_row(number, top)
+            top += height
+        return bottom + AXIS_HEIGHT
 
     def draw_head(self):
         """The title; where it ends."""
@@ -84,9 +101,9 @@ class Picture:
                           words.count(history.columns, "record"))
         whole = parts.of(history.setup, history.columns)
         if part != whole:
-            yield "Drawn: records %s; clients %s; slots %s" % (
-                listed(range(part.first, part.last + 1)),
-                listed(part.clients), listed(part.slots))
+            yield "Drawn: %s; %s; %s" % (
+                listed("record", range(part.first, part.last + 1)),
+                listed("client", part.clients), listed("slot", part.slots))
         if history.refusal and part.last == whole.last:
             yield ("The last record ends the run, %s."
                    % words.refused(history.refusal))
@@ -95,23 +112,15 @@ class Picture:
                    "of stages and refusals; a part of at most %d records, by "
                    "--from and --to, has it." % (WIDTHS[1][0] - 1))
 
-    def draw_legend(self, y, lines):
-        """The same lines wherever the reader has scrolled to; their end."""
-        for x in (MARGIN, *self.sheet.rails()):
-            if x + legend.width() <= self.sheet.width:
-                legend.draw(self.canvas, x, y, lines)
-        return y + legend.height(lines)
-
     def draw_columns(self, top, bottom):
         """Numbers, and lines that lead the eye to them."""
         sheet = self.sheet
-        if self.part.origin < self.part.first:
-            self.canvas.box(sheet.left, top - 4, sheet.column,
-                            bottom - top + 8, look="before",
-                            tip="the pool before record %d" % self.part.first)
         for column in sheet.ticks():
             x = sheet.middle(column)
             self.canvas.line(x, top - 4, x, bottom + 4, look="grid")
+        if self.part.origin < self.part.first:
+            x = sheet.x(self.part.first)
+            self.canvas.line(x, top - 12, x, bottom + 12, look="before")
         self.draw_axis(top - 8)
         self.draw_axis(bottom + 16)
 
@@ -126,11 +135,9 @@ class Picture:
                          font_size=FOOT_SIZE, text_anchor="end")
 
     def draw_foot(self, y):
-        before = ("; the first column is the pool before them"
-                  if self.part.origin < self.part.first else "")
         self.canvas.text(self.sheet.left, y + 8, "time: one column for each "
-                         "record, which shows the pool as the record left it"
-                         + before, font_size=FOOT_SIZE, look="grey")
+                         "record, which shows the pool as the record left it",
+                         font_size=FOOT_SIZE, look="grey")
 
 
 def draw(data, **options):

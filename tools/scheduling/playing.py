@@ -10,26 +10,18 @@ import os
 import re
 import signal
 import subprocess
-import sys
 import time
 
-from . import TOP
+from . import TOP, console
 from .output import NotWritten
 from .report import PROGRAM, is_built
-
-MOST_READ = 2**20  # bytes; far more than are played, so that they are counted
-
 
 class NotPlayed(Exception):
     """Nothing can be played; a line that says why."""
 
 
 def say(message):
-    """Write a line to standard error, if that can be written to."""
-    if sys.stderr is not None:
-        line = "replay: %s\n" % message
-        with contextlib.suppress(OSError):
-            os.write(2, line.encode(sys.stderr.encoding, "backslashreplace"))
+    console.say("replay", message)
 
 
 # The program, proved and built.
@@ -157,16 +149,5 @@ def play(schedule):
     if done.returncode:
         raise NotWritten("target/bin/replay ended with exit status %d and "
                          "maybe half a report; remove it and run this again"
-                         % done.returncode)
-    return done.stdout
-
-
-def explain(schedule):
-    """The report in words, as tools/schedule explains it."""
-    done = subprocess.run([sys.executable, TOP / "tools" / "schedule",
-                           "explain"], input=schedule, stdout=subprocess.PIPE)
-    if done.returncode:
-        raise NotWritten("tools/schedule explain ended with exit status %d; "
-                         "run this without --explain to see the report"
                          % done.returncode)
     return done.stdout

@@ -11,7 +11,7 @@ from typing import NamedTuple
 import second
 
 from . import TOP, BadInput, words
-from .records import read
+from .records import NAMES, STEP, read
 
 DONE, WORKING, GRANTED, REFUSAL = (second.DONE, second.WORKING,
                                    second.GRANTED, second.REFUSAL)
@@ -19,6 +19,11 @@ DONE, WORKING, GRANTED, REFUSAL = (second.DONE, second.WORKING,
 PROGRAM = TOP / "target" / "bin" / "replay"  # the proved one, once built
 
 LINE = re.compile(rb"([0-9]{1,10}) ([0-9]{1,10}) ([0-9]{1,10}) ([0-9]{1,10})")
+
+
+def refusal_of(code):
+    """The number of the refusal that a code stands for, or 0."""
+    return code - REFUSAL if code > REFUSAL else 0
 
 
 class Answer(NamedTuple):
@@ -31,8 +36,7 @@ class Answer(NamedTuple):
 
     @property
     def refusal(self):
-        """The number of the refusal, or 0."""
-        return self.code - REFUSAL if self.code > REFUSAL else 0
+        return refusal_of(self.code)
 
     @property
     def ends_run(self):
@@ -52,6 +56,14 @@ def read_line(line):
     return answer
 
 
+def check_code(code, kind):
+    """Complain of a code that no record of its kind can have."""
+    fitting = (WORKING, GRANTED) if kind == STEP else (DONE,)
+    if code not in fitting and not refusal_of(code):
+        raise BadInput("it says code %d, which no %s has; is this the report "
+                       "of another schedule?" % (code, NAMES[kind]))
+
+
 def check_place(answer, number, records, damage):
     """Complain unless the line can be the answer to record 'number'."""
     if answer.number != number:
@@ -64,6 +76,7 @@ def check_place(answer, number, records, damage):
     expected = 0
     if number < len(records) and not answer.ends_run:
         expected = records[number].client or 0
+        check_code(answer.code, records[number].kind)
     if answer.client != expected:
         raise BadInput("it says client %d, but record %d is of client %d; is "
                        "this the report of another schedule?"
@@ -101,7 +114,12 @@ def proved_report(schedule):
     """The report of the proved program, or None while it is not built."""
     if not is_built():
         return None
-    done = subprocess.run([PROGRAM], input=schedule, stdout=subprocess.PIPE)
+    try:
+        done = subprocess.run([PROGRAM], input=schedule,
+                              stdout=subprocess.PIPE)
+    except OSError as wrong:
+        raise BadInput("target/bin/replay cannot be run: %s"
+                       % wrong.strerror) from None
     if done.returncode:
         raise BadInput("target/bin/replay ended with exit status %d"
                        % done.returncode)
@@ -114,7 +132,9 @@ def second_report(schedule):
 
 
 def check_alike(schedule):
-    """Complain where the two programs are there and do not agree."""
-    if proved_report(schedule) not in (None, second_report(schedule)):
+    """Complain where the programs do not agree; whether both are there."""
+    proved = proved_report(schedule)
+    if proved not in (None, second_report(schedule)):
         raise BadInput("target/bin/replay and tests/second.py report "
                        "differently: one of them is wrong")
+    return proved is not None

@@ -1,11 +1,15 @@
 """Where things go on a picture: columns, names, what is in sight."""
 
-from . import legend
+import math
+
 from .svg import Canvas
 
 MARGIN = 16  # around everything
 NAME_WIDTH, NAME_GAP = 66, 8  # for the names of rows, at both ends
-RAIL = 1200  # names and legend are repeated at this distance, for who scrolls
+
+# A picture wider than this is scrolled: names and legend are repeated about
+# as often as a screen is wide, and the legend is kept narrow.
+SCREEN, NARROW_LEGEND, LEGEND_GAP = 1200, 720, 40
 
 NAME_SIZE, SMALL = 12, 10  # of letters
 
@@ -35,8 +39,8 @@ class Sheet:
         self.symbol = min(6.5, max(3, self.column * 0.36))  # half its size
         self.left = MARGIN + NAME_WIDTH
         self.right = self.left + self.column * part.columns
-        self.width = MARGIN + max(self.right + NAME_WIDTH,
-                                  MARGIN + legend.width())
+        self.width = self.right + NAME_WIDTH + MARGIN
+        self.scrolled = self.width > 1.5 * SCREEN
 
     def x(self, column):
         return self.left + self.column * (column - self.part.origin)
@@ -51,8 +55,13 @@ class Sheet:
         return [span for span in clipped if span is not None]
 
     def rails(self):
-        """Where names are repeated, from left to right."""
-        return range(self.left + RAIL, int(self.right) - RAIL // 2, RAIL)
+        """Where names and legend stand again; the last one at the end."""
+        if not self.scrolled:
+            return []
+        room = self.width - 2 * MARGIN - NARROW_LEGEND
+        times = max(1, min(math.ceil(room / SCREEN),
+                           int(room / (NARROW_LEGEND + LEGEND_GAP))))
+        return [MARGIN + room * time / times for time in range(1, times + 1)]
 
     def ticks(self):
         """The columns that have a number; the first one has, if it can."""

@@ -1,7 +1,7 @@
 """The rows of slots: the page in each, its count, what happens to it."""
 
 from . import symbols
-from .moments import CANDIDATE, EVICTED
+from .moments import CANDIDATE, IN_USE, UNHELD
 from .sheet import SMALL
 from .svg import Lane
 
@@ -21,7 +21,7 @@ class SlotRows:
 
     def __init__(self, sheet, history):
         self.sheet, self.canvas, self.part = sheet, sheet.canvas, sheet.part
-        self.history, self.cap = history, history.setup[2]
+        self.history = history
         self.page_height = 18 if len(self.part.slots) <= 16 else 14
 
     def rows(self):
@@ -45,16 +45,15 @@ class SlotRows:
         self.canvas.close("g")
 
     def draw_content(self, slot, span, y):
-        page, frame, state = span.what
-        x = self.sheet.x(span.first)
+        state, x = span.what.state, self.sheet.x(span.first)
         inset = 0.5 if state == CANDIDATE else 0  # its edge is a line
-        what = ("frame %d, a candidate for page %d that nobody was given"
-                if state == CANDIDATE else "frame %d with page %d, " + state)
+        tip = "slot %d: %s" % (slot, span.what.told)
         self.canvas.box(x + inset, y + inset,
                         self.sheet.x(span.end) - x - 2 * inset,
                         self.page_height - 2 * inset,
                         look=symbols.CONTENTS[state],
-                        tip="slot %d: %s" % (slot, what % (frame, page)))
+                        tip=tip + (", " + state if state in (IN_USE, UNHELD)
+                                   else ""))
 
     def draw_labels(self, slot, bottom, marks):
         """What comes into the slot, and the same again at the rails."""
@@ -71,12 +70,11 @@ class SlotRows:
                                  look="comes")
             begin = (sheet.middle(column) + sheet.symbol + 3
                      if column in marked else x + 4)
-            lane.put(begin, right - 2, content.label, str(content.page),
-                     look="ink")
+            lane.put(begin, right - 2, *content.labels, look="ink")
             for rail in sheet.rails():
                 if x < rail < right:
                     lane.put(rail, right - 2, "slot %d: %s"
-                             % (slot, content.label), look="ink")
+                             % (slot, content.labels[0]), look="ink")
 
     def labels(self, slot):
         """The labels in sight: from where to where, what, if it comes."""
@@ -98,8 +96,10 @@ class SlotRows:
         for span in sheet.seen(self.history.counts[slot]):
             x, end = sheet.x(span.first), sheet.x(span.end)
             symbols.count(self.canvas, x, bottom, end - x, COUNT_HEIGHT - 1,
-                          span.what / self.cap)
-            lane.put(x + 2, end, str(span.what), look="ink")
+                          span.what, self.history.most_count)
+            for place in (x + 2, *sheet.rails()):
+                if place > x:
+                    lane.put(place, end, str(span.what), look="ink")
 
     def draw_hand(self, slot, y):
         for span in self.sheet.seen(self.history.hands):
@@ -118,14 +118,14 @@ class SlotRows:
 def labels_of(contents):
     """Where a label is due: its column and content, and if a frame comes.
 
-    A frame comes once, but is called something else when it is mapped.
+    A frame comes once, and is called something else when it is mapped and
+    when it is evicted.
     """
-    labels, last, called = [], None, None
+    labels, last = [], None
     for span in contents:
-        page, frame, state = span.what
-        comes = (page, frame) != last
-        if comes or state != EVICTED and span.what.label != called:
+        now = span.what.frame, span.what.labels
+        if now != last:
+            comes = last is None or last[0] != span.what.frame
             labels.append((span.first, span.what, comes))
-            called = span.what.label
-        last = page, frame
+        last = now
     return labels

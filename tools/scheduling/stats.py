@@ -1,7 +1,8 @@
 """What a run came to: a table of numbers, and a plot of the slots."""
 
-from . import BadInput, legend, symbols, words
-from .moments import CANDIDATE, IN_USE, no_run_to, run_to
+from . import legend, symbols, words
+from .explain import unlike
+from .moments import CANDIDATE, IN_USE, run_to
 from .records import read
 from .svg import Canvas
 from .tables import Column, lines_of
@@ -36,13 +37,11 @@ def row(name, part):
 
 def table(data, answers):
     """The numbers of each client and of all, as text."""
-    records, _ = read(data)
-    totals = Totals(records, answers)
-    if not totals.clients:
-        raise BadInput(no_run_to("count", answers[0].refusal if answers
-                                 else 1))
-    lines = lines_of(COLUMNS, [row(*part) for part in totals.parts()])
-    return "".join(line + "\n" for line in lines) + "\n" + NOTES
+    run = run_to("count", data)
+    totals = Totals(read(data)[0], answers)
+    lines = [*lines_of(COLUMNS, [row(*part) for part in totals.parts()]), "",
+             *unlike(run, answers)]
+    return "".join(line + "\n" for line in lines) + NOTES
 
 
 # The plot.
@@ -62,7 +61,7 @@ def levels(moment):
     return len(frames), used, len(moment.held())
 
 
-def tick_distance(count, most):
+def round_distance(count, most):
     """A round distance with which there are at most so many ticks."""
     return next(digit * 10 ** power for power in range(10)
                 for digit in (1, 2, 5) if count <= most * digit * 10 ** power)
@@ -107,13 +106,13 @@ class Plot:
         legend.draw(self.canvas, MARGIN, MARGIN + 38, [("shown", items)])
 
     def draw_axes(self):
-        across = tick_distance(self.records, 12)
+        across = round_distance(self.records, 12)
         for record in range(0, self.records + 1, across):
             x = self.x(record)
             self.canvas.line(x, TOP, x, TOP + HEIGHT + 4, look="grid")
             self.canvas.text(x, TOP + HEIGHT + 17, str(record), font_size=10,
                              look="grey", text_anchor="middle")
-        for level in range(0, self.size + 1, tick_distance(self.size, 8)):
+        for level in range(0, self.size + 1, round_distance(self.size, 8)):
             y = self.y(level)
             self.canvas.line(LEFT, y, WIDTH - MARGIN, y, look="grid")
             self.canvas.text(LEFT - 8, y + 3.5, str(level), font_size=10,

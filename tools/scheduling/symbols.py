@@ -22,13 +22,13 @@ COLOURS = {  # on a light background, on a dark one
     "hand": ("#7a2f8f", "#cf8fe3"),
     "held": ("#7a2f8f", "#a871ba"),
 }
-# Of the four phases: to do a stage (in greys that are at least 40 of 255
-# apart), the letters on it, and to stand there.
+# Of the four phases: to do a stage, the letters on it, and to stand there. In
+# greys the first are at least 40 of 255 apart, the last at least 12.
 PHASES = {"light": ("#6db8e8", "#f7e463", "#c8601a", "#173a6b"),
           "dark": ("#6db8e8", "#f7e463", "#c8601a", "#24539a")}
 LETTERS = ("#1a1a1a", "#1a1a1a", "#ffffff", "#ffffff")
-FAINT = {"light": ("#cfe6f7", "#fbf5c9", "#efc9ac", "#aebfd9"),
-         "dark": ("#24506b", "#5c551d", "#6b3510", "#2a4170")}
+FAINT = {"light": ("#cfe6f7", "#fbf5c9", "#ecbb97", "#98a9c6"),
+         "dark": ("#24506b", "#6b6220", "#5f2f0d", "#1a2b4e")}
 
 RULES = {  # the looks; {name} stands for the colour of that name
     "ground": "fill:{ground}",
@@ -36,7 +36,7 @@ RULES = {  # the looks; {name} stands for the colour of that name
     "grey": "fill:{grey}",
     "rule": "stroke:{pale}",
     "grid": "stroke:{grid}",
-    "before": "fill:{grid}",
+    "before": "stroke:{ink};stroke-dasharray:4,3",
     "mark": "fill:{ground};stroke:{ink};stroke-width:1.2",
     "refusal": "fill:{ink}",
     "in-refusal": "fill:{ground}",
@@ -154,8 +154,8 @@ def hand(canvas, x1, x2, y):
     canvas.line(x1, y, x2, y, look="hand")
 
 
-def count(canvas, x, bottom, width, height, part):
-    """A bar as high as a part of the height."""
-    if part > 0:
-        canvas.box(x, bottom - height * part, width, height * part,
-                   look="count")
+def count(canvas, x, bottom, width, height, value, most):
+    """A bar, as high as the most may be; what is not 0 can be seen."""
+    if value > 0:
+        high = max(1, height * value / most)
+        canvas.box(x, bottom - high, width, high, look="count")

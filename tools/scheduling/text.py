@@ -21,6 +21,13 @@ from .records import (BEGIN, LONGEST_FILE, MARK, NAMES, RELEASE, SETUP, STEP,
 from .report import LINE
 
 
+MOST_PLAYED = {  # of the numbers that fit, a pool takes these, from 1 on
+    "slots": second.MOST_SLOTS,
+    "clients": second.MOST_CLIENTS,
+    "cap": second.MOST_COUNT,
+}
+
+
 class Field(NamedTuple):
     """A number in a command."""
 
@@ -31,9 +38,11 @@ class Field(NamedTuple):
 
     def expected(self):
         """The field's range, for errors."""
-        return "%s from %d %s" % (self.name, self.least, "on"
-                                  if self.most is None
-                                  else "to %d" % self.most)
+        played = MOST_PLAYED.get(self.name)
+        return "%s from %d %s%s" % (
+            self.name, self.least,
+            "on" if self.most is None else "to %d" % self.most,
+            "" if played is None else " (a pool takes 1 to %d)" % played)
 
     def fits(self, value):
         return value >= self.least and (self.most is None
@@ -67,15 +76,9 @@ SAMPLES = {
     RELEASE: "release 0 page 9",
 }
 
-MOST_PLAYED = {  # of the numbers that fit, a pool takes these, from 1 on
-    "slots": second.MOST_SLOTS,
-    "clients": second.MOST_CLIENTS,
-    "cap": second.MOST_COUNT,
-}
-
 NUMBER = re.compile(r"0[xX]([0-9a-fA-F]+)|([0-9]+)")
 MOST_DIGITS = 20  # more than any field takes; longer ones are not computed
-MOST_TOLD = 20  # complaints about one text; the others are only counted
+MOST_TOLD = 100  # complaints about one text; the others are only counted
 
 
 # What a file is that was given for another.
@@ -133,6 +136,10 @@ def quoted(word):
     return ascii(shortened(word))
 
 
+class WrongNumber(BadInput):
+    """A number does not fit; what follows it may be right."""
+
+
 def read_number(word, field):
     """The value of a word that stands for a field's number."""
     match = NUMBER.fullmatch(word)
@@ -145,8 +152,8 @@ def read_number(word, field):
         value = int(digits, 16 if hexadecimal else 10)
         if field.fits(value):
             return value
-    raise BadInput("%s %s does not fit; expected %s"
-                   % (field.name, shortened(word), field.expected()))
+    raise WrongNumber("%s %s does not fit; expected %s"
+                      % (field.name, shortened(word), field.expected()))
 
 
 def read_field(rest, field, sample):
@@ -165,6 +172,29 @@ def read_field(rest, field, sample):
     return read_number(rest.pop(0), field)
 
 
+def read_numbers(rest, kind):
+    """The numbers of a command; complains of all that are wrong."""
+    fields = FORMS[kind]
+    if kind == STEP and len(rest) == 1:
+        fields = (CLIENT,)  # 'times' may be left out
+    numbers, wrong = [], []
+    for field in fields:
+        try:
+            numbers.append(read_field(rest, field, SAMPLES[kind]))
+        except WrongNumber as why:
+            wrong.append(str(why))
+        except BadInput as why:
+            wrong.append(str(why))
+            break
+    else:
+        if rest:
+            wrong.append("unknown word %s after the command; expected no "
+                         "more, as in: %s" % (quoted(rest[0]), SAMPLES[kind]))
+    if wrong:
+        raise BadInput("\n".join(wrong))
+    return numbers
+
+
 def read_command(line, line_words):
     """The command that the words of a line are."""
     first, *rest = line_words
@@ -172,13 +202,7 @@ def read_command(line, line_words):
         raise BadInput("unknown word %s; expected setup, begin, step or "
                        "release" % quoted(first))
     kind = NAMES.index(first)
-    fields = FORMS[kind]
-    if kind == STEP and len(rest) == 1:
-        fields = (CLIENT,)  # 'times' may be left out
-    numbers = [read_field(rest, field, SAMPLES[kind]) for field in fields]
-    if rest:
-        raise BadInput("unknown word %s after the command; expected no more, "
-                       "as in: %s" % (quoted(rest[0]), SAMPLES[kind]))
+    numbers = read_numbers(rest, kind)
     if kind == STEP:
         client, times = (numbers + [1])[:2]
         return Command(line, STEP, (client, 0), times)
@@ -194,8 +218,8 @@ def read_lines(data):
         if line_words:
             try:
                 commands.append(read_command(number, line_words))
-            except BadInput as why:
-                wrong.append((number, str(why)))
+            except BadInput as whys:
+                wrong += [(number, why) for why in str(whys).split("\n")]
     return commands, wrong
 
 
@@ -239,7 +263,12 @@ def make(data):
 
     Where the text is wrong, the complaint has a line for each wrong one.
     """
-    return b"".join(command.records() for command in read_text(data))
+    return written(read_text(data))
+
+
+def written(commands):
+    """The records of commands, in their order."""
+    return b"".join(command.records() for command in commands)
 
 
 # What no pool can play.
@@ -271,9 +300,8 @@ def faults(first, setups):
                            % (setups[0].line, words.refused(6)))
 
 
-def warnings(data):
-    """Lines about what no pool can play of a text that 'make' takes."""
-    commands = read_text(data)
+def warnings(commands):
+    """Lines about what no pool can play, of commands that can be read."""
     if not commands:
         return ["there is no command, so the file is empty: "
                 + words.refused(3)]
