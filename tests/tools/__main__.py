@@ -17,8 +17,8 @@ sys.dont_write_bytecode = True  # leave no compiled files beside the sources
 import common  # noqa: E402, F401 (it makes the parts to be tested known)
 from checking import run_all  # noqa: E402
 
-SUBJECTS = ("texts", "examples", "explaining", "drawing", "counting", "days",
-            "paging", "program", "replaying", "building")
+SUBJECTS = ("texts", "examples", "explaining", "telling", "drawing", "columns",
+            "counting", "days", "paging", "program", "replaying", "building")
 
 
 def main(chosen):

@@ -1,92 +1,214 @@
-"""Runs in words: each record's answer, what happened, and the totals."""
+"""Runs in words: each record and its answer, the pool, and the totals.
+
+What happened at each record is another subject: telling.
+"""
 
 import collections
-import re
+from typing import NamedTuple
 
 import generate
 import second
 from checking import need, same
 from common import LISTING, answers_to, example
 from played import played
-from scheduling import (BadInput, explain, happenings, moments, records,
-                        report, text, words)
+from scheduling import BadInput, explain, moments, report, words
 
 SEEDS = range(120)
 
 
-def explained(schedule, answers=None):
-    """The heading's columns, the rows, and what follows them."""
-    lines = explain.explain(schedule, answers_to(schedule)
-                            if answers is None else answers).splitlines()
+class Row(NamedTuple):
+    """A row of the listing, cut below its headings."""
+
+    record: str
+    client: str
+    asked: str
+    happened: str
+    answer: str
+
+
+HEADINGS = ("record", "client", "asked", "what happened", "answer")
+
+
+class Explained(NamedTuple):
+    """What is printed: a row for each answer, notes, and the totals."""
+
+    rows: list
+    notes: list
+    totals: list
+
+
+def explained(schedule, answers):
+    heading, *lines = explain.explain(schedule, answers).splitlines()
     blank = lines.index("")
-    return lines[0], lines[1:blank], lines[blank + 1:]
+    starts = list(map(heading.index, HEADINGS))
+    rows = [Row(*(line[start:end].strip() for start, end
+                  in zip(starts, starts[1:] + [None])))
+            for line in lines[:len(answers)]]
+    return Explained(rows, lines[len(answers):blank], lines[blank + 1:])
 
 
-def cells(heading, rows):
-    """What stands in each row below 'what happened' and below 'answer'."""
-    happened, answer = map(heading.index, ("what happened", "answer"))
+# The rows but for what happened, by the report and the file's bytes.
+
+
+UNREADABLE = (3, 4, 5, 7)  # refusals of what is no record at all
+
+
+def lines_of(schedule):
+    """The numbers of each line of the report."""
+    return [tuple(map(int, line.split()))
+            for line in second.run(schedule)[0].splitlines()]
+
+
+class Listing:
+    """The rows of a schedule file, as far as its report tells.
+
+    The words for stages and refusals are the tool's own, which another test
+    (tests/specification.py) holds to those of the specification.
+    """
+
+    def __init__(self, schedule):
+        self.schedule = schedule
+        self.stages, self.wanted = {}, {}  # of each client
+        self.rows = [self.row(*line) for line in lines_of(schedule)]
+
+    def row(self, number, _, code, value):
+        """The row of a line; what happened is left out."""
+        record = generate.record_at(self.schedule, number)
+        refusal = code - second.REFUSAL
+        if refusal in UNREADABLE:
+            return Row(str(number), "", "(cannot be read)", "",
+                       words.refused(refusal))
+        kind, client = record[2:4]
+        page = int.from_bytes(record[4:8], "little")
+        asked = self.asked(kind, client, page)
+        answer = self.answer(kind, client, page, code, value)
+        return Row(str(number), "" if kind == second.SETUP else str(client),
+                   asked, "", answer)
+
+    def asked(self, kind, client, page):
+        if kind == second.SETUP:
+            return "setup"
+        if kind == second.STEP:
+            return ("step at %d" % self.stages[client]
+                    if client in self.stages else "step")
+        return "%s page %d" % ("begin" if kind == second.BEGIN else "release",
+                               page)
+
+    def answer(self, kind, client, page, code, value):
+        """The answer; and what the client wants and where it stands now."""
+        if code == second.WORKING:
+            self.stages[client] = value
+            return "now at %d: %s" % (value, words.STAGES[value])
+        if code == second.DONE and kind == second.BEGIN:
+            self.stages[client], self.wanted[client] = 1, page
+            return "done; now at 1: look up the page"
+        if code == second.DONE:
+            return "done"
+        if code == second.GRANTED:
+            del self.stages[client]
+            return "granted frame %d for page %d" % (value,
+                                                     self.wanted[client])
+        if code == second.REFUSAL + 15:
+            del self.stages[client]
+        return words.refused(code - second.REFUSAL)
+
+
+def check_rows(schedule, rows):
+    """Each row is the one that report and bytes ask for."""
+    due = Listing(schedule).rows
+    same(len(rows), len(due), "the number of rows")
+    for row, expected in zip(rows, due):
+        same(row._replace(happened=""), expected, "a row")
+    return due
+
+
+def check_notes(schedule, notes):
+    """Bytes that were not played are told of, and nothing else."""
+    _, count, refusal = second.run(schedule)
+    at = 10 + 8 * (count - 1) if count else 0
+    if refusal and refusal not in UNREADABLE:  # it could be read
+        at += 8 if schedule[at + 2] else 10
+    left = len(schedule) - at
+    same(notes, ["%d byte%s from byte %d on not played: the run ended"
+                 % (left, "" if left == 1 else "s", at)] if left else [],
+         "what is left over")
+
+
+# The totals.
+
+
+def owner(line, clients):
+    """Whose line it is: 'none' if it is of no client of the pool."""
+    number, client, code, _ = line
+    ended = second.REFUSAL < code <= second.REFUSAL + 8
+    return str(client) if number and not ended and client < clients else "none"
+
+
+def counts_of(schedule, lines):
+    """The seven counts of some lines, and the refusals by number."""
+    edges = collections.Counter(generate.edges_taken(
+        b"".join(second.line(*line) for line in lines)))
+    begun = sum(code == second.DONE and number > 0 and generate.record_at(
+        schedule, number)[2] == second.BEGIN for number, _, code, _ in lines)
+    refusals = collections.Counter(code - second.REFUSAL for _, _, code, _
+                                   in lines if code > second.REFUSAL)
+    by = ", ".join("%d by %d" % (times, number)
+                   for number, times in sorted(refusals.items()))
+    return [begun, *(edges[stage, generate.GRANT] for stage in (3, 21, 18,
+                                                                22)),
+            edges[14, 15], sum(refusals.values())], by and "(%s)" % by
+
+
+def due_totals(schedule):
+    """Of each client, of no client and of all: what the lines add up to."""
+    lines = lines_of(schedule)
+    clients = schedule[4] if lines[0][2] == second.DONE else 0
+    parts = {str(client): [] for client in range(clients)}
+    for line in lines:
+        parts.setdefault(owner(line, clients), []).append(line)
+    # Those of no client stand before the sum, if any were refused.
+    strays = parts.pop("none", [])
+    if counts_of(schedule, strays)[1]:
+        parts["none"] = strays
+    parts["all"] = lines
+    return [(name, *counts_of(schedule, part))
+            for name, part in parts.items()]
+
+
+def check_totals(schedule, totals):
+    heading, *rows = totals
+    same(heading.split(), ["client", "requests", "hits", "joins", "admitted",
+                           "revived", "drops", "refusals"], "the counts")
+    found = []
     for row in rows:
-        yield row[happened:answer].strip(), row[answer:]
-
-
-# The answers, and the totals.
-
-
-def check_answers(schedule):
-    """Each row tells the same as the report, and what a step did."""
-    heading, rows, _ = explained(schedule)
-    numbers = [list(map(int, line.split()))
-               for line in second.run(schedule)[0].splitlines()]
-    rows = [row for row in rows if re.match(r" *\d+  ", row)]
-    same(len(rows), len(numbers), "the number of rows")
-    for row, (happened, answer), (number, _, code, value) in zip(
-            rows, cells(heading, rows), numbers):
-        same(int(row.split()[0]), number, "the record's number")
-        said = {0: "done", 1: "now at %d: " % value,
-                2: "granted frame %d for page" % value}.get(
-                    code, "refused by %d: " % (code - 100))
-        need(answer.startswith(said), "%r does not say %r" % (row, said))
-        need(happened or code in range(103, 109),
-             "%r does not say what happened" % row)
-    return len(rows)
-
-
-def check_totals(schedule):
-    """The totals are what the report's edges and codes add up to."""
-    written = second.run(schedule)[0]
-    edges = collections.Counter(generate.edges_taken(written))
-    codes = [int(line.split()[2]) for line in written.splitlines()]
-    begun = sum(record.kind == records.BEGIN and code == 0 for record, code
-                in zip(records.read(schedule)[0], codes))
-    grants = [edges[stage, generate.GRANT] for stage in (3, 21, 18, 22)]
-    heading, *rows = explained(schedule)[2]
-    same(heading.split(), ["client", *explain.COUNTS], "the counts' names")
-    found = [list(map(int, row.partition("(")[0].split()[1:]))
-             for row in rows]
-    same(found[-1], [begun, *grants, edges[14, 15],
-                     sum(code > 100 for code in codes)], "all counts")
-    same([sum(column) for column in zip(*found[:-1])] or [0] * 6 + [1],
-         found[-1], "the sum of the clients' counts")
-    by = re.findall(r"(\d+) by (\d+)", rows[-1])
-    same({int(number): int(times) for times, number in by},
-         dict(collections.Counter(code - 100 for code in codes
-                                  if code > 100)), "the refusals by number")
+        counts, bracket, by = row.partition("(")
+        name, *counts = counts.split()
+        found.append((name, list(map(int, counts)), bracket + by))
+    same(found, due_totals(schedule), "the totals")
 
 
 def explanations():
-    rows = 0
+    rows = []
     for seed in SEEDS:
         schedule = generate.generate(seed)
         if second.run(schedule)[0]:  # a file that is too long has no report
-            rows += check_answers(schedule)
-            check_totals(schedule)
+            found = explained(schedule, answers_to(schedule))
+            rows += check_rows(schedule, found.rows)
+            check_notes(schedule, found.notes)
+            check_totals(schedule, found.totals)
+    need(any(row.client in map(str, range(10, 16))
+             and row.answer.startswith("granted") for row in rows),
+         "no client above 9 was granted a page")
+    need(any(row.answer.startswith("granted") and int(row.answer.split()[-1])
+             > 2**16 for row in rows), "no page above 65535 was granted")
+    need(any(row.client == "255" for row in rows), "no client 255 was met")
     same(sorted(words.STAGES), list(range(1, 24)), "the stages with a name")
     same(sorted(words.REFUSALS), list(range(1, 16)), "the refusals in words")
-    return ("explain, seeds 0 to %d: %d records, totals by client and in all"
-            % (SEEDS[-1], rows))
+    return ("explain, seeds 0 to %d: %d rows, totals by client and in all"
+            % (SEEDS[-1], len(rows)))
 
 
-# What happened.
+# The pool behind the words.
 
 
 def in_numbers(moment):
@@ -127,157 +249,6 @@ def pools():
     return "explain, the pool after each of %d records" % count
 
 
-SEARCHES = """\
-setup slots 2 clients 3 cap 3 hand 0
-begin 0 page 4   # wants page 4
-step 0           # the table does not have page 4
-step 0           # takes frame 0 for page 4, with one pin and count 1
-step 0           # 2 slots left to claim
-begin 1 page 5   # wants page 5
-step 1           # the table does not have page 5
-step 1           # takes frame 1 for page 5, with one pin and count 1
-step 1           # 2 slots left to claim
-step 1           # claims a slot: free is 1 now
-step 0           # free is 1 by now and not 2
-step 0           # 1 slot left to claim
-step 0           # claims a slot: free is 0 now
-step 1           # the hand is 0: it looks from slot 0 on
-step 0           # the hand is 0: it looks from slot 0 on
-step 1           # frame 1 stands in slot 0, a candidate for page 5
-step 0           # slot 0 has frame 1: slot 1 is next
-begin 2 page 9   # wants page 9
-step 2           # the table does not have page 9
-step 2           # takes frame 2 for page 9, with one pin and count 1
-step 2           # no slot is left to claim: it has to sweep
-step 2           # the hand is 0: the sweep starts at slot 0
-step 2           # slot 0: frame 1 (page 5)
-step 2           # slot 0: frame 1 is in use, busy visit 1 of 2
-step 2           # slot 1 is claimed and still empty, busy visit 2 of 2
-step 0           # frame 0 stands in slot 1, a candidate for page 4
-step 0           # the hand is 1 now: slot 1
-step 0           # admitted: the table has page 4 in frame 0
-step 1 times 2   # admitted: the table has page 5 in frame 1
-begin 0 page 5   # wants page 5
-step 0           # the table has page 5 in frame 1
-step 0           # frame 1 is pinned: 2 pins now
-step 0           # a hit: the count of frame 1 is 2 now
-begin 2 page 9   # wants page 9
-begin 2 page 9   # it stands at 1 and wants page 9
-release 0 page 4 # frame 0 has no pins now: nobody holds page 4
-release 0 page 4 # it holds page 5
-release 0 page 5 # frame 1 has 1 pin now
-step 0           # it has no request
-step 7           # the pool has 3 clients
-step 2 times 4   # the hand is 2: the sweep starts at slot 0
-step 2 times 2   # slot 0: frame 1 is in use, busy visit 1 of 2
-step 2           # slot 1: frame 0 (page 4)
-step 2           # slot 1: frame 0 is not in use
-release 1 page 5 # frame 1 has no pins now: nobody holds page 5
-begin 1 page 4   # wants page 4
-step 1 times 2   # frame 0 is pinned: 1 pin now
-step 2           # the count of page 4 goes from 1 to 0: it may go
-step 2           # frame 0 is in use by now: slot 0 is next
-step 2 times 3   # the count of page 5 goes from 2 to 1: it stays, slot 1 is next
-step 1           # a hit: the count of frame 0 is 1 now
-release 1 page 4 # frame 0 has no pins now: nobody holds page 4
-begin 1 page 8   # wants page 8
-step 1 times 4   # the hand is 2: the sweep starts at slot 0
-step 1 times 3   # the count of page 5 goes from 1 to 0: it may go
-step 1           # page 5 loses frame 1: its count was 0
-step 1           # frame 4 stands in slot 0, a candidate for page 8, instead of frame 1
-step 1           # the hand is 3 now: slot 1
-begin 0 page 5   # wants page 5
-step 0           # the table has page 5 in frame 1
-step 0           # frame 1 is evicted and cannot be pinned
-step 2 times 3   # the count of page 4 goes from 1 to 0: it may go
-step 2           # page 4 loses frame 0: its count was 0
-step 0 times 4   # slot 1: frame 0 (page 4)
-step 0           # slot 1: frame 0 is evicted already
-step 2           # frame 3 stands in slot 1, a candidate for page 9, instead of frame 0
-step 0           # frame 0 is not in slot 1 any more: slot 0 is next
-step 1           # page 5 leaves the table
-step 1           # admitted: the table has page 8 in frame 4
-release 1 page 8 # frame 4 has no pins now: nobody holds page 8
-"""
-
-
-MEETINGS = """\
-setup slots 2 clients 3 cap 2 hand 0
-begin 0 page 9
-begin 1 page 9
-step 0 times 7
-step 1 times 7
-step 0           # admitted: the table has page 9 in frame 0
-step 1           # page 9 is in the table already, with frame 0: frame 1 stays a candidate
-step 1           # frame 0 is pinned: 2 pins now
-step 1           # gives its candidate up: frame 1 is evicted
-step 1           # joined: the count of frame 0 is 2 now
-release 0 page 9
-release 1 page 9
-begin 1 page 9
-step 1 times 3   # a hit: the count of frame 0 stays 2, the cap
-release 1 page 9
-begin 0 page 5
-step 0 times 7   # the count of page 9 goes from 2 to 1: it stays, slot 1 is next
-step 0 times 2   # slot 1: frame 1 is evicted already
-step 0           # frame 2 stands in slot 1, a candidate for page 5, instead of frame 1
-step 0           # the hand is 4 now: slot 0
-step 0           # frame 1 was given up and has no entry: nothing removed
-step 0           # admitted: the table has page 5 in frame 2
-release 0 page 5
-begin 0 page 7
-step 0 times 8   # page 9 loses frame 0: its count was 0
-step 0 times 2   # the hand is 5 now: slot 1
-begin 1 page 9
-step 1 times 9   # page 5 loses frame 2: its count was 0
-begin 2 page 9
-step 2 times 3   # takes frame 5 for page 9, with one pin and count 1
-step 2           # no slot is left to claim: it has to sweep
-step 1 times 3   # page 5 leaves the table
-step 1 times 2   # frame 0 is evicted and cannot be joined
-step 1           # revived: the table has page 9 in frame 4 and not in 0
-step 0           # the entry was already replaced: nothing removed
-step 0           # admitted: the table has page 7 in frame 3
-"""
-
-
-REMOVED = """\
-setup slots 2 clients 2 cap 3 hand 0
-begin 0 page 9
-step 0 times 8
-release 0 page 9
-begin 0 page 5
-step 0 times 8
-release 0 page 5
-begin 0 page 7
-step 0 times 10  # the hand is 3 now: slot 1
-begin 1 page 9
-step 1 times 14  # frame 0 is evicted and cannot be joined
-step 0           # page 9 leaves the table
-step 1           # page 9 has no entry by now: frame 3 stays a candidate
-step 1           # gives its candidate up: frame 3 is evicted
-step 1           # takes frame 4 for page 9, with one pin and count 1
-"""
-
-
-def check_sentences(told):
-    """The sentence in the comment is said of the last record of its line."""
-    lines = [line.partition("#") for line in told.splitlines()]
-    schedule = text.make("\n".join(line for line, _, _ in lines).encode())
-    said, at = happenings.of_run(moments.Run(schedule)), 0
-    for line, _, sentence in lines:
-        at += int((re.search(r"times (\d+)", line) or [0, 1])[1])
-        if sentence:
-            same(said[at - 1], sentence.strip(), "about '%s', record %d"
-                 % (line.strip(), at - 1))
-    return {sentence.strip() for _, _, sentence in lines if sentence}
-
-
-def sentences():
-    met = set().union(*map(check_sentences, (SEARCHES, MEETINGS, REMOVED)))
-    return "explain, %d sentences on what happened" % len(met)
-
-
 # Reports from elsewhere.
 
 
@@ -306,12 +277,13 @@ def given_reports():
          "nothing about what a short report leaves out")
     strange = report.read_report(LISTING.replace(b"5 0 1 7", b"5 0 1 5"),
                                  schedule)
-    heading, rows, _ = explained(schedule, strange)
-    same([bool(happened) for happened, _ in cells(heading, rows[:12])],
+    found = explained(schedule, strange)
+    same([bool(row.happened) for row in found.rows],
          [True] * 5 + [False] * 7, "what is known of a strange report's run")
-    need("from record 5 on" in rows[-1], "no word on a strange report")
+    need("from record 5 on" in found.notes[-1],
+         "no word on a strange report")
     return ("explain, %d wrong reports, a short one and a strange one"
             % len(WRONG_REPORTS))
 
 
-TESTS = (explanations, pools, sentences, given_reports)
+TESTS = (explanations, pools, given_reports)

@@ -2,12 +2,16 @@
 
 import os
 import pathlib
+import shlex
+import sys
 import tempfile
+from unittest import mock
 
+import alone
 import second
 from checking import need, same
 from common import EXAMPLES, LISTING, TOP, example, run
-from scheduling import picture
+from scheduling import explain, picture, report, stats
 
 
 COMMANDS = ("make", "show", "make-up", "explain", "stats", "draw", "page")
@@ -23,7 +27,7 @@ WRONG = (  # arguments, what is read, the exit status
     (("make",), b"begin", 1), (("make",), LISTING, 1),
     (("make", "no such file"), b"", 1), (("show", "."), b"", 1),
     (("draw",), b"", 1), (("draw",), LISTING, 1), (("page",), LISTING, 1),
-    (("stats", "--svg"), b"", 1), (("make-up", "--clients", "17"), b"", 1),
+    (("stats", "--svg"), b"", 1), (("make-up", "--clients", "17"), b"", 2),
     (("explain", "no such file"), b"", 1),
     (("explain", "--report", "no such file"), b"", 1),
 )
@@ -34,7 +38,10 @@ def statuses():
     for arguments, data, expected in WRONG:
         status, output, said = run(*arguments, data=data)
         same((status, output), (expected, b""), "status of %r" % (arguments,))
-        need(said.count("\n") == 1 and said.startswith("schedule"),
+        # Whose run it is may be said before what is wrong with it.
+        wrong = [line for line in said.splitlines()
+                 if "is not built" not in line]
+        need(len(wrong) == 1 and said.startswith("schedule"),
              "%r says %r" % (arguments, said))
     for arguments in ((), *((name,) for name in COMMANDS)):
         status, output, said = run(*arguments, "--help")
@@ -90,4 +97,102 @@ def whole_way():
     return "the program, one text through make, show, explain and draw"
 
 
-TESTS = (statuses, unwritten, whole_way)
+# The built program, and what is said without it.
+
+
+ANSWERED = (("explain",), ("stats",))  # these show the program's answers
+PLAYED = (("draw",), ("page",), ("stats", "--svg"))  # these play the run
+# A report that the run of the example does not have: no frame at record 9.
+OTHER = LISTING.replace(b"9 0 2 0", b"9 0 115 0")
+
+
+def run_alone(top, arguments):
+    """Run the tools of a folder on the example."""
+    return alone.run(top, *arguments, data=example("example.txt"),
+                     program=(sys.executable, "tools/schedule"))
+
+
+def built_alike():
+    """A program that reports what second.py does is taken in silence."""
+    schedule = example("example.txt")
+    with alone.a_top() as top:
+        outputs = {}
+        for arguments in ANSWERED + PLAYED:
+            status, outputs[arguments], said = run_alone(top, arguments)
+            same((status, said), (0, ""), "%r, built" % (arguments,))
+    answers = report.read_report(LISTING, schedule)
+    for arguments, expected in (
+            (("explain",), explain.explain(schedule, answers)),
+            (("stats",), stats.table(schedule, answers)),
+            (("stats", "--svg"), stats.plot(schedule)),
+            (("draw",), picture.draw(schedule))):
+        same(outputs[arguments].decode(), expected, "%r" % (arguments,))
+    return outputs
+
+
+def built_otherwise():
+    """Its answers are shown; a run that is not its own is not."""
+    schedule = example("example.txt")
+    answers = report.read_report(OTHER, schedule)
+    player = "#!/bin/sh\nprintf %s " + shlex.quote(OTHER.decode()) + "\n"
+    with alone.a_top(player=player) as top:
+        for arguments, expected in (
+                (("explain",), explain.explain(schedule, answers)),
+                (("stats",), stats.table(schedule, answers))):
+            status, output, said = run_alone(top, arguments)
+            same((status, output.decode(), said), (0, expected, ""),
+                 "%r of another program" % (arguments,))
+            need(b"1 by 11, 1 by 15" in output, "the answers of %r: %r"
+                 % (arguments, output))
+        for arguments in PLAYED:
+            status, output, said = run_alone(top, arguments)
+            same((status, output), (1, b""), "%r of another program"
+                 % (arguments,))
+            need("report differently" in said and said.count("\n") == 1,
+                 "%r says %r" % (arguments, said))
+
+
+def unbuilt(outputs):
+    """The second program's run is shown, and it is said whose it is."""
+    with alone.a_top(player=None) as top:
+        for arguments in ANSWERED + PLAYED:
+            status, output, said = run_alone(top, arguments)
+            same((status, output), (0, outputs[arguments]),
+                 "%r, not built" % (arguments,))
+            need(said.count("\n") == 1 and "is not built" in said
+                 and "tests/second.py" in said,
+                 "%r, not built, says %r" % (arguments, said))
+
+
+def programs():
+    outputs = built_alike()
+    built_otherwise()
+    unbuilt(outputs)
+    return ("the program, %d commands with a program built, with one that "
+            "differs, and with none" % len(outputs))
+
+
+def newer():
+    """A program is built while no source is newer than it."""
+    with alone.a_top() as top:
+        program = top / "target" / "bin" / "replay"
+        source = top / "crates" / "pool" / "src" / "Pool.rs"
+        source.parent.mkdir(parents=True)
+        source.write_text("")
+        sources = (top / "crates.txt", source, source.parent,
+                   top / "crates" / "pool")
+        with mock.patch.multiple(report, TOP=top, PROGRAM=program):
+            for path in (*sources, program):
+                os.utime(path, (1000, 1000))
+            need(report.is_built(), "a program as old as its sources is none")
+            for path in sources:
+                os.utime(path, (1001, 1001))
+                need(not report.is_built(), "%s is newer" % path)
+                os.utime(path, (999, 999))
+            need(report.is_built(), "a program newer than its sources")
+            program.unlink()
+            need(not report.is_built(), "a program that is not there")
+    return "the program, %d sources newer than the built one" % len(sources)
+
+
+TESTS = (statuses, unwritten, whole_way, programs, newer)

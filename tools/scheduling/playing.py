@@ -16,6 +16,7 @@ from . import TOP, console
 from .output import NotWritten
 from .report import PROGRAM, is_built
 
+
 class NotPlayed(Exception):
     """Nothing can be played; a line that says why."""
 
