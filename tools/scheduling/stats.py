@@ -1,7 +1,7 @@
 """What a run came to: a table of numbers, and a plot of the slots."""
 
 from . import legend, symbols, words
-from .explain import unlike
+from .explain import left_over, unlike
 from .moments import CANDIDATE, IN_USE, run_to
 from .records import read
 from .svg import Canvas
@@ -37,10 +37,10 @@ def row(name, part):
 
 def table(data, answers):
     """The numbers of each client and of all, as text."""
-    run = run_to("count", data)
-    totals = Totals(read(data)[0], answers)
-    lines = [*lines_of(COLUMNS, [row(*part) for part in totals.parts()]), "",
-             *unlike(run, answers)]
+    run, (records, _) = run_to("count", data), read(data)
+    parts = Totals(records, answers).parts()
+    lines = [*lines_of(COLUMNS, [row(*part) for part in parts]),
+             *left_over(data, records, answers), *unlike(run, answers), ""]
     return "".join(line + "\n" for line in lines) + NOTES
 
 
