@@ -8,8 +8,8 @@ import xml.etree.ElementTree
 import generate
 import second
 from checking import need, same
-from common import answers_to, example
-from scheduling import BadInput, records, stats
+from common import LISTING, answers_to, example
+from scheduling import BadInput, records, report, stats
 
 SEEDS = range(60)
 SVG = "{http://www.w3.org/2000/svg}"
@@ -291,4 +291,16 @@ def plots():
             "names and numbers" % len(schedules))
 
 
-TESTS = (tables, plots)
+def other_reports():
+    """A report that is short or of another run is told."""
+    schedule = example("example.txt")
+    for written, said in ((LISTING[:32], "64 bytes from byte 34 on not "
+                           "played: the report has no line for them"),
+                          (LISTING.replace(b"5 0 1 7", b"5 0 1 5"),
+                           "from record 5 on the answers are not those")):
+        found = stats.table(schedule, report.read_report(written, schedule))
+        need("\n" + said in found, "no line %r in %r" % (said, found))
+    return "stats, a short report and a strange one"
+
+
+TESTS = (tables, plots, other_reports)

@@ -39,8 +39,9 @@ def table(data, answers):
     """The numbers of each client and of all, as text."""
     run, (records, _) = run_to("count", data), read(data)
     parts = Totals(records, answers).parts()
-    lines = [*lines_of(COLUMNS, [row(*part) for part in parts]),
-             *left_over(data, records, answers), *unlike(run, answers), ""]
+    besides = [*left_over(data, records, answers), *unlike(run, answers)]
+    lines = [*lines_of(COLUMNS, [row(*part) for part in parts]), "",
+             *besides, *([""] if besides else [])]
     return "".join(line + "\n" for line in lines) + NOTES
 
 
