@@ -120,7 +120,7 @@ class Picture:
             self.canvas.line(x, top - 4, x, bottom + 4, look="grid")
         if self.part.origin < self.part.first:
             x = sheet.x(self.part.first)
-            self.canvas.line(x, top - 12, x, bottom + 12, look="before")
+            self.canvas.line(x, top - 4, x, bottom + 4, look="before")
         self.draw_axis(top - 8)
         self.draw_axis(bottom + 16)
 
