@@ -259,6 +259,9 @@ WRONG_REPORTS = (  # a report of the first example, and what is said of it
     (b"0 0 0 1\n1 1 0 9\n", ("line 2", "client 1")),
     (LISTING + b"12 0 111 0\n", ("line 13", "only 12 records")),
     (b"0 0 108 0\n1 0 0 9\n", ("line 2", "ends the run")),
+    (b"0 0 1 5\n", ("line 1", "code 1, which no setup has")),
+    (b"0 0 0 1\n1 0 2 0\n", ("line 2", "code 2, which no begin has")),
+    (b"0 0 0 1\n1 0 0 9\n2 0 0 4\n", ("line 3", "code 0, which no step")),
 )
 
 

@@ -3,8 +3,11 @@
 import os
 import pathlib
 import shlex
+import signal
+import subprocess
 import sys
 import tempfile
+import time
 from unittest import mock
 
 import alone
@@ -12,7 +15,6 @@ import second
 from checking import need, same
 from common import EXAMPLES, LISTING, TOP, example, run
 from scheduling import explain, picture, report, stats
-
 
 COMMANDS = ("make", "show", "make-up", "explain", "stats", "draw", "page")
 
@@ -68,6 +70,35 @@ def unwritten():
         need(status == 0 and "Traceback" not in said,
              "%s without a reader: status %d, %r" % (name, status, said))
     return "the program, %d commands on a full disk" % len(COMMANDS)
+
+
+def unread():
+    """A text by mistake, input that is closed or has no end, Ctrl-C."""
+    for name in ("show", "explain", "stats", "draw", "page"):
+        for data, what in ((b"step 0\n", "a text"), (LISTING, "a report")):
+            status, output, said = run(name, data=data)
+            same((status, output), (1, b""), "status of %s of %s"
+                 % (name, what))
+            need("this seems to be " + what in said, "it says %r" % said)
+    tool = shlex.join((sys.executable, str(TOP / "tools" / "schedule")))
+    for command, status, part in (
+            (tool + " explain <&-", 1, "standard input cannot be read"),
+            (tool + " show /dev/zero", 1, "more than 1048576 bytes")):
+        done = subprocess.run(command, shell=True, stdout=subprocess.PIPE,
+                              stderr=subprocess.PIPE)
+        same((done.returncode, done.stdout), (status, b""), command)
+        need(part in done.stderr.decode() and done.stderr.count(b"\n") == 1,
+             "%s says %r" % (command, done.stderr))
+    with subprocess.Popen(shlex.split(tool) + ["show"],
+                          stdin=subprocess.PIPE, stdout=subprocess.PIPE,
+                          stderr=subprocess.PIPE) as reading:
+        time.sleep(1)  # until it reads; a signal before that ends it, too
+        reading.send_signal(signal.SIGINT)
+        _, said = reading.communicate()
+    need(reading.returncode in (130, -signal.SIGINT)
+         and b"Traceback" not in said, "Ctrl-C: status %d, %r"
+         % (reading.returncode, said))
+    return "the program, other files by mistake, unreadable input, Ctrl-C"
 
 
 def whole_way():
@@ -195,4 +226,4 @@ def newer():
     return "the program, %d sources newer than the built one" % len(sources)
 
 
-TESTS = (statuses, unwritten, whole_way, programs, newer)
+TESTS = (statuses, unwritten, unread, whole_way, programs, newer)
