@@ -23,11 +23,11 @@ pub use answers::value_of;
 
 // ---- what the calls return, and what they are lent
 pub use calls::Stepped;
-pub use holdings::Listed;
 pub use pool::Answer;
 pub use pool::Client;
 pub use pool::Counted;
 pub use pool::Ended;
+pub use pool::Listed;
 pub use pool::Outcome;
 pub use pool::Pool;
 pub use pool::Row;

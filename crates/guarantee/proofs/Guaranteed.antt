@@ -26,6 +26,7 @@ use Rattle.guarantee.proofs.Listed.{listed, listed-along}
 use Rattle.guarantee.proofs.GrantLists.{grant-lists}
 use Rattle.guarantee.proofs.TurnedDown.{same-stage, turned-down, refused}
 use Rattle.guarantee.proofs.Limits.{limits}
+use Rattle.guarantee.proofs.Holdings.{holdings}
 
 point3 : Claim-point3
 point3 p u calls =
@@ -65,4 +66,5 @@ guarantee =
       busy-sweep = busy-sweep;
       sum = sum;
       limits = limits;
+      holdings = holdings;
     }

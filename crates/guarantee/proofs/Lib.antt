@@ -38,5 +38,7 @@ pub mod Alone
 pub mod SweepMoves
 pub mod Meetings
 pub mod BusySweep
+-- claim 14: of every pool, a handed one too
+pub mod Holdings
 -- all of it, as the record `Guarantee`
 pub mod Guaranteed

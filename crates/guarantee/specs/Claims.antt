@@ -14,9 +14,11 @@ use Rattle.pool.specs.Frames.{freeFrame}
 use Rattle.pool.specs.Valid.{valid}
 use Rattle.pool.specs.Calls.{SetUp, caller, callOf, poolAfter}
 use Rattle.pool.specs.Tallies.{largest, zeroTally, tallied}
+use Rattle.pool.specs.Holdings.{rowsOf, Listing}
 use Rattle.pool.specs.declared.Pool.{Pool}
 use Rattle.pool.specs.declared.Client.{Client}
 use Rattle.pool.specs.declared.Tally.{Tally}
+use Rattle.pool.specs.declared.Row.{Row}
 use Rattle.pool.specs.declared.Call.{Call}
 use Rattle.pool.specs.declared.Call.the-variants.{Begin, Step, Release}
 use Rattle.pool.specs.declared.Answer.{Answer}
@@ -322,6 +324,12 @@ Claim-limits =
     → let now = poolAfter p calls in
     ((d : ℕ) → client now d .stage ≡ 0) → callOf now (Begin b g) .answer ≡ Done g → WithinLimits now (p .size) b g
 
+-- ---- GUARANTEE 14: what holdings lists
+
+-- the rows of the definition are a listing, and no other list is one; of every pool, from wherever it was handed
+abbrev pub Claim-holdings : Type 0
+Claim-holdings = (p : Pool) (c : ℕ) (rows : List Row) → Listing p c rows ↔ (rows ≡ rowsOf p c)
+
 -- ---- all of it
 
 pub record Guarantee : Type 0 where
@@ -333,3 +341,4 @@ pub record Guarantee : Type 0 where
   pub busy-sweep : Claim-busy-sweep
   pub sum : Claim-sum
   pub limits : Claim-limits
+  pub holdings : Claim-holdings

@@ -4,10 +4,10 @@ use mathlib.Core.List.{List}
 use Prim.Native.Nat.{ℕ}
 use lib.ListN.{length}
 use Rattle.pool.specs.Answers.{refusalOf}
-use Rattle.pool.specs.Holdings.{holdingsRefusal, Holdings, fills, refuses}
+use Rattle.pool.specs.Holdings.{holdingsRefusal, holdingsOf}
 use Rattle.pool.specs.declared.Pool.{Pool}
 use Rattle.pool.specs.declared.Row.{Row}
-use Rattle.pool.specs.declared.Answer.{Answer}
+use Rattle.pool.specs.declared.Listed.{Listed}
 use Rattle.laws.specs.Choices.{by-test}
 use Rattle.answers.specs.Among.{Among}
 use Rattle.answers.specs.Refusals.{byHoldings}
@@ -18,14 +18,6 @@ refusal-listed p c room =
     by-test (Among byHoldings) (λ _. by-test (Among byHoldings) (λ _. by-test (Among byHoldings) (λ _. refl) (λ _. refl)) (λ _. refl)) (λ _. refl)
 
 -- the answer's refusal number: 0 where the list is filled, else 8, 9 or 14
-pub holdings-refusals : (p : Pool) (c : ℕ) (lent rows : List Row) (a : Answer) → Holdings p c lent a rows → Among byHoldings (refusalOf a)
-unfolding refusalOf
-holdings-refusals p c lent rows a (fills e l) = refl
-holdings-refusals p c lent rows a (refuses e z) = rw (← e) (refusal-listed p c (length lent))
-
--- what holdings promises: what it answers and leaves on the list, and by which of `byHoldings` it can be refused
-abbrev pub Promised : Pool → ℕ → List Row → Answer → List Row → Type 0
-Promised p c lent a rows = Holdings p c lent a rows × Among byHoldings (refusalOf a)
-
-pub promised : (p : Pool) (c : ℕ) (lent rows : List Row) (a : Answer) → Holdings p c lent a rows → Promised p c lent a rows
-promised p c lent rows a h = (h, holdings-refusals p c lent rows a h)
+pub holdings-refusals : (p : Pool) (c : ℕ) (lent : List Row) → Among byHoldings (refusalOf (holdingsOf p c lent .answer))
+unfolding holdingsOf refusalOf
+holdings-refusals p c lent = by-test (λ (r : Listed). Among byHoldings (refusalOf (r .answer))) (λ _. refl) (λ _. refusal-listed p c (length lent))

@@ -2,6 +2,9 @@ pub mod Choices
 pub mod Scans
 pub mod Loops
 pub mod Elements
+pub mod Counting
+pub mod Rising
+pub mod Laid
 pub mod Each
 pub mod StageAnswers
 pub mod Setups

@@ -7,6 +7,7 @@ use Prim.Native.Nat.{ℕ, zero, suc, _+_}
 use Prim.Native.Char.{code}
 use Prim.Native.String.{String, [] as S[], _∷_ as _S∷_}
 use lib.Dec.{eqb}
+use lib.ListN.{replicate}
 use Rattle.pool.specs.Choose.{choose}
 use Rattle.pool.specs.State.{none, evicted, pinned, slot, pins, count, resting, client}
 use Rattle.pool.specs.Table.{lookup}
@@ -15,10 +16,13 @@ use Rattle.pool.specs.Apply.{apply}
 use Rattle.pool.specs.Valid.{valid}
 use Rattle.pool.specs.Calls.{fresh, setupOf, callOf, poolAfter}
 use Rattle.pool.specs.Tallies.{up, tallied}
+use Rattle.pool.specs.Holdings.{listed, holdingsOf}
 use Rattle.pool.specs.Schedule.{ran}
 use Rattle.pool.specs.declared.Pool.{Pool}
 use Rattle.pool.specs.declared.Client.{Client}
 use Rattle.pool.specs.declared.Tally.{Tally}
+use Rattle.pool.specs.declared.Row.{Row}
+use Rattle.pool.specs.declared.Listed.{Listed}
 use Rattle.pool.specs.declared.Call.{Call}
 use Rattle.pool.specs.declared.Call.the-variants.{Begin, Step, Release}
 use Rattle.pool.specs.declared.Counted.{Counted}
@@ -503,6 +507,32 @@ abbrev pub notRemoved : HandedCase
 notRemoved =
     handed (standing (withVictim (withOwn (resting 0) 0) 1) 17) Same (PutEntry 0 0 2) plays Step 0 gets Working 18 ∷ lookup at 0 is 2 ∷ []
 
+-- ---- holdings: client 0 was granted the largest of all page numbers first, then 7, 0, and 7 again; client 1 holds nothing
+
+abbrev pub outOfOrder : Pool
+outOfOrder = poolAfter (fresh 4 2 3 0) (admit 4294967295 ++ admit 7 ++ admit 0 ++ Begin 0 7 ∷ steps 0 3)
+
+abbrev pub row : ℕ → ℕ → Row
+row g times = record { page = g; times = times }
+
+-- n rows that no client has
+abbrev pub lent : ℕ → List Row
+lent n = replicate n (row 77 7)
+
+-- client 0 is asked on four rows, on just enough, and on one too few; client 1 on none; a client that is not there; and a pool that check 8 refuses
+abbrev pub asked : Pool → List Listed
+asked p =
+    holdingsOf p 0 (lent 4) ∷ holdingsOf p 0 (lent 3) ∷ holdingsOf p 0 (lent 2) ∷ holdingsOf p 1 []
+    ∷ holdingsOf p 2 (lent 2) ∷ holdingsOf (fresh 0 2 3 0) 0 (lent 2) ∷ []
+
+abbrev pub rising : List Row
+rising = row 0 1 ∷ row 7 2 ∷ row 4294967295 1 ∷ []
+
+abbrev pub told : List Listed
+told =
+    listed (Done 3) (rising ++ lent 1) ∷ listed (Done 3) rising ∷ listed (Refused 14) (lent 2) ∷ listed (Done 0) []
+    ∷ listed (Refused 9) (lent 2) ∷ listed (Refused 8) (lent 2) ∷ []
+
 -- ---- the tally: each kind raises its own number by one, and no other
 
 abbrev pub tally : ℕ → ℕ → ℕ → ℕ → ℕ → ℕ → Tally
@@ -538,8 +568,9 @@ file = 0x46 ∷ 0x43 ∷ 0 ∷ 1 ∷ 1 ∷ 3 ∷ 0 ∷ 0 ∷ 0 ∷ 0 ∷ record8
 abbrev pub listing : String
 listing = "0 0 0 1\n1 0 0 9\n2 0 1 4\n3 0 1 5\n4 0 1 6\n5 0 1 7\n6 0 1 8\n7 0 1 9\n8 0 1 18\n9 0 2 0\n10 0 111 0\n11 0 0 9\n"
 
--- What is proved of the table: each case holds; check 8 passes the sound pools and no broken one; calls on handed pools answer as said; each kind
--- raises its own number of a tally, which stays at its largest value; and the file's run of 12 records has the listing for its report.
+-- What is proved of the table: each case holds; check 8 passes the sound pools and no broken one; calls on handed pools answer as said; holdings
+-- lists as told; each kind raises its own number of a tally, which stays at its largest value; and the file's run of 12 records has the listing for
+-- its report.
 pub record Proved : Type 0 where
   pub published : Holds P1 × Holds P2 × Holds P3 × Holds P4 × Holds P5 × Holds P6 × Holds P7a × Holds P7b × (map computed P8 ≡ P8)
   pub of-one : Holds reducedStart × Holds roundTheEnd × Holds countAtCap × Holds twoHeld × Holds busyRunReset
@@ -549,6 +580,7 @@ pub record Proved : Type 0 where
   pub check8 : Check8 sound true × Check8 broken false
   pub handed-calls :
       Plays fullyPinned × Plays ownPinnedTwice × Plays takenAgain × Plays searchedRound × Plays joinRaises × Plays notReplaced × Plays notRemoved
+  pub holdings : asked outOfOrder ≡ told
   pub raises : map (λ k. tallied k (tally 10 20 30 40 50 60)) kinds ≡ raisedByKind
   pub largest : (up 4294967294 ≡ 4294967295) × (up 4294967295 ≡ 4294967295)
   pub report : ran file 49152 ≡ record { records = 12; refusal = 0; lines = codes listing }

@@ -179,6 +179,12 @@ pub struct Row {
     pub times: u8,
 }
 
+// What holdings leaves, its answer and the caller's list: SPECIFICATION 8.2. A list by value has eight rows, which are enough for every client.
+pub struct Listed {
+    pub answer: Answer,
+    pub rows: [Row; HELD],
+}
+
 // What the reader makes of the bytes at the start of a record: SPECIFICATION 9.2.
 pub enum Reading {
     // S, T, C, hand.

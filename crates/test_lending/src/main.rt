@@ -1,8 +1,9 @@
-// A caller of both lent forms: one tally is lent to every step, and lists of rows to holdings. It lends through `foqheran::step_of` and
-// `foqheran::holdings_on`, which own what they lend, so nothing here is walked by hand. A test program.
+// A caller of both lent forms: one tally is lent to every step, and lists of rows to holdings. It lends through `foqheran::step_of`,
+// `foqheran::holdings_on` and `holdings::on_first`, which own what they lend, so nothing here is walked by hand. A test program.
 //
-// It prints a list as the answer's code and value and then the first three of its rows, a page and its times each; and a tally as its six counts,
-// hits, joins, admitted, revived, drops and refused, a line each. Why `stdout` says what it says is in the comments of `main`.
+// It prints a list as the answer's code and value and then the first four of its rows, a page and its times each; and a tally as its six counts,
+// hits, joins, admitted, revived, drops and refused, a line each. Why `stdout` says what it says is in the comments of the functions that print.
+use foqheran::Listed;
 use foqheran::Pool;
 use foqheran::Row;
 use foqheran::Tally;
@@ -93,17 +94,33 @@ fn print_row(row: Row) {
     print_pair(row.page, row.times as u32);
 }
 
-// The list is lent with the page 77, seven times, in every row, so that it is seen which rows were filled (SPECIFICATION 8.2).
-fn print_holdings(state: State, client: u8) {
-    let pool = state.pool;
-    let filler = Row { page: 77, times: 7 };
-    let listed = foqheran::holdings_on(pool, client, [filler; 8]);
+fn print_listed(listed: Listed) {
     let answer = listed.answer;
     let rows = listed.rows;
     print_pair(foqheran::code_of(answer), foqheran::value_of(answer));
     print_row(rows[0]);
     print_row(rows[1]);
     print_row(rows[2]);
+    print_row(rows[3]);
+}
+
+// The list is lent with the page 77, seven times, in every row, so that it is seen which rows were filled (SPECIFICATION 8.2).
+const FILLER: Row = Row { page: 77, times: 7 };
+
+fn print_holdings(state: State, client: u8) {
+    let pool = state.pool;
+    print_listed(foqheran::holdings_on(pool, client, [FILLER; 8]));
+}
+
+// Only the first two, or the first three, of these rows are lent.
+fn print_on_two(state: State, client: u8) {
+    let pool = state.pool;
+    print_listed(holdings::on_first(pool, client, [FILLER; 8], 2));
+}
+
+fn print_on_three(state: State, client: u8) {
+    let pool = state.pool;
+    print_listed(holdings::on_first(pool, client, [FILLER; 8], 3));
 }
 
 fn print_tally(state: State) {
@@ -116,7 +133,8 @@ fn print_tally(state: State) {
     print_line(tally.refused);
 }
 
-fn main() {
+// The tally, and with it lists of one page and of two.
+fn count() {
     // S 2, T 2, C 3.
     let mut state = set_up(2, 2, 3, 0);
 
@@ -136,8 +154,7 @@ fn main() {
     // Both slots have held frames: stages 1, 4, 5, 10, 11, 12 (busy), 11, 12 (busy, the second of two: refusal 15). Refused 1.
     state = request(state, 1, 7, 8);
 
-    // Client 0 holds 9 three times and 5 once, client 1 holds 9 once; the order of rows is open, and here that of the first grants. There is no
-    // client 2: refusal 9, and no row.
+    // Client 0 holds 9 three times and 5, which was granted last, once; client 1 holds 9 once. There is no client 2: refusal 9, and no row.
     print_holdings(state, 0);
     print_holdings(state, 1);
     print_holdings(state, 2);
@@ -165,4 +182,36 @@ fn main() {
     print_holdings(state, 0);
     print_holdings(state, 1);
     print_tally(state);
+}
+
+// Rows by rising page number, in whichever order the pages were granted (SPECIFICATION 8.1).
+fn list() {
+    // S 4, T 2, C 3: three pages, each admitted to an empty slot (stages 1, 4 to 9, 18), the largest of all page numbers first and 0 last; then 7 once
+    // more, a hit. Client 1 gets the same three by hits, in another order.
+    let mut state = set_up(4, 2, 3, 0);
+    state = request(state, 0, 4294967295, 8);
+    state = request(state, 0, 7, 8);
+    state = request(state, 0, 0, 8);
+    state = request(state, 0, 7, 3);
+    state = request(state, 1, 7, 3);
+    state = request(state, 1, 4294967295, 3);
+    state = request(state, 1, 0, 3);
+    print_holdings(state, 0);
+    print_holdings(state, 1);
+
+    // Three rows are enough; two are not: refusal 14, and they stay as they were.
+    print_on_three(state, 0);
+    print_on_two(state, 0);
+
+    // One grant of 7 less; then none, and two rows are enough. A client that works may be asked, too.
+    state = release(state, 0, 7);
+    print_holdings(state, 0);
+    state = release(state, 0, 7);
+    state = begin(state, 0, 5);
+    print_on_two(state, 0);
+}
+
+fn main() {
+    count();
+    list();
 }

@@ -1,18 +1,24 @@
 -- Each contract says that the call is the definition's, and a begin or a release counts nothing, so that leaving the tally alone is tallying it. A
 -- list is a recursion over that, and what the guarantee claims of the definition's pools and events it claims of the code's. Assumes nothing.
-use mathlib.Core.Path.{_≡_, refl, sym, _∙_}
-use mathlib.Core.List.{List, [], _∷_}
+use mathlib.Core.Path.{_≡_, refl, sym, ap, _∙_}
+use mathlib.Core.List.{List, [], _∷_, _++_}
+use native.Mathlib.Omega.{arith}
 use Prim.Native.Nat.{ℕ}
+use lib.ListN.{length, take, drop}
+use lib.Seq.{take-append-seam, drop-append-seam}
 use Rattle.pool.specs.Calls.{setupOf, moveOf, releaseMove, finished, callOf, poolAfter}
 use Rattle.pool.specs.Tallies.{zeroTally, tallied}
+use Rattle.pool.specs.Holdings.{rowsOf, holdingsRefusal, listed, holdingsOf, Listing}
 use Rattle.pool.specs.declared.Pool.{Pool}
+use Rattle.pool.specs.declared.Row.{Row}
+use Rattle.pool.specs.declared.Listed.{Listed}
 use Rattle.pool.specs.declared.Tally.{Tally}
 use Rattle.pool.specs.declared.Move.{Move}
 use Rattle.pool.specs.declared.Outcome.{Outcome}
 use Rattle.pool.specs.declared.Call.{Call}
 use Rattle.pool.specs.declared.Call.the-variants.{Begin, Step, Release}
 use Rattle.pool.specs.declared.Answer.{Answer}
-use Rattle.pool.specs.declared.Answer.the-variants.{Done}
+use Rattle.pool.specs.declared.Answer.the-variants.{Done, Refused}
 use Rattle.pool.specs.declared.Counted.the-variants.{Nothing}
 use Rattle.laws.specs.Choices.{by-test}
 use Rattle.calls.specs.Refusals.{setup-refusals, begin-refusals, step-refusals, release-refusals}
@@ -20,6 +26,7 @@ use Rattle.calls.specs.Tallied.{steppedOf}
 use Rattle.guarantee.specs.Runs.{events}
 use Rattle.guarantee.specs.Claims.{tallyOf}
 use Rattle.guarantee.proofs.Guaranteed.{guarantee}
+use Rattle.tie.specs.Contracts.{HoldingsSays}
 use Rattle.tie.specs.Ties.{Makes, begin, release, step-tallied, step-of, step, Plays, at-end, at-call, Accepted}
 use Rattle.tie.specs.Ties.{Claim-setup, Claim-call, Claim-list, Answerable, Claim-any-tally, Claim-set-up, Claim-point3, Claim-sum}
 use Rattle.tie.specs.Ties.{ListsHoldings, Tied}
@@ -101,8 +108,27 @@ sum s t c h r first calls answers q u m =
 
 -- ---- holdings
 
+-- a list that is left as by a call that is done
+abbrev Filled : Pool → ℕ → ℕ → List Row → List Row → Type 0
+Filled p c n rows left = Listing p c (take n left) × (drop n left ≡ drop n rows)
+
+filled : (p : Pool) (c n : ℕ) (rows left : List Row) → HoldingsSays p c rows (Done n) left → Filled p c n rows left
+unfolding holdingsOf
+filled p c n rows left =
+    by-test (λ (r : Listed). listed (Done n) left ≡ r → Filled p c n rows left)
+    (λ _ e.
+    let answer : Done n ≡ Done (length (rowsOf p c)) = ap (λ (r : Listed). r .answer) e in
+    let long : n ≡ length (rowsOf p c) = cc in
+    let is : left ≡ rowsOf p c ++ drop (length (rowsOf p c)) rows = ap (λ (r : Listed). r .rows) e in
+    rw (is, long, take-append-seam (rowsOf p c), drop-append-seam (rowsOf p c)) (guarantee .holdings p c (rowsOf p c) .1 refl, refl))
+    (λ _ e.
+    let answer : Done n ≡ Refused (holdingsRefusal p c (length rows)) = ap (λ (r : Listed). r .answer) e in
+    let z : _≡_ {A = ℕ} 0 1 = cc in
+    let never : ⊥ = omega arith in
+    absurd never)
+
 holdings : ListsHoldings
-holdings = record { holdings-on = λ p c rows r l. l .0; holdings-of = λ p c r l. l .0; holdings = λ p c rows left a l. l .0 }
+holdings = record { holdings-on = λ p c rows r l. l .0; holdings-of = λ p c r l. l .0; done = filled }
 
 pub all-tied : Tied
 all-tied =

@@ -17,16 +17,16 @@ use borrow.Fn.World.{World}
 use borrow.Fn.Plain.{Known}
 use borrow.Fn.Run.{Over}
 use Rattle.pool.specs.Tallies.{tallyAfter}
+use Rattle.pool.specs.Holdings.{listed, holdingsOf}
 use Rattle.pool.specs.declared.Pool.{Pool}
 use Rattle.pool.specs.declared.Tally.{Tally}
 use Rattle.pool.specs.declared.Row.{Row}
+use Rattle.pool.specs.declared.Listed.{Listed}
 use Rattle.pool.specs.declared.Answer.{Answer}
 use Rattle.pool.specs.declared.Outcome.{Outcome}
 use Rattle.calls.specs.declared.Stepped.{Stepped}
 use Rattle.step.specs.Answers.{answeredOf}
 use Rattle.step.specs.declared.Answered.{Answered}
-use Rattle.holdings.specs.Refusals.{Promised}
-use Rattle.holdings.specs.declared.Listed.{Listed}
 use Rattle.calls.proofs.setup.Reads as setup
 use Rattle.calls.proofs.setup.Kinds as setup-kinds
 use Rattle.calls.proofs.setup.Symbol as setup-code
@@ -75,7 +75,7 @@ StepOfSays p c t r = step-of.Learnt tt (p, (c, (t, tt))) r (p, (c, (t, tt)))
 abbrev pub StepSays : Pool → (client : ℕ) → Tally → Answered → Tally → Type 0
 StepSays p c t r u = (r ≡ answeredOf p c) × (u ≡ tallyAfter p c t)
 
--- holdings by value, on a list and on one that says nothing; and over a lent list
+-- holdings by value, on a list and on one that says nothing; and over a lent list: of the list as it was lent, the answer, and the list as it was left
 abbrev pub HoldingsOnSays : Pool → (client : ℕ) → List Row → Listed → Type 0
 HoldingsOnSays p c rows r = holdings-on.Learnt tt (p, (c, (rows, tt))) r (p, (c, (rows, tt)))
 
@@ -83,7 +83,7 @@ abbrev pub HoldingsOfSays : Pool → (client : ℕ) → Listed → Type 0
 HoldingsOfSays p c r = holdings-of.Learnt tt (p, (c, tt)) r (p, (c, tt))
 
 abbrev pub HoldingsSays : Pool → (client : ℕ) → List Row → Answer → List Row → Type 0
-HoldingsSays = Promised
+HoldingsSays p c lent a left = listed a left ≡ holdingsOf p c lent
 
 -- ---- no call asks anything of its caller
 

@@ -1,3 +1,4 @@
 pub mod Lending
 pub mod Machine
 pub mod Promises
+pub mod Cells

@@ -52,17 +52,22 @@ use denote.Triple.Table.{entered, cited}
 use denote.Triple.Walked.{says, Stays, stay-slice, stay-none, walkOf, AllGo, goes-none, goes-slice, Walks, ends-at, walked, walk-meets}
 use denote.Exit.{yes}
 use Rattle.pool.specs.Limits.{maxHeld}
-use Rattle.pool.specs.Holdings.{Holdings}
+use Rattle.pool.specs.Answers.{refusalOf}
+use Rattle.pool.specs.Holdings.{listed, holdingsOf}
 use Rattle.collecting.specs.Rows.{noRow}
-use Rattle.collecting.specs.Collects.{Collects}
-use Rattle.holdings.specs.Refusals.{promised}
+use Rattle.collecting.specs.Collects.{collectedOf, few-collected, collected-fits}
+use Rattle.holdings.specs.Refusals.{holdings-refusals}
 use Rattle.pool.specs.declared.Row.{Row}
+use Rattle.pool.specs.declared.Listed.{Listed}
 use Rattle.pool.specs.declared.Pool.{Pool}
 use Rattle.collecting.specs.declared.Collected.{Collected}
-use Rattle.holdings.proofs.Fills.{fills-list}
-use Rattle.holdings.proofs.Laid.{laid, laid-next, length-laid}
+use Rattle.laws.specs.Laid.{laid, laid-next, length-laid}
+use Rattle.holdings.proofs.Fills.{leaves, fills-list}
+use Rattle.answers.specs.Among.{Among}
+use Rattle.answers.specs.Refusals.{byHoldings}
 use Rattle.walks.proofs.Machine.{pv, av, asked}
 use Rattle.walks.proofs.Lending.{spelled}
+use Rattle.walks.proofs.Promises.{says-both}
 use Rattle.pool.proofs.Row as T
 use Rattle.pool.proofs.Row.Laws as T′
 use Rattle.pool.proofs.Pool as P
@@ -110,8 +115,8 @@ module _ {M : Type 1} (𝓤 : URA M) (H : Heap 𝓤) (A : Atoms 𝓤) (at-mem : 
   RowOf = tripleOf 𝓤 H A row-of.signature (row-of.spec 𝓤 H A at-mem run)
 
   collect-of : (p : Pool) (n room : ℕ) (c : Collected) →
-      ent 𝓤 (ensured 𝓤 H A collect.ended (collect.clauses 𝓤 H A at-mem run) tt (p, (n, (room, tt))) tt c) (fact 𝓤 (Collects p n room c))
-  collect-of p n room c = exE 𝓤 _ (λ ws. snd∗ 𝓤 (sem 𝓤 H A (lasts collect.ended tt (p, (n, (room, tt))) ws)) (fact 𝓤 (Collects p n room c)))
+      ent 𝓤 (ensured 𝓤 H A collect.ended (collect.clauses 𝓤 H A at-mem run) tt (p, (n, (room, tt))) tt c) (fact 𝓤 (c ≡ collectedOf p n room))
+  collect-of p n room c = exE 𝓤 _ (λ ws. snd∗ 𝓤 (sem 𝓤 H A (lasts collect.ended tt (p, (n, (room, tt))) ws)) (fact 𝓤 (c ≡ collectedOf p n room)))
 
   row-of-of : (c : Collected) (i : ℕ) (r : Row) →
       ent 𝓤 (ensured 𝓤 H A row-of.ended (row-of.clauses 𝓤 H A at-mem run) tt (c, (i, tt)) tt r) (fact 𝓤 (r ≡ getD (c .rows) i noRow))
@@ -150,7 +155,7 @@ module _ {M : Type 1} (𝓤 : URA M) (H : Heap 𝓤) (A : Atoms 𝓤) (W : Given
       asked ! p n p-is n-fits $ move ! (1 ∷ 0 ∷ []) $ join ! $ frame ! $ done !
 
   -- from here on: what `collect` returned, and what it says of it
-  module _ (c : Collected) (c-is : Is S.the-row c (sv c ∷ [])) (told : Collects p n (length ys) c) where
+  module _ (c : Collected) (c-is : Is S.the-row c (sv c ∷ [])) (told : c ≡ collectedOf p n (length ys)) where
     abbrev m : ℕ
     m = c .n
 
@@ -164,11 +169,17 @@ module _ {M : Type 1} (𝓤 : URA M) (H : Heap 𝓤) (A : Atoms 𝓤) (W : Given
     eight : length (c .rows) ≡ 8
     eight = sym (length-map (c .rows) _) ∙ LL.owed S.the-type S′.the-laws c _ c-is .1 .0 .1 .0 .1
 
+    few : m ≤ maxHeld
+    few = rw told (few-collected p n (length ys))
+
+    in-room : m ≤ length ys
+    in-room = rw told (collected-fits p n (length ys))
+
     abbrev Upto : Type 0
     Upto = (i : ℕ) × (i ≤ m)
 
     as-long : (i : Upto) → length (after (i .0)) ≡ length ys
-    as-long i = length-laid (c .rows) (i .0) ys (omega (arith, eight, told .few, i .1)) (omega (arith, told .in-room, i .1))
+    as-long i = length-laid (c .rows) (i .0) ys (omega (arith, eight, few, i .1)) (omega (arith, in-room, i .1))
 
     abbrev to-row : ℕ → RowOf 𝓤 H A at-mem run .Ghost
     to-row i = ((tt, tt, tt, (c, (i, tt)), (sv c ∷ [], (vint w64 i ∷ [], tt))), tt)
@@ -182,12 +193,16 @@ module _ {M : Type 1} (𝓤 : URA M) (H : Heap 𝓤) (A : Atoms 𝓤) (W : Given
     abbrev Closed : ℕ → List (Item 𝓤)
     Closed i = ‵ (obs (after i)) ∷ ‵ (fbor κ (Held T.the-row (length (after i)) b o γ)) ∷ ‵ (flft κ q) ∷ []
 
+    -- after the last turn the list is as the definition leaves it
+    filled : (i : ℕ) → i ≡ m → listed (c .answer) (after i) ≡ holdingsOf p n ys
+    filled i e = ap (λ (k : ℕ). listed (c .answer) (after k)) e ∙ ap (λ (r : Collected). leaves r ys) told ∙ fills-list p n ys
+
     exits : (i : ℕ) → i ≡ m → length (after i) ≡ length ys → ent 𝓤 (⋆ 𝓤 H A (Closed i)) (Post (av (c .answer)))
     exits i e l =
         qed W (Closed i) ∵
         suffices ! _ (ends-at 𝓤 H A f.ended stayed (f.clauses 𝓤 H A at-mem run) W (((κ, tt), (q, tt), tt, x, at), tt) (av (c .answer)) (c .answer)
         (tt, (tt, (after i, tt))) (tt, (tt, (l, tt)))) $
-        says ! (promised p n ys _ _ (subst (λ (k : ℕ). Holdings p n ys (c .answer) (after k)) (sym e) (fills-list p n ys c eight told))) $
+        says-both ! (filled i e) (subst (λ (r : Listed). Among byHoldings (refusalOf (r .answer))) (sym (filled i e)) (holdings-refusals p n ys)) $
         nothing ! $ move ! (3 ∷ 0 ∷ []) $ join ! $ frame ! $
         fjoin ! $ pureI ! (at-slice T.the-row (at-list (after i)) (s ∷ [])) (tt, (tt, tt))
         (ap (λ (k : ℕ). sliceVal (b, o) k ∷ []) (sym l), subst (Room T.the-row) (sym l) room) $ fjoin ! $
@@ -230,14 +245,14 @@ module _ {M : Type 1} (𝓤 : URA M) (H : Heap 𝓤) (A : Atoms 𝓤) (W : Given
       unfolding afterTurn
       turn i true e =
           let less : i .0 < m = ltb-true _ _ e in
-          let in-rows : i .0 < length (c .rows) = omega (arith, eight, told .few) in
-          let in-ys : i .0 < length ys = omega (arith, told .in-room) in
+          let in-rows : i .0 < length (c .rows) = omega (arith, eight, few) in
+          let in-ys : i .0 < length ys = omega (arith, in-room) in
           let in-laid : i .0 < length (after (i .0)) = omega (arith, as-long i) in
           assigns ! (bin ! (load ! (from ! (stop !)) (look ! 14 refl)) (load ! (from ! (stop !)) (look ! 16 refl)) tt) (from ! (stop !))
           (init ! 10 refl (tt, tt)) $
           rewrite ! 10 (λ (z : Bool). ‵ (fat fullShare tyBool l₈ 0 (vbool z))) e refl $ stays ! (load ! (from ! (stop !)) (look ! 10 refl)) $
           -- the row
-          use0 W (raw (RowOf 𝓤 H A at-mem run .pre (to-row (i .0)))) (goes-row (i .0) (omega (arith, told .few))) $
+          use0 W (raw (RowOf 𝓤 H A at-mem run .pre (to-row (i .0)))) (goes-row (i .0) (omega (arith, few))) $
           calls-at ! (fmOf 𝓤 H (W .laws) 𝓣) (RowOf 𝓤 H A at-mem run) known (to-row (i .0))
           (and-then ! (load ! (from ! (stop !)) (look ! 19 refl)) (and-then ! (load ! (from ! (stop !)) (look ! 15 refl)) (no-more !))) (λ v.
           use1 W (later (some (λ (r : Row). (‵ ftrue ⊛ ‵ (T.the-row .own r (v ∷ []))) ⊛ raw
@@ -248,8 +263,8 @@ module _ {M : Type 1} (𝓤 : URA M) (H : Heap 𝓤) (A : Atoms 𝓤) (W : Given
           land ! (from ! (stop !)) (init ! 8 refl (LL.lawful T.the-type T′.the-laws 𝓤 H A W .typed r _ r-is .0)) $
           rewrite ! 8 (λ (u : Val). ‵ (fat fullShare T′.mir l₉ 0 u)) (ap only (LL.tells T.the-type T′.the-laws r _ r-is)) refl $
           -- its place
-          assigns ! (bin ! (load ! (from ! (stop !)) (look ! 14 refl)) (lit ! tt) (record { fits = omega (arith, told .few) })) (from ! (stop !))
-          (init ! 6 refl (tt, record { fits = omega (arith, told .few) })) $
+          assigns ! (bin ! (load ! (from ! (stop !)) (look ! 14 refl)) (lit ! tt) (record { fits = omega (arith, few) })) (from ! (stop !))
+          (init ! 6 refl (tt, record { fits = omega (arith, few) })) $
           assigns ! (bin ! (load ! (from ! (fld ! refl (stop !))) (look-in ! 20 (sub ! 0 refl (whole !))))
           (load ! (from ! (stop !)) (look ! 6 refl)) tt) (from ! (stop !)) (init ! 4 refl (tt, tt)) $
           rewrite ! 4 (λ (k : ℕ). ‵ (fat fullShare tyPtr l₁₁ 0 (vptr b k))) (sym (place-is 8 o (i .0))) refl $
@@ -263,8 +278,8 @@ module _ {M : Type 1} (𝓤 : URA M) (H : Heap 𝓤) (A : Atoms 𝓤) (W : Given
           move ! (1 ∷ 0 ∷ []) $ elem-put ! T.the-row fullShare (after (i .0)) (i .0) r (tv r ∷ []) b o in-laid $
           rewrite ! 0 (λ (l : List Row). ‵ (row T.the-row fullShare l b o))
           (ap (λ (y : Row). set (after (i .0)) (i .0) y) er ∙ laid-next noRow (c .rows) (i .0) ys in-rows in-ys) refl $
-          assigns-last ! (bin ! (load ! (from ! (stop !)) (look ! 14 refl)) (lit ! tt) (record { fits = omega (arith, told .few) }))
-          (from ! (stop !)) (store ! 14 refl (tt, record { fits = omega (arith, told .few) })) $
+          assigns-last ! (bin ! (load ! (from ! (stop !)) (look ! 14 refl)) (lit ! tt) (record { fits = omega (arith, few) }))
+          (from ! (stop !)) (store ! 14 refl (tt, record { fits = omega (arith, few) })) $
           forget ! 4 refl $ forget ! 6 refl $ forget ! 8 refl $ forget ! 10 refl $ again ! Nearer At i (i .0 + 1, omega arith) (omega arith))))))
       turn i false e =
           let over : m ≤ i .0 = ltb-false _ _ e in
@@ -306,8 +321,8 @@ module _ {M : Type 1} (𝓤 : URA M) (H : Heap 𝓤) (A : Atoms 𝓤) (W : Given
         (and-then ! (load ! (from ! (stop !)) (look ! 19 refl)) (and-then ! (load ! (from ! (stop !)) (look ! 9 refl)) (no-more !)))) (λ v.
         use1 W (later (some (λ (c : Collected). (‵ ftrue ⊛ ‵ (S.the-row .own c (v ∷ []))) ⊛ raw
         (ensured 𝓤 H A collect.ended (collect.clauses 𝓤 H A at-mem run) tt (p, (n, (length ys, tt))) tt c)))) (id⊢ 𝓤 _) $ await ! tt $ pick ! (λ c.
-        split ! $ move ! (1 ∷ []) $ use1 W (raw (fact 𝓤 (Collects p n (length ys) c))) (collect-of 𝓤 H A at-mem run p n (length ys) c) $
-        heard ! (Collects p n (length ys) c) (λ told. split ! $ drop ! $
+        split ! $ move ! (1 ∷ []) $ use1 W (raw (fact 𝓤 (c ≡ collectedOf p n (length ys)))) (collect-of 𝓤 H A at-mem run p n (length ys) c) $
+        heard ! (c ≡ collectedOf p n (length ys)) (λ told. split ! $ drop ! $
         facts ! S.the-row (Is S.the-row) (shows 𝓤 H A S.the-row) c (v ∷ []) (λ is₀.
         land ! (from ! (stop !)) (init ! 14 refl (LL.lawful S.the-type S′.the-laws 𝓤 H A W .typed c _ is₀ .0)) $
         rewrite ! 14 (λ (u : Val). ‵ (fat fullShare S′.mir l₄ 0 u)) (ap only (LL.tells S.the-type S′.the-laws c _ is₀)) refl $

@@ -1,0 +1,106 @@
+-- Claim 14. The pages of the definition's rows are rising and are those that the client holds, by how `sorted` makes them. So are the pages of any
+-- `Listing`, and two such lists are one; the times of a row are told by its page. Assumes nothing.
+use mathlib.Core.Path.{_≡_, refl, _∙_, sym, ap}
+use mathlib.Core.List.{List, [], _∷_, map}
+use native.Mathlib.Omega.{arith}
+use Prim.Native.Nat.{ℕ, zero, suc, _<_}
+use borrow.Author.Tests.{eq-eqb, eqb-true}
+use lib.Dec.{eqb}
+use lib.ListN.{length, getD, length-map, List·getD-map}
+use lib.Seq.{ext-getD}
+use Rattle.pool.specs.State.{client, grantPage}
+use Rattle.pool.specs.Holdings.{pagesHeld, timesHeld, rowsOf, row, Listing}
+use Rattle.pool.specs.declared.Pool.{Pool}
+use Rattle.pool.specs.declared.Row.{Row}
+use Rattle.laws.specs.Counting.{counted, one-passes}
+use Rattle.laws.specs.Rising.{Rising, Has, has-at, place-of, rises, of-places, same-list, sorted-rises, sorted-has, sorted-from}
+use Rattle.guarantee.specs.Claims.{Claim-holdings}
+
+abbrev noRow : Row
+noRow = record { page = 0; times = 0 }
+
+abbrev pages : List Row → List ℕ
+pages rows = map (λ (r : Row). r .page) rows
+
+page-at : (rows : List Row) (i : ℕ) → getD (pages rows) i 0 ≡ row rows i .page
+page-at rows i = List·getD-map (λ (r : Row). r .page) rows i noRow
+
+module _ (p : Pool) (c : ℕ) where
+  abbrev rowOf : ℕ → Row
+  rowOf g = record { page = g; times = timesHeld p c g }
+
+  long : length (rowsOf p c) ≡ length (pagesHeld p c)
+  unfolding rowsOf
+  long = length-map (pagesHeld p c) rowOf
+
+  row-at : (i : ℕ) → i < length (pagesHeld p c) → row (rowsOf p c) i ≡ rowOf (getD (pagesHeld p c) i 0)
+  unfolding rowsOf
+  row-at i h = along (pagesHeld p c) i h
+    where
+      along : (l : List ℕ) (i : ℕ) → i < length l → row (map rowOf l) i ≡ rowOf (getD l i 0)
+      along [] i h = let z : ⊥ = omega arith in absurd z
+      along (g ∷ l) zero h = refl
+      along (g ∷ l) (suc i) h = along l i (omega arith)
+
+  -- the pages of the rows: they rise, and are those that are held at all
+  pages-rise : Rising 0 (pagesHeld p c)
+  unfolding pagesHeld
+  pages-rise = sorted-rises (grantPage p c) (client p c .held)
+
+  stands : (g : ℕ) → 0 < timesHeld p c g → Has (pagesHeld p c) g
+  unfolding pagesHeld timesHeld
+  stands g h =
+      let one = one-passes (λ i. eqb (grantPage p c i) g) (client p c .held) h in
+      let is : grantPage p c (one .0) ≡ g = eqb-true _ _ (one .2) in
+      rw is at (sorted-has (grantPage p c) (client p c .held) (one .0) (one .1))
+
+  is-held : (g : ℕ) → Has (pagesHeld p c) g → 0 < timesHeld p c g
+  unfolding pagesHeld timesHeld
+  is-held g m = let at = sorted-from (grantPage p c) (client p c .held) g m in counted _ _ (at .0) (at .1) (eq-eqb _ _ (at .2))
+
+  -- the definition's rows
+  listing : Listing p c (rowsOf p c)
+  listing = record {
+    right = λ i h.
+        let inside : i < length (pagesHeld p c) = rw long at h in
+        rw (row-at i inside) (refl, is-held _ (has-at 0 (pagesHeld p c) i inside));
+    rising = λ i j less h.
+        let inside : j < length (pagesHeld p c) = rw long at h in
+        rw (row-at i (omega arith), row-at j inside) (rises 0 pages-rise i j less inside);
+    complete = λ g h.
+        let at = place-of 0 (stands g h) in
+        (at .0, rw long (at .1), ap (λ (r : Row). r .page) (row-at (at .0) (at .1)) ∙ at .2);
+  }
+
+  -- any list of that kind
+  module _ (rows : List Row) (l : Listing p c rows) where
+    as-long : length (pages rows) ≡ length rows
+    as-long = length-map rows (λ (r : Row). r .page)
+
+    is-row : (i : ℕ) → i < length rows → row rows i ≡ rowOf (row rows i .page)
+    is-row i h = ap (λ (t : ℕ). record { page = row rows i .page; times = t }) (l .right i h .0)
+
+    rows-rise : Rising 0 (pages rows)
+    rows-rise =
+        of-places 0 0 (pages rows) (λ i h. omega arith) (λ i j less h. rw (page-at rows i, page-at rows j) (l .rising i j less (rw as-long at h)))
+
+    into : (g : ℕ) → Has (pages rows) g → Has (pagesHeld p c) g
+    into g m =
+        let at = place-of 0 m in
+        let right = l .right (at .0) (rw as-long at (at .1)) in
+        stands g (rw (right .0, ← (page-at rows (at .0)), at .2) at (right .1))
+
+    back : (g : ℕ) → Has (pagesHeld p c) g → Has (pages rows) g
+    back g m =
+        let at = l .complete g (is-held g m) in
+        rw (page-at rows (at .0), at .2) at (has-at 0 (pages rows) (at .0) (rw as-long (at .1)))
+
+    only : rows ≡ rowsOf p c
+    only =
+        let same : pages rows ≡ pagesHeld p c = same-list rows-rise pages-rise into back in
+        ext-getD noRow rows (rowsOf p c) (sym as-long ∙ ap length same ∙ sym long)
+        (λ i h. is-row i h ∙ ap rowOf (sym (page-at rows i) ∙ ap (λ (x : List ℕ). getD x i 0) same)
+        ∙ sym (row-at i (rw (← same, as-long) h)))
+
+pub holdings : Claim-holdings
+holdings p c rows = (only p c rows, λ e. rw e (listing p c))
