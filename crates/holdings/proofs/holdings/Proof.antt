@@ -1,4 +1,4 @@
--- `collect` says what to answer, which rows and how many, and `Collects` makes of that what the contract asks of the list (`fills-list`). The
+-- `collect` says what to answer, which rows and how many; laid over the list these make what the definition leaves there (`fills-list`). The
 -- list's borrow is opened once, before the loop, and closed once, after it; after i turns the list holds the first i of those rows and after
 -- them its own (`Laid.antt`). Of `collect` and `row_of` only their contracts are used: a walk of the MIR, by hand. Assumes nothing.
 use mathlib.Core.Path.{_≡_, refl, sym, ap, subst, _∙_}

@@ -1,6 +1,6 @@
 -- All eight rows are lent. Assumes nothing.
 use borrow.Author.Needs.{needs}
-use mathlib.Core.Path.{_∙_, sym}
+use mathlib.Core.Path.{_∙_}
 use Rattle.holdings.specs.First.{all-lent}
 use Rattle.holdings.specs.Refusals.{holdings-refusals}
 use Rattle.holdings.proofs.holdings_on.Statement.{statement}
