@@ -335,9 +335,10 @@ class ClockBuffer:
 
 
 class Pool:
-    """A pool and its clients, with the calls begin, step and release.
+    """A pool and its clients: the calls begin, step, release and holdings.
 
-    Each call gives its answer as a pair (code, value) or raises Refused.
+    Each call gives its answer as a pair (code, value) or raises Refused;
+    only holdings, which no record makes, answers with a plain number.
     """
 
     def __init__(self, slots, clients, cap, hand):
@@ -384,6 +385,18 @@ class Pool:
                 grant[1].unpin()
                 return DONE, page
         raise Refused(13)
+
+    def holdings(self, number, rows):
+        """Write the client's pages over the front of rows, lowest first.
+
+        A row is a pair (page, times). A running request counts for nothing.
+        """
+        pages = [page for page, _ in self.client(number).grants]
+        held = [(page, pages.count(page)) for page in sorted(set(pages))]
+        if len(held) > len(rows):
+            raise Refused(14)
+        rows[:len(held)] = held
+        return len(held)
 
     def client(self, number):
         if number >= len(self.clients):

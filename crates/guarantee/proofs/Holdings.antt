@@ -9,15 +9,12 @@ use lib.Dec.{eqb}
 use lib.ListN.{length, getD, length-map, List·getD-map}
 use lib.Seq.{ext-getD}
 use Rattle.pool.specs.State.{client, grantPage}
-use Rattle.pool.specs.Holdings.{pagesHeld, timesHeld, rowsOf, row, Listing}
+use Rattle.pool.specs.Holdings.{pagesHeld, timesHeld, rowsOf, noRow, row}
 use Rattle.pool.specs.declared.Pool.{Pool}
 use Rattle.pool.specs.declared.Row.{Row}
 use Rattle.laws.specs.Counting.{counted, one-passes}
 use Rattle.laws.specs.Rising.{Rising, Has, has-at, place-of, rises, of-places, same-list, sorted-rises, sorted-has, sorted-from}
-use Rattle.guarantee.specs.Claims.{Claim-holdings}
-
-abbrev noRow : Row
-noRow = record { page = 0; times = 0 }
+use Rattle.guarantee.specs.Claims.{Listing, Claim-holdings}
 
 abbrev pages : List Row → List ℕ
 pages rows = map (λ (r : Row). r .page) rows
@@ -41,6 +38,9 @@ module _ (p : Pool) (c : ℕ) where
       along [] i h = let z : ⊥ = omega arith in absurd z
       along (g ∷ l) zero h = refl
       along (g ∷ l) (suc i) h = along l i (omega arith)
+
+  page-of : (i : ℕ) → i < length (pagesHeld p c) → row (rowsOf p c) i .page ≡ getD (pagesHeld p c) i 0
+  page-of i h = ap (λ (r : Row). r .page) (row-at i h)
 
   -- the pages of the rows: they rise, and are those that are held at all
   pages-rise : Rising 0 (pagesHeld p c)
@@ -66,10 +66,10 @@ module _ (p : Pool) (c : ℕ) where
         rw (row-at i inside) (refl, is-held _ (has-at 0 (pagesHeld p c) i inside));
     rising = λ i j less h.
         let inside : j < length (pagesHeld p c) = rw long at h in
-        rw (row-at i (omega arith), row-at j inside) (rises 0 pages-rise i j less inside);
+        omega (arith, page-of i (omega arith), page-of j inside, rises 0 pages-rise i j less inside);
     complete = λ g h.
         let at = place-of 0 (stands g h) in
-        (at .0, rw long (at .1), ap (λ (r : Row). r .page) (row-at (at .0) (at .1)) ∙ at .2);
+        (at .0, rw long (at .1), page-of (at .0) (at .1) ∙ at .2);
   }
 
   -- any list of that kind
@@ -82,7 +82,8 @@ module _ (p : Pool) (c : ℕ) where
 
     rows-rise : Rising 0 (pages rows)
     rows-rise =
-        of-places 0 0 (pages rows) (λ i h. omega arith) (λ i j less h. rw (page-at rows i, page-at rows j) (l .rising i j less (rw as-long at h)))
+        of-places 0 0 (pages rows) (λ i h. omega arith)
+        (λ i j less h. omega (arith, page-at rows i, page-at rows j, l .rising i j less (rw as-long at h)))
 
     into : (g : ℕ) → Has (pages rows) g → Has (pagesHeld p c) g
     into g m =

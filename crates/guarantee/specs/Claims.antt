@@ -6,7 +6,7 @@ use mathlib.Core.Bool.{Bool, true, false, _||_}
 use mathlib.Core.List.{List, [], _∷_}
 use Prim.Native.Nat.{ℕ, suc, _+_, _≤_, _<_}
 use lib.Dec.{T, eqb}
-use lib.ListN.{set, replicate}
+use lib.ListN.{length, set, replicate}
 use Rattle.pool.specs.State.{none, evicted, pinned, clientCount, total, resting, slot, pins, client, grantPage, grantFrame}
 use Rattle.pool.specs.Table.{lookup, resident, residents}
 use Rattle.pool.specs.Grants.{held}
@@ -14,7 +14,7 @@ use Rattle.pool.specs.Frames.{freeFrame}
 use Rattle.pool.specs.Valid.{valid}
 use Rattle.pool.specs.Calls.{SetUp, caller, callOf, poolAfter}
 use Rattle.pool.specs.Tallies.{largest, zeroTally, tallied}
-use Rattle.pool.specs.Holdings.{rowsOf, Listing}
+use Rattle.pool.specs.Holdings.{timesHeld, rowsOf, row}
 use Rattle.pool.specs.declared.Pool.{Pool}
 use Rattle.pool.specs.declared.Client.{Client}
 use Rattle.pool.specs.declared.Tally.{Tally}
@@ -324,7 +324,13 @@ Claim-limits =
     → let now = poolAfter p calls in
     ((d : ℕ) → client now d .stage ≡ 0) → callOf now (Begin b g) .answer ≡ Done g → WithinLimits now (p .size) b g
 
--- ---- GUARANTEE 14: what holdings lists
+-- ---- GUARANTEE 14: holdings in page order
+
+-- each row is a page that client c holds, with how often; the pages rise; and each page that the client holds has a row
+pub record Listing (p : Pool) (c : ℕ) (rows : List Row) : Type 0 where
+  pub right : (i : ℕ) → i < length rows → (row rows i .times ≡ timesHeld p c (row rows i .page)) × (0 < row rows i .times)
+  pub rising : (i j : ℕ) → i < j → j < length rows → row rows i .page < row rows j .page
+  pub complete : (g : ℕ) → 0 < timesHeld p c g → (i : ℕ) × (i < length rows) × (row rows i .page ≡ g)
 
 -- the rows of the definition are a listing, and no other list is one; of every pool, from wherever it was handed
 abbrev pub Claim-holdings : Type 0

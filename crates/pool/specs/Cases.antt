@@ -507,31 +507,38 @@ abbrev pub notRemoved : HandedCase
 notRemoved =
     handed (standing (withVictim (withOwn (resting 0) 0) 1) 17) Same (PutEntry 0 0 2) plays Step 0 gets Working 18 ∷ lookup at 0 is 2 ∷ []
 
--- ---- holdings: client 0 was granted the largest of all page numbers first, then 7, 0, and 7 again; client 1 holds nothing
+-- ---- holdings
 
-abbrev pub outOfOrder : Pool
-outOfOrder = poolAfter (fresh 4 2 3 0) (admit 4294967295 ++ admit 7 ++ admit 0 ++ Begin 0 7 ∷ steps 0 3)
-
-abbrev pub row : ℕ → ℕ → Row
-row g times = record { page = g; times = times }
+abbrev pub rowOf : ℕ → ℕ → Row
+rowOf g times = record { page = g; times = times }
 
 -- n rows that no client has
-abbrev pub lent : ℕ → List Row
-lent n = replicate n (row 77 7)
+abbrev pub filler : ℕ → List Row
+filler n = replicate n (rowOf 77 7)
 
--- client 0 is asked on four rows, on just enough, and on one too few; client 1 on none; a client that is not there; and a pool that check 8 refuses
-abbrev pub asked : Pool → List Listed
-asked p =
-    holdingsOf p 0 (lent 4) ∷ holdingsOf p 0 (lent 3) ∷ holdingsOf p 0 (lent 2) ∷ holdingsOf p 1 []
-    ∷ holdingsOf p 2 (lent 2) ∷ holdingsOf (fresh 0 2 3 0) 0 (lent 2) ∷ []
+-- a pool whose one client has these grants, the last one first, all of them on frame 0
+abbrev pub holder : List ℕ → Pool
+holder [] = fresh 2 1 3 0
+holder (g ∷ earlier) = let p = holder earlier in let n = client p 0 .held in handedOn p (resting (n + 1)) (Open n g 0) Keep
 
-abbrev pub rising : List Row
-rising = row 0 1 ∷ row 7 2 ∷ row 4294967295 1 ∷ []
+-- the largest of all page numbers, 0, 7, and 7 again, in this order; and their rows
+abbrev pub outOfOrder : Pool
+outOfOrder = holder (7 ∷ 7 ∷ 0 ∷ 4294967295 ∷ [])
 
-abbrev pub told : List Listed
-told =
-    listed (Done 3) (rising ++ lent 1) ∷ listed (Done 3) rising ∷ listed (Refused 14) (lent 2) ∷ listed (Done 0) []
-    ∷ listed (Refused 9) (lent 2) ∷ listed (Refused 8) (lent 2) ∷ []
+abbrev pub risen : List Row
+risen = rowOf 0 1 ∷ rowOf 7 2 ∷ rowOf 4294967295 1 ∷ []
+
+-- eight pages, falling but for the last
+abbrev pub eightPages : Pool
+eightPages = holder (8 ∷ 1 ∷ 2 ∷ 3 ∷ 4 ∷ 5 ∷ 6 ∷ 7 ∷ [])
+
+-- a grant on a frame that the pool does not have
+abbrev pub brokenHolder : Pool
+brokenHolder = handed (resting 1) (Open 0 9 4) Keep
+
+-- client c's holdings on a list: the answer, and the list then
+abbrev pub Lists : Pool → ℕ → List Row → Answer → List Row → Type 0
+Lists p c lent answer left = holdingsOf p c lent ≡ listed answer left
 
 -- ---- the tally: each kind raises its own number by one, and no other
 
@@ -569,8 +576,8 @@ abbrev pub listing : String
 listing = "0 0 0 1\n1 0 0 9\n2 0 1 4\n3 0 1 5\n4 0 1 6\n5 0 1 7\n6 0 1 8\n7 0 1 9\n8 0 1 18\n9 0 2 0\n10 0 111 0\n11 0 0 9\n"
 
 -- What is proved of the table: each case holds; check 8 passes the sound pools and no broken one; calls on handed pools answer as said; holdings
--- lists as told; each kind raises its own number of a tally, which stays at its largest value; and the file's run of 12 records has the listing for
--- its report.
+-- lists rows in page order, or leaves the list as it was; each kind raises its own number of a tally, which stays at its largest value; and the
+-- file's run of 12 records has the listing for its report.
 pub record Proved : Type 0 where
   pub published : Holds P1 × Holds P2 × Holds P3 × Holds P4 × Holds P5 × Holds P6 × Holds P7a × Holds P7b × (map computed P8 ≡ P8)
   pub of-one : Holds reducedStart × Holds roundTheEnd × Holds countAtCap × Holds twoHeld × Holds busyRunReset
@@ -580,7 +587,12 @@ pub record Proved : Type 0 where
   pub check8 : Check8 sound true × Check8 broken false
   pub handed-calls :
       Plays fullyPinned × Plays ownPinnedTwice × Plays takenAgain × Plays searchedRound × Plays joinRaises × Plays notReplaced × Plays notRemoved
-  pub holdings : asked outOfOrder ≡ told
+  pub in-page-order :
+      Lists outOfOrder 0 (filler 4) (Done 3) (risen ++ filler 1) × Lists outOfOrder 0 (filler 3) (Done 3) risen
+      × Lists eightPages 0 (filler 8) (Done 8) (map (λ g. rowOf g 1) (1 ∷ 2 ∷ 3 ∷ 4 ∷ 5 ∷ 6 ∷ 7 ∷ 8 ∷ [])) × Lists (holder []) 0 [] (Done 0) []
+  pub list-kept :
+      Lists outOfOrder 0 (filler 2) (Refused 14) (filler 2) × Lists outOfOrder 1 (filler 2) (Refused 9) (filler 2)
+      × Lists brokenHolder 0 [] (Refused 8) [] × Lists brokenHolder 1 (filler 2) (Refused 8) (filler 2)
   pub raises : map (λ k. tallied k (tally 10 20 30 40 50 60)) kinds ≡ raisedByKind
   pub largest : (up 4294967294 ≡ 4294967295) × (up 4294967295 ≡ 4294967295)
   pub report : ran file 49152 ≡ record { records = 12; refusal = 0; lines = codes listing }

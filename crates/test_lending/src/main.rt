@@ -1,13 +1,15 @@
 // A caller of both lent forms: one tally is lent to every step, and lists of rows to holdings. It lends through `foqheran::step_of`,
 // `foqheran::holdings_on` and `holdings::on_first`, which own what they lend, so nothing here is walked by hand. A test program.
 //
-// It prints a list as the answer's code and value and then the first four of its rows, a page and its times each; and a tally as its six counts,
-// hits, joins, admitted, revived, drops and refused, a line each. Why `stdout` says what it says is in the comments of the functions that print.
+// It prints a list on one line, the answer's code and value and then its eight rows, a page and its times each; and a tally as its six counts, hits,
+// joins, admitted, revived, drops and refused, a line each. Why `stdout` says what it says is in the comments of `count` and `list`.
 use foqheran::Listed;
 use foqheran::Pool;
 use foqheran::Row;
 use foqheran::Tally;
 use libc::STDOUT_FILENO;
+ghost use Prim.Native.Nat.{_≤_};
+ghost use Rattle.pool.specs.Limits.{maxHeld};
 
 // The pool, and the one tally that is lent to every step.
 struct State {
@@ -79,29 +81,36 @@ fn request(state: State, client: u8, page: u32, n: u8) -> State {
     steps(begin(state, client, page), client, n)
 }
 
-fn print_line(n: u32) {
+fn print(n: u32) {
     io::print_decimal(STDOUT_FILENO, n as u64);
+}
+
+fn print_line(n: u32) {
+    print(n);
     io::write_all(STDOUT_FILENO, b"\n");
 }
 
-fn print_pair(a: u32, b: u32) {
-    io::print_decimal(STDOUT_FILENO, a as u64);
+fn print_row(row: Row) {
     io::write_all(STDOUT_FILENO, b" ");
-    print_line(b);
+    print(row.page);
+    io::write_all(STDOUT_FILENO, b" ");
+    print(row.times as u32);
 }
 
-fn print_row(row: Row) {
-    print_pair(row.page, row.times as u32);
+fn print_rows(rows: [Row; 8]) {
+    for i in 0..8 {
+        print_row(rows[i]);
+    }
 }
 
 fn print_listed(listed: Listed) {
     let answer = listed.answer;
     let rows = listed.rows;
-    print_pair(foqheran::code_of(answer), foqheran::value_of(answer));
-    print_row(rows[0]);
-    print_row(rows[1]);
-    print_row(rows[2]);
-    print_row(rows[3]);
+    print(foqheran::code_of(answer));
+    io::write_all(STDOUT_FILENO, b" ");
+    print(foqheran::value_of(answer));
+    print_rows(rows);
+    io::write_all(STDOUT_FILENO, b"\n");
 }
 
 // The list is lent with the page 77, seven times, in every row, so that it is seen which rows were filled (SPECIFICATION 8.2).
@@ -112,15 +121,12 @@ fn print_holdings(state: State, client: u8) {
     print_listed(foqheran::holdings_on(pool, client, [FILLER; 8]));
 }
 
-// Only the first two, or the first three, of these rows are lent.
-fn print_on_two(state: State, client: u8) {
+// Only the first `room` of these rows are lent.
+fn print_on_first(state: State, client: u8, room: usize)
+    requires { ⌜ room ≤ maxHeld ⌝ }
+{
     let pool = state.pool;
-    print_listed(holdings::on_first(pool, client, [FILLER; 8], 2));
-}
-
-fn print_on_three(state: State, client: u8) {
-    let pool = state.pool;
-    print_listed(holdings::on_first(pool, client, [FILLER; 8], 3));
+    print_listed(holdings::on_first(pool, client, [FILLER; 8], room));
 }
 
 fn print_tally(state: State) {
@@ -186,12 +192,12 @@ fn count() {
 
 // Rows by rising page number, in whichever order the pages were granted (SPECIFICATION 8.1).
 fn list() {
-    // S 4, T 2, C 3: three pages, each admitted to an empty slot (stages 1, 4 to 9, 18), the largest of all page numbers first and 0 last; then 7 once
+    // S 8, T 2, C 3. Client 0 gets the largest of all page numbers first, then 0 and 7, each into an empty slot (stages 1, 4 to 9, 18), and 7 once
     // more, a hit. Client 1 gets the same three by hits, in another order.
-    let mut state = set_up(4, 2, 3, 0);
+    let mut state = set_up(8, 2, 3, 0);
     state = request(state, 0, 4294967295, 8);
-    state = request(state, 0, 7, 8);
     state = request(state, 0, 0, 8);
+    state = request(state, 0, 7, 8);
     state = request(state, 0, 7, 3);
     state = request(state, 1, 7, 3);
     state = request(state, 1, 4294967295, 3);
@@ -200,15 +206,24 @@ fn list() {
     print_holdings(state, 1);
 
     // Three rows are enough; two are not: refusal 14, and they stay as they were.
-    print_on_three(state, 0);
-    print_on_two(state, 0);
+    print_on_first(state, 0, 3);
+    print_on_first(state, 0, 2);
 
     // One grant of 7 less; then none, and two rows are enough. A client that works may be asked, too.
     state = release(state, 0, 7);
     print_holdings(state, 0);
     state = release(state, 0, 7);
     state = begin(state, 0, 5);
-    print_on_two(state, 0);
+    print_on_first(state, 0, 2);
+
+    // Five more pages for client 1, falling: eight rows, and not one fewer is enough.
+    state = request(state, 1, 6, 8);
+    state = request(state, 1, 5, 8);
+    state = request(state, 1, 4, 8);
+    state = request(state, 1, 3, 8);
+    state = request(state, 1, 2, 8);
+    print_holdings(state, 1);
+    print_on_first(state, 1, 7);
 }
 
 fn main() {

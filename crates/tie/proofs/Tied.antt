@@ -8,7 +8,7 @@ use lib.ListN.{length, take, drop}
 use lib.Seq.{take-append-seam, drop-append-seam}
 use Rattle.pool.specs.Calls.{setupOf, moveOf, releaseMove, finished, callOf, poolAfter}
 use Rattle.pool.specs.Tallies.{zeroTally, tallied}
-use Rattle.pool.specs.Holdings.{rowsOf, holdingsRefusal, listed, holdingsOf, Listing}
+use Rattle.pool.specs.Holdings.{rowsOf, holdingsRefusal, listed, holdingsOf}
 use Rattle.pool.specs.declared.Pool.{Pool}
 use Rattle.pool.specs.declared.Row.{Row}
 use Rattle.pool.specs.declared.Listed.{Listed}
@@ -24,7 +24,7 @@ use Rattle.laws.specs.Choices.{by-test}
 use Rattle.calls.specs.Refusals.{setup-refusals, begin-refusals, step-refusals, release-refusals}
 use Rattle.calls.specs.Tallied.{steppedOf}
 use Rattle.guarantee.specs.Runs.{events}
-use Rattle.guarantee.specs.Claims.{tallyOf}
+use Rattle.guarantee.specs.Claims.{tallyOf, Listing}
 use Rattle.guarantee.proofs.Guaranteed.{guarantee}
 use Rattle.tie.specs.Contracts.{HoldingsSays}
 use Rattle.tie.specs.Ties.{Makes, begin, release, step-tallied, step-of, step, Plays, at-end, at-call, Accepted}
@@ -108,27 +108,35 @@ sum s t c h r first calls answers q u m =
 
 -- ---- holdings
 
--- a list that is left as by a call that is done
-abbrev Filled : Pool → ℕ → ℕ → List Row → List Row → Type 0
-Filled p c n rows left = Listing p c (take n left) × (drop n left ≡ drop n rows)
+-- the definition's two ways out: done, and refused
+module _ (p : Pool) (c : ℕ) (rows left : List Row) (a : Answer) where
+  data Out : Type 0 where
+    is-done : a ≡ Done (length (rowsOf p c)) → left ≡ rowsOf p c ++ drop (length (rowsOf p c)) rows → Out
+    is-refused : a ≡ Refused (holdingsRefusal p c (length rows)) → left ≡ rows → Out
 
-filled : (p : Pool) (c n : ℕ) (rows left : List Row) → HoldingsSays p c rows (Done n) left → Filled p c n rows left
-unfolding holdingsOf
-filled p c n rows left =
-    by-test (λ (r : Listed). listed (Done n) left ≡ r → Filled p c n rows left)
-    (λ _ e.
-    let answer : Done n ≡ Done (length (rowsOf p c)) = ap (λ (r : Listed). r .answer) e in
+  out : HoldingsSays p c rows a left → Out
+  unfolding holdingsOf
+  out =
+      by-test (λ (r : Listed). listed a left ≡ r → Out) (λ _ e. is-done (ap (λ (r : Listed). r .answer) e) (ap (λ (r : Listed). r .rows) e))
+      (λ _ e. is-refused (ap (λ (r : Listed). r .answer) e) (ap (λ (r : Listed). r .rows) e))
+
+filled : (p : Pool) (c n : ℕ) (rows left : List Row) → Out p c rows left (Done n) → Listing p c (take n left) × (drop n left ≡ drop n rows)
+filled p c n rows left (is-done answer is) =
     let long : n ≡ length (rowsOf p c) = cc in
-    let is : left ≡ rowsOf p c ++ drop (length (rowsOf p c)) rows = ap (λ (r : Listed). r .rows) e in
-    rw (is, long, take-append-seam (rowsOf p c), drop-append-seam (rowsOf p c)) (guarantee .holdings p c (rowsOf p c) .1 refl, refl))
-    (λ _ e.
-    let answer : Done n ≡ Refused (holdingsRefusal p c (length rows)) = ap (λ (r : Listed). r .answer) e in
-    let z : _≡_ {A = ℕ} 0 1 = cc in
-    let never : ⊥ = omega arith in
-    absurd never)
+    rw (is, long, take-append-seam (rowsOf p c), drop-append-seam (rowsOf p c)) (guarantee .holdings p c (rowsOf p c) .1 refl, refl)
+filled p c n rows left (is-refused answer is) = let z : _≡_ {A = ℕ} 0 1 = cc in let never : ⊥ = omega arith in absurd never
+
+kept-rows : (p : Pool) (c n : ℕ) (rows left : List Row) → Out p c rows left (Refused n) → (n ≡ holdingsRefusal p c (length rows)) × (left ≡ rows)
+kept-rows p c n rows left (is-done answer is) = let z : _≡_ {A = ℕ} 0 1 = cc in let never : ⊥ = omega arith in absurd never
+kept-rows p c n rows left (is-refused answer is) = (cc, is)
 
 holdings : ListsHoldings
-holdings = record { holdings-on = λ p c rows r l. l .0; holdings-of = λ p c r l. l .0; done = filled }
+holdings = record {
+  holdings-on = λ p c rows r l. l .0;
+  holdings-of = λ p c r l. l .0;
+  holdings-done = λ p c n rows left says. filled p c n rows left (out p c rows left (Done n) says);
+  holdings-refused = λ p c n rows left says. kept-rows p c n rows left (out p c rows left (Refused n) says);
+}
 
 pub all-tied : Tied
 all-tied =

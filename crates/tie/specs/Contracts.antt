@@ -75,7 +75,8 @@ StepOfSays p c t r = step-of.Learnt tt (p, (c, (t, tt))) r (p, (c, (t, tt)))
 abbrev pub StepSays : Pool → (client : ℕ) → Tally → Answered → Tally → Type 0
 StepSays p c t r u = (r ≡ answeredOf p c) × (u ≡ tallyAfter p c t)
 
--- holdings by value, on a list and on one that says nothing; and over a lent list: of the list as it was lent, the answer, and the list as it was left
+-- holdings by value, on a list and on one that says nothing; and over a lent list, of the list as it was lent, the answer, and the list as it was
+-- left
 abbrev pub HoldingsOnSays : Pool → (client : ℕ) → List Row → Listed → Type 0
 HoldingsOnSays p c rows r = holdings-on.Learnt tt (p, (c, (rows, tt))) r (p, (c, (rows, tt)))
 

@@ -4,11 +4,11 @@
 use mathlib.Core.Path.{_≡_}
 use mathlib.Core.List.{List, [], _∷_, map}
 use Prim.Native.Nat.{ℕ, _+_}
-use lib.ListN.{take, drop}
+use lib.ListN.{length, take, drop}
 use Rattle.pool.specs.Table.{residents}
 use Rattle.pool.specs.Calls.{setupOf, SetUp, callOf, poolAfter}
 use Rattle.pool.specs.Tallies.{zeroTally, tallied}
-use Rattle.pool.specs.Holdings.{holdingsOf, Listing}
+use Rattle.pool.specs.Holdings.{holdingsRefusal, holdingsOf}
 use Rattle.pool.specs.declared.Pool.{Pool}
 use Rattle.pool.specs.declared.Tally.{Tally}
 use Rattle.pool.specs.declared.Row.{Row}
@@ -17,12 +17,12 @@ use Rattle.pool.specs.declared.Outcome.{Outcome}
 use Rattle.pool.specs.declared.Call.{Call}
 use Rattle.pool.specs.declared.Call.the-variants.{Begin, Step, Release}
 use Rattle.pool.specs.declared.Answer.{Answer}
-use Rattle.pool.specs.declared.Answer.the-variants.{Done}
+use Rattle.pool.specs.declared.Answer.the-variants.{Done, Refused}
 use Rattle.calls.specs.declared.Stepped.{Stepped}
 use Rattle.step.specs.declared.Answered.{Answered}
 use Rattle.collecting.specs.Rows.{blank}
 use Rattle.guarantee.specs.Runs.{Event, events}
-use Rattle.guarantee.specs.Claims.{Point3, tallyOf, BelowLargest}
+use Rattle.guarantee.specs.Claims.{Point3, tallyOf, BelowLargest, Listing}
 use Rattle.tie.specs.Contracts.{SetupSays, BeginSays, ReleaseSays, StepTalliedSays, StepOfSays, StepSays}
 use Rattle.tie.specs.Contracts.{HoldingsOnSays, HoldingsOfSays, HoldingsSays, Unasked, Kept}
 
@@ -90,12 +90,16 @@ Claim-sum =
     → (calls : List Call) (answers : List Answer) (q : Pool) (u : Tally) → Plays (r .pool) zeroTally calls answers q u
     → BelowLargest u → residents q + u .drops ≡ u .admitted + u .revived
 
--- Holdings has no part in a list of calls: it is asked of a pool and changes none. Each of its forms is the definition's; and where the call is done,
--- with n, the list's first n rows are the client's, and those after them are as they were lent.
+-- Holdings has no part in a list of calls: it is asked of a pool and changes none. By value it is the definition's, as over a lent list by
+-- `HoldingsSays`; where that is done, with n, the list's first n rows are the client's, and those after them are as they were lent; where it is
+-- refused, by the first check that turns it down, all rows are.
 pub record ListsHoldings : Type 0 where
   pub holdings-on : (p : Pool) (c : ℕ) (rows : List Row) (r : Listed) → HoldingsOnSays p c rows r → r ≡ holdingsOf p c rows
   pub holdings-of : (p : Pool) (c : ℕ) (r : Listed) → HoldingsOfSays p c r → r ≡ holdingsOf p c blank
-  pub done : (p : Pool) (c n : ℕ) (rows left : List Row) → HoldingsSays p c rows (Done n) left → Listing p c (take n left) × (drop n left ≡ drop n rows)
+  pub holdings-done : (p : Pool) (c n : ℕ) (rows left : List Row) → HoldingsSays p c rows (Done n) left
+      → Listing p c (take n left) × (drop n left ≡ drop n rows)
+  pub holdings-refused : (p : Pool) (c n : ℕ) (rows left : List Row) → HoldingsSays p c rows (Refused n) left
+      → (n ≡ holdingsRefusal p c (length rows)) × (left ≡ rows)
 
 pub record Tied : Type 2 where
   pub unasked : Unasked

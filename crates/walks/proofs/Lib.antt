@@ -1,4 +1,3 @@
 pub mod Lending
 pub mod Machine
 pub mod Promises
-pub mod Cells

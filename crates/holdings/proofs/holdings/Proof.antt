@@ -53,8 +53,7 @@ use denote.Triple.Walked.{says, Stays, stay-slice, stay-none, walkOf, AllGo, goe
 use denote.Exit.{yes}
 use Rattle.pool.specs.Limits.{maxHeld}
 use Rattle.pool.specs.Answers.{refusalOf}
-use Rattle.pool.specs.Holdings.{listed, holdingsOf}
-use Rattle.collecting.specs.Rows.{noRow}
+use Rattle.pool.specs.Holdings.{noRow, listed, holdingsOf}
 use Rattle.collecting.specs.Collects.{collectedOf, few-collected, collected-fits}
 use Rattle.holdings.specs.Refusals.{holdings-refusals}
 use Rattle.pool.specs.declared.Row.{Row}
