@@ -1,71 +1,17 @@
-// A caller of both lent forms: one tally is lent to every step, and lists of rows to holdings. It lends through `foqheran::step_of`,
-// `foqheran::holdings_on` and `holdings::on_first`, which own what they lend, so nothing here is walked by hand. A test program.
+// A caller of both lent forms: one tally is lent to every step, and lists of rows to holdings. A test program.
 //
-// It prints a list on one line, the answer's code and value and then its eight rows, a page and its times each; and a tally as its six counts, hits,
-// joins, admitted, revived, drops and refused, a line each. Why `stdout` says what it says is in the comments of `count` and `list`.
-use foqheran::Listed;
-use foqheran::Pool;
-use foqheran::Row;
-use foqheran::Tally;
-use libc::STDOUT_FILENO;
-ghost use Prim.Native.Nat.{_≤_};
-ghost use Rattle.pool.specs.Limits.{maxHeld};
-
-// The pool, and the one tally that is lent to every step.
-struct State {
-    pool: Pool,
-    tally: Tally,
-}
-
-fn set_up(size: u8, client_count: u8, cap: u8, hand: u32) -> State {
-    let done = foqheran::setup(size, client_count, cap, hand);
-    let pool = done.pool;
-    let tally = Tally {
-        hits: 0,
-        joins: 0,
-        admitted: 0,
-        revived: 0,
-        drops: 0,
-        refused: 0,
-    };
-    State { pool, tally }
-}
-
-fn begin(state: State, client: u8, page: u32) -> State {
-    let pool = state.pool;
-    let tally = state.tally;
-    let done = foqheran::begin(pool, client, page);
-    let next = done.pool;
-    State { pool: next, tally }
-}
-
-fn release(state: State, client: u8, page: u32) -> State {
-    let pool = state.pool;
-    let tally = state.tally;
-    let done = foqheran::release(pool, client, page);
-    let next = done.pool;
-    State { pool: next, tally }
-}
-
-fn step(state: State, client: u8) -> State {
-    let pool = state.pool;
-    let tally = state.tally;
-    let done = foqheran::step_of(pool, client, tally);
-    let next = done.pool;
-    let counts = done.tally;
-    State {
-        pool: next,
-        tally: counts,
-    }
-}
-
-fn steps(state: State, client: u8, n: u8) -> State {
-    let mut at = state;
-    for _ in 0..n {
-        at = step(at, client);
-    }
-    at
-}
+// It prints a list as its answer's code and value and then eight rows, on one line, and a tally as its six counts, hits, joins, admitted, revived,
+// drops and refused, a line each. Why `stdout` says what it says is in the comments of `count` and `list`.
+use test_support::State;
+use test_support::begin;
+use test_support::print_line;
+use test_support::print_listed;
+use test_support::print_on_first;
+use test_support::release;
+use test_support::request;
+use test_support::set_up;
+use test_support::step;
+use test_support::steps;
 
 // Client 0 and client 1 by turns.
 fn rounds(state: State, n: u8) -> State {
@@ -77,56 +23,9 @@ fn rounds(state: State, n: u8) -> State {
     at
 }
 
-fn request(state: State, client: u8, page: u32, n: u8) -> State {
-    steps(begin(state, client, page), client, n)
-}
-
-fn print(n: u32) {
-    io::print_decimal(STDOUT_FILENO, n as u64);
-}
-
-fn print_line(n: u32) {
-    print(n);
-    io::write_all(STDOUT_FILENO, b"\n");
-}
-
-fn print_row(row: Row) {
-    io::write_all(STDOUT_FILENO, b" ");
-    print(row.page);
-    io::write_all(STDOUT_FILENO, b" ");
-    print(row.times as u32);
-}
-
-fn print_rows(rows: [Row; 8]) {
-    for i in 0..8 {
-        print_row(rows[i]);
-    }
-}
-
-fn print_listed(listed: Listed) {
-    let answer = listed.answer;
-    let rows = listed.rows;
-    print(foqheran::code_of(answer));
-    io::write_all(STDOUT_FILENO, b" ");
-    print(foqheran::value_of(answer));
-    print_rows(rows);
-    io::write_all(STDOUT_FILENO, b"\n");
-}
-
-// The list is lent with the page 77, seven times, in every row, so that it is seen which rows were filled (SPECIFICATION 8.2).
-const FILLER: Row = Row { page: 77, times: 7 };
-
 fn print_holdings(state: State, client: u8) {
     let pool = state.pool;
-    print_listed(foqheran::holdings_on(pool, client, [FILLER; 8]));
-}
-
-// Only the first `room` of these rows are lent.
-fn print_on_first(state: State, client: u8, room: usize)
-    requires { ⌜ room ≤ maxHeld ⌝ }
-{
-    let pool = state.pool;
-    print_listed(holdings::on_first(pool, client, [FILLER; 8], room));
+    print_listed(foqheran::holdings_on(pool, client, test_support::filler()));
 }
 
 fn print_tally(state: State) {
@@ -224,6 +123,10 @@ fn list() {
     state = request(state, 1, 2, 8);
     print_holdings(state, 1);
     print_on_first(state, 1, 7);
+
+    // Client 0 once more, on rows that say nothing.
+    let pool = state.pool;
+    print_listed(foqheran::holdings_of(pool, 0));
 }
 
 fn main() {

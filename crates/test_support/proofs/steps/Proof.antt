@@ -1,8 +1,8 @@
 -- A step asks for nothing, and the loop counts up to n. Assumes nothing.
 use Prim.Native.Nat.{_≤_, _-_}
 use borrow.Author.Needs.{needs}
-use Rattle.test_lending.proofs.steps.Statement.{statement}
-use Rattle.test_lending.proofs.steps.Tie as tie
+use Rattle.test_support.proofs.steps.Statement.{statement}
+use Rattle.test_support.proofs.steps.Tie as tie
 
 abbrev Inv-loop : tie.InvT-loop
 Inv-loop client n at₀ counter₀ at counter = counter ≤ n

@@ -1,8 +1,8 @@
 -- The loop counts up to 8, so that each index is one of the eight. Assumes nothing.
 use Prim.Native.Nat.{_≤_, _-_}
 use borrow.Author.Needs.{needs}
-use Rattle.test_lending.proofs.print_rows.Statement.{statement}
-use Rattle.test_lending.proofs.print_rows.Tie as tie
+use Rattle.test_support.proofs.print_rows.Statement.{statement}
+use Rattle.test_support.proofs.print_rows.Tie as tie
 
 abbrev Inv-loop : tie.InvT-loop
 Inv-loop rows i₀ i = i ≤ 8
