@@ -6,7 +6,8 @@ Plays generated schedules (seeds 0 to N - 1, 500 if not said) and the edge
 files below with PROGRAM, target/bin/replay if not said, and with second.py,
 and compares the reports byte for byte. Without PROGRAM it does the same with
 target/bin/test_spaces, on 60 generated schedules: what a run returns, and what it
-leaves of report spaces of many sizes. It prints what it compared. At the
+leaves of report spaces of many sizes; and with target/bin/test_holdings, on 120:
+the holdings after each call, on lists of all lengths. It prints what it compared. At the
 first difference it keeps the schedule and both outputs in target/compare/,
 says where they differ, and ends with exit status 1.
 """
@@ -24,10 +25,11 @@ import second  # noqa: E402
 
 TOP = pathlib.Path(__file__).resolve().parent.parent
 PROGRAMS = TOP / "target" / "bin"
-BUILDS = {"replay": "./replay", "test_spaces": "rt check test_spaces"}
+BUILDS = {"replay": "./replay", "test_spaces": "rt check test_spaces", "test_holdings": "rt check test_holdings"}
 KEPT = TOP / "target" / "compare"
 TIME_LIMIT = 20  # seconds for one schedule, which takes a few milliseconds
 SPACES_SEEDS = 60  # generate.py's whole rotation
+HOLDINGS_SEEDS = 2 * SPACES_SEEDS
 
 
 def step(client):
@@ -159,6 +161,32 @@ def spaces(schedule):
     return b"".join(after_run(schedule, size) for size in sizes)
 
 
+def listed(pool, client, room):
+    """A line of the program test_holdings: the first so many of eight rows are lent."""
+    rows, others = room * [(77, 7)], (8 - room) * [(77, 7)]
+    try:
+        code, value = second.DONE, pool.holdings(client, rows)
+    except second.Refused as refused:
+        code, value = second.REFUSAL + refused.number, 0
+    return b"%d %d" % (code, value) + b"".join(b" %d %d" % row for row in rows + others) + b"\n"
+
+
+def lists(schedule):
+    """As the program test_holdings: a list after each call, on 0 to 8 rows in turn."""
+    found, rooms, at = [], itertools.cycle(range(9)), 10
+    try:
+        if len(schedule) <= second.LONGEST_FILE:
+            pool = second.Pool(*second.readRecord(schedule[:at], True)[1:])
+            while at < len(schedule):
+                kind, client, page = second.readRecord(schedule[at:at + 10], False)
+                second.call(pool, kind, client, page)
+                found.append(listed(pool, client, next(rooms)))
+                at += 8
+    except second.Refused:
+        pass  # the record that ends the run
+    return b"".join(found)
+
+
 # The comparison.
 
 
@@ -220,7 +248,8 @@ def comparisons(program, seeds):
     """The program, what it must print, and the number of generated files."""
     if program:
         return [(pathlib.Path(program).resolve(), report, seeds)]
-    return [(PROGRAMS / "replay", report, seeds), (PROGRAMS / "test_spaces", spaces, min(seeds, SPACES_SEEDS))]
+    return [(PROGRAMS / "replay", report, seeds), (PROGRAMS / "test_spaces", spaces, min(seeds, SPACES_SEEDS)),
+            (PROGRAMS / "test_holdings", lists, min(seeds, HOLDINGS_SEEDS))]
 
 
 def read_arguments(arguments):
