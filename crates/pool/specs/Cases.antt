@@ -22,7 +22,6 @@ use Rattle.pool.specs.declared.Pool.{Pool}
 use Rattle.pool.specs.declared.Client.{Client}
 use Rattle.pool.specs.declared.Tally.{Tally}
 use Rattle.pool.specs.declared.Row.{Row}
-use Rattle.pool.specs.declared.Listed.{Listed}
 use Rattle.pool.specs.declared.Call.{Call}
 use Rattle.pool.specs.declared.Call.the-variants.{Begin, Step, Release}
 use Rattle.pool.specs.declared.Counted.{Counted}
