@@ -1,0 +1,5 @@
+pub mod Memory
+pub mod Copying
+pub mod Requests
+pub mod Happenings
+pub mod ByteCases
