@@ -79,7 +79,7 @@ module _ {p : Pool} {q : Sequential} (r : Reached p) (related : SimulationRelati
   resting-alike c a b e =
       choose-alike (ltb c (clientCount p)) (λ _. choose-alike (eqb (client p c .stage) 0) (λ s. e (eqb-true _ _ s)) (λ _. refl)) (λ _. refl)
 
-  refusal-alike : (x : Call) → refusal p x ≡ seqRefusal q x
+  pub refusal-alike : (x : Call) → refusal p x ≡ seqRefusal q x
   unfolding refusal refusalAt caller seqRefusal
   refusal-alike (Begin c g) = chosen _ _ _ (valid-reached p r) ∙ rw (related .count, related .clients c .stage) (resting-alike c _ _ full)
     where

@@ -43,7 +43,7 @@ point3 p u calls =
     }
 
 -- a client past the last one rests, and so does not stand at 4
-finds-frame : (p : Pool) → Reached p → (d : ℕ) → client p d .stage ≡ 4 → freeFrame p < total p
+pub finds-frame : (p : Pool) → Reached p → (d : ℕ) → client p d .stage ≡ 4 → freeFrame p < total p
 finds-frame p r d at4 = finds p r d (client-here p (λ k. k .stage ≡ 4) d at4 (λ e. let z : _≡_ {A = ℕ} 0 4 = e in omega arith)) at4
 
 answers : Claim-answers

@@ -98,7 +98,7 @@ listed p x = go (turned-or-move p x)
 
 -- ---- a pool of a run: never 8, so a listed answer
 
-not-8 : (p : Pool) (x : Call) → Reached p → callOf p x .answer ≢ Refused 8
+pub not-8 : (p : Pool) (x : Call) → Reached p → callOf p x .answer ≢ Refused 8
 unfolding refusalOf
 not-8 p x r a =
     elim (ℕ-discrete (refusal p x) 0) [

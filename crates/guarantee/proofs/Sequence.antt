@@ -48,11 +48,11 @@ view-start s t c h ok = λ i. record { slots = all-same _ s empty vacant i; clie
     idle : (d : ℕ) → viewClient (client p d) (downFrom (grantPage p d) (client p d .held)) ≡ seqResting []
     idle d = rw (setup-rests s t c h ok d) refl
 
-abbrev started : Pool → Sequential
+abbrev pub started : Pool → Sequential
 started p = start (p .size) (clientCount p)
 
 -- a pool that was set up is related to the sequential pool that has just started
-start-related : {p : Pool} → SetUp p → SimulationRelation p (started p)
+pub start-related : {p : Pool} → SetUp p → SimulationRelation p (started p)
 start-related =
     of-fresh (λ p. SimulationRelation p (started p))
     (λ s t c h ok. rw (view-start s t c h ok) at (view-related (fresh s t c h) (reached-setup s t c h ok .shape)))

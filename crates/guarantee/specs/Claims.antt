@@ -273,7 +273,7 @@ withClient p c k =
       «grant_frames» = p .«grant_frames»;
     }
 
--- SPECIFICATION 6.16: call x is a step of a client that comes to rest, and nothing else changes
+-- SPECIFICATION 3.9: call x is a step of a client that comes to rest, and nothing else changes
 abbrev pub RestsRefused : Pool → Call → Type 0
 RestsRefused p x =
     (c : ℕ) × (x ≡ Step c) × (callOf p x .pool ≡ withClient p c (resting (client p c .held))) × (callOf p x .counted ≡ Refusal)

@@ -150,7 +150,7 @@ counters-untouched n l {w} q = untouched n l w (counters-test q)
 pub no-open : {A : Type 0} {i g f : ℕ} → Same ≡ Open i g f → A
 no-open e = let z : _≡_ {A = ℕ} 0 1 = cc in absurd (let y : ⊥ = omega arith in y)
 
-ends-no-open : {A : Type 0} {i l j g f : ℕ} → End i l ≡ Open j g f → A
+pub ends-no-open : {A : Type 0} {i l j g f : ℕ} → End i l ≡ Open j g f → A
 ends-no-open e = let z : _≡_ {A = ℕ} 0 1 = cc in absurd (let y : ⊥ = omega arith in y)
 
 module _ (p : Pool) (c : ℕ) (here : c < clientCount p) (r : Reached p) where

@@ -26,7 +26,7 @@ use Rattle.invariant.proofs.Table.{suc-not, mapped-zero}
 use Rattle.invariant.proofs.Facts.{resting-claims}
 
 -- a list that is d throughout
-within-same : (m n d i : ℕ) → n ≤ m → within (replicate m d) n d i ≡ d
+pub within-same : (m n d i : ℕ) → n ≤ m → within (replicate m d) n d i ≡ d
 within-same m n d i h = go (decLt i n)
   where
     go : Dec (i < n) → within (replicate m d) n d i ≡ d
@@ -75,7 +75,7 @@ module _ (s t c h : ℕ) (ok : numbersOk s t c ≡ true) where
   unfolding count
   count-none f = let n = few-frames p shape in within-same maxFrames (total p) 0 f (omega arith)
 
-  entry-none : (i : ℕ) → entryFrame p i ≡ none
+  pub entry-none : (i : ℕ) → entryFrame p i ≡ none
   unfolding entryFrame
   entry-none i = let n = few-frames p shape in within-same maxFrames (total p) none i (omega arith)
 
