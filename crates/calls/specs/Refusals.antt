@@ -19,11 +19,11 @@ use Rattle.pool.specs.declared.Move.{Move}
 use Rattle.pool.specs.declared.Outcome.{Outcome}
 
 -- what is known of a call's refusal number
-abbrev Answers : List ℕ → Outcome → Type 0
+abbrev pub Answers : List ℕ → Outcome → Type 0
 Answers ns o = Among ns (refusalOf (o .answer))
 
 -- whichever is chosen
-pick : {A : Type 0} (P : A → Type 0) (t : Bool) {x y : A} → P x → P y → P (choose t x y)
+pub pick : {A : Type 0} (P : A → Type 0) (t : Bool) {x y : A} → P x → P y → P (choose t x y)
 pick P t a b = by-test P (λ _. a) (λ _. b)
 
 -- ---- setup
@@ -35,10 +35,14 @@ setup-refusals s t c h = pick (Answers bySetup) _ refl refl
 -- ---- a call: 8, 9, what its kind is refused by, and what its move is
 
 module _ (ns : List ℕ) (p : Pool) (call : Call) (eight : Among ns 8) (nine : Among ns 9) where
-  call-refusals : ((k : Client) → Among ns (refusalAt p k call)) → Among ns (refusalOf (moveOf p call .answer)) → Answers ns (callOf p call)
-  unfolding callOf refusal finished refusalOf
-  call-refusals before after =
-      pick (Answers ns) _ (pick (Answers ns) _ after eight) (pick (Among ns) _ (pick (Among ns) _ (before _) nine) eight)
+  -- before its action
+  pub turned-refusals : ((k : Client) → Among ns (refusalAt p k call)) → Among ns (refusal p call)
+  unfolding refusal
+  turned-refusals before = pick (Among ns) _ (pick (Among ns) _ (before _) nine) eight
+
+  pub call-refusals : ((k : Client) → Among ns (refusalAt p k call)) → Among ns (refusalOf (moveOf p call .answer)) → Answers ns (callOf p call)
+  unfolding callOf finished refusalOf
+  call-refusals before after = pick (Answers ns) _ (pick (Answers ns) _ after eight) (turned-refusals before)
 
 module _ (p : Pool) (c g : ℕ) where
   pub begin-refusals : Among byBegin (refusalOf (callOf p (Begin c g) .answer))
@@ -53,7 +57,7 @@ module _ (p : Pool) (c g : ℕ) where
 
 -- ---- a step: only a stuck move and a sweep's end refuse
 
-of-answer : {k : Client} {m : Move} → StageAnswer k m → Among byStep (refusalOf (m .answer))
+pub of-answer : {k : Client} {m : Move} → StageAnswer k m → Among byStep (refusalOf (m .answer))
 unfolding refusalOf
 of-answer (goes j l a n) = rw a refl
 of-answer (grants f g e a n) = rw a refl

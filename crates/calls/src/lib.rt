@@ -1,5 +1,5 @@
 // The calls: setup, begin, step, release. Each takes any pool and any numbers, and its promise says what it answers and what it leaves, whole. The
-// second clause of a promise lists by which refusals the call can be refused; 0 is no refusal. Public, through crate `foqheran`.
+// second clause of a promise lists by which refusals the call can be refused; 0 is no refusal. Public, through crate `storeless`.
 ghost use mathlib.Core.Path.{_≡_};
 ghost use Rattle.pool.specs.Answers.{refusalOf};
 ghost use Rattle.pool.specs.Calls.{fresh, setupOf, callOf};
@@ -22,8 +22,8 @@ use pool::Tally;
 
 // ---- setup
 
-// SPECIFICATION 1.8.
-fn fresh(size: u8, client_count: u8, cap: u8, hand: u32) -> Pool
+// SPECIFICATION 1.8. Internal.
+pub fn fresh(size: u8, client_count: u8, cap: u8, hand: u32) -> Pool
     ensures { λ r. ⌜ r ≡ fresh size «client_count» cap hand ⌝ }
 {
     let resting = moves::resting(0);
@@ -94,10 +94,18 @@ pub fn step_tallied(pool: Pool, client: u8, tally: Tally) -> Stepped
     ensures { λ r. ⌜ r ≡ steppedOf pool client tally ⌝ }
     ensures { λ r. ⌜ Among byStep (refusalOf (r .answer)) ⌝ }
 {
-    let done = checked::call_of(pool, Call::Step(client));
-    let answer = done.answer;
-    let counted = done.counted;
-    let after = done.pool;
+    let sound = validity::valid(pool);
+    if !sound {
+        return Stepped {
+            answer: Answer::Refused(8),
+            tally,
+            pool,
+        };
+    }
+    let made = checked::call_made(pool, Call::Step(client));
+    let answer = made.answer;
+    let counted = made.counted;
+    let after = made.pool;
     Stepped {
         answer,
         tally: tallies::tallied(counted, tally),

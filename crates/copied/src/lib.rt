@@ -3,16 +3,26 @@
 ghost use mathlib.Core.Path.{_≡_};
 ghost use mathlib.Core.Bool.{true};
 ghost use Rattle.pool.specs.Valid.{valid};
-ghost use Rattle.play.specs.Turn.{played};
+ghost use Rattle.copied.specs.Copies.{copyOf};
+use pool::Answer;
 use pool::Call;
+use pool::Counted;
 use pool::NONE;
-use pool::Outcome;
 use pool::Pool;
+use pool::Write;
+
+// What a turn, or a call, leaves, and what it wrote to the pool.
+pub struct Made {
+    pub answer: Answer,
+    pub counted: Counted,
+    pub write: Write,
+    pub pool: Pool,
+}
 
 // The turn of a call, played on a copy of a pool that passes check 8.
-pub fn on_copy(pool: Pool, call: Call) -> Outcome
+pub fn on_copy(pool: Pool, call: Call) -> Made
     requires { ⌜ valid pool ≡ true ⌝ }
-    ensures { λ r. ⌜ r ≡ played pool call ⌝ }
+    ensures { λ r. ⌜ r ≡ copyOf pool call ⌝ }
 {
     let mut hand = pool.hand;
     let mut free = pool.free;
@@ -64,10 +74,12 @@ pub fn on_copy(pool: Pool, call: Call) -> Outcome
     let next = turn.next;
     let answer = turn.answer;
     let counted = turn.counted;
+    let write = turn.write;
     clients[number] = next;
-    Outcome {
+    Made {
         answer,
         counted,
+        write,
         pool: Pool {
             size: pool.size,
             client_count: pool.client_count,

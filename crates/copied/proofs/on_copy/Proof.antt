@@ -10,8 +10,9 @@ use Rattle.pool.specs.State.{clientCount}
 use Rattle.pool.specs.Frames.{freeFrame}
 use Rattle.pool.specs.Calls.{caller}
 use Rattle.frame_search.specs.Search.{searched}
-use Rattle.play.specs.Turn.{clientOrFirst, as-played}
+use Rattle.play.specs.Turn.{clientOrFirst}
 use Rattle.play.specs.Playable.{recordAt, number-small, frames-searchable, playable, turns}
+use Rattle.copied.specs.Copies.{as-copied}
 use Rattle.copied.proofs.on_copy.Statement.{statement}
 use Rattle.copied.proofs.on_copy.Tie as tie
 
@@ -61,7 +62,7 @@ returns c =
     let p = start n .args .pool in
     let call = start n .args .call in
     let done = played .play .ensures (p .clients) in
-    as-played p call (number-is n) (done .0 (turns p call (start n .pre) (number-is n) (frame-is j))) (done .1)
+    as-copied p call (number-is n) (done .0 (turns p call (start n .pre) (number-is n) (frame-is j))) (done .1)
 
 pub on-copy-spec : {M : Type 1} → statement M
 on-copy-spec =
