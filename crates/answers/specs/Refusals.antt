@@ -8,6 +8,13 @@ bySetup = 0 ∷ 8 ∷ []
 abbrev pub byBegin : List ℕ
 byBegin = 0 ∷ 8 ∷ 9 ∷ 10 ∷ 12 ∷ []
 
+-- with bytes
+abbrev pub byBeginOn : List ℕ
+byBeginOn = 0 ∷ 8 ∷ 9 ∷ 10 ∷ 12 ∷ 16 ∷ []
+
+abbrev pub byByte : List ℕ
+byByte = 0 ∷ 8 ∷ 9 ∷ 10 ∷ 13 ∷ 16 ∷ 17 ∷ []
+
 abbrev pub byStep : List ℕ
 byStep = 0 ∷ 8 ∷ 9 ∷ 11 ∷ 15 ∷ []
 
