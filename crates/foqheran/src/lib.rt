@@ -1,17 +1,20 @@
 // Foqheran, a page buffer pool whose every answer is proved. Public: the one crate that a user of the pool names. It only hands on; each call is
 // promised and proved in the crate that it comes from.
+//
+// A pool keeps what it lends: its frames hold pages' bytes, and a store has those that are in no frame. A pool that is set up with an empty store has
+// none. For pools that never need one, crate `storeless` has the same calls on the books alone, as small and fast as they were.
 
 // ---- the calls, in the order of a pool's life; each takes any input whatever
-pub use calls::begin;
-pub use calls::release;
-pub use calls::setup;
-pub use holdings::holdings;
-pub use step::step;
+pub use buffered::begin;
+pub use buffered::release;
+pub use buffered::setup;
+pub use byte_calls::read;
+pub use byte_calls::write;
+pub use byte_holdings::holdings_on;
+pub use byte_lent::step;
 
-// The same two with what they are lent handed over and back by value.
-pub use holdings::holdings_of;
-pub use holdings::holdings_on;
-pub use step::step_of;
+// The step with the tally handed over and back by value.
+pub use byte_step::step_tallied;
 
 // A whole schedule file, and its report.
 pub use schedule::run;
@@ -22,19 +25,21 @@ pub use answers::refusal_of;
 pub use answers::value_of;
 
 // ---- what the calls return, and what they are lent
-pub use calls::Stepped;
+pub use memory::BufferPool;
+pub use memory::Memory;
+pub use memory::Reply;
+pub use memory::Tallied;
 pub use pool::Answer;
 pub use pool::Client;
-pub use pool::Counted;
 pub use pool::Ended;
 pub use pool::Listed;
-pub use pool::Outcome;
 pub use pool::Pool;
 pub use pool::Row;
 pub use pool::Tally;
-pub use step::Answered;
 
-// ---- the largest pool, and the number that names no frame
+// ---- the largest pool and store, the bytes of a page, and the number that names no frame
+pub use memory::MAX_PAGES;
+pub use memory::PAGE;
 pub use pool::HELD;
 pub use pool::MAX_CAP;
 pub use pool::MAX_CLIENTS;

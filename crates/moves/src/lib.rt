@@ -144,7 +144,7 @@ pub fn next_slot(client: Client, size: u8, write: Write) -> Move
     works(next, 11, write)
 }
 
-// SPECIFICATION 6.16. Nothing is written: the frame that the client took keeps its pins.
+// SPECIFICATION 3.9. Nothing is written: the frame that the client took keeps its pins.
 fn refused_15(client: Client) -> Move
     ensures { λ r. ⌜ r ≡ refused15 client ⌝ }
 {

@@ -25,7 +25,7 @@ use Rattle.pool.specs.declared.Counted.the-variants.{Nothing}
 use Rattle.pool.specs.declared.GrantChange.the-variants.{Same, End}
 use Rattle.pool.specs.declared.Write.the-variants.{Keep, PutPins}
 
--- SPECIFICATION 6.17: refused by n, with nothing changed
+-- SPECIFICATION 3.10: refused by n, with nothing changed
 abbrev pub turnedDown : ℕ → Pool → Outcome
 turnedDown n p = record { answer = Refused n; counted = Nothing; pool = p }
 

@@ -175,7 +175,7 @@ P3 =
     asks 0 5 (sweeps ++ evicts) (Granted 1)
     ++ hand is 2 ∷ slot at 0 is 1 ∷ pins at 0 is evicted ∷ lookup at 9 is none ∷ lookup at 5 is 1 ∷ []
 
--- SPECIFICATION 6.16: the frame that the refused request took keeps what stage 4 gave it, and the next search starts after it.
+-- SPECIFICATION 3.9: the frame that the refused request took keeps what stage 4 gave it, and the next search starts after it.
 abbrev pub P4 : Case
 P4 =
     setup 1 1 3 0 after admit 9 takes 6 counts Refusal ∷ [] shows

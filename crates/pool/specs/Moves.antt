@@ -73,7 +73,7 @@ module _ (k : Client) where
   unfoldable pub granted : ℕ → Write → Counted → Move
   granted f write counted = choose (ltb (k .held) maxHeld) (opens f write counted) stuck
 
-  -- SPECIFICATION 6.16: refusal 15
+  -- SPECIFICATION 3.9: refusal 15
   abbrev pub refused15 : Move
   refused15 = record { next = resting (k .held); grants = Same; write = Keep; answer = Refused 15; counted = Refusal }
 

@@ -1,5 +1,5 @@
 // The types of docs/SPECIFICATION.md: the pool's state, the parts of one atomic action on it, and what calls and runs are lent and return. Public,
-// through crate `foqheran`: the types of the calls and the limits. The parts of an action are internal.
+// through crates `foqheran` and `storeless`: the types of the calls and the limits. The parts of an action are internal.
 //
 // S, T and C are the pool's `size`, `client_count` and `cap`. A frame number, a place in the table or a grant's place that is NONE names nothing.
 // Every array is as long as the largest pool needs; what stands past the part that a pool has is never looked at.

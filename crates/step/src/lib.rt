@@ -1,4 +1,4 @@
-// The step over a lent tally (SPECIFICATION 7.2). Public, through crate `foqheran`.
+// The step over a lent tally (SPECIFICATION 7.2). Public, through crate `storeless`.
 //
 // The stages and all counting are by value, in crate `calls`. `step` only carries the tally there and back: what is proved of a lent tally is proved
 // by hand, and so is kept short.
@@ -20,7 +20,7 @@ pub struct Answered {
     pub pool: Pool,
 }
 
-// SPECIFICATION 3.3. A step that is turned down leaves the tally as it was lent (SPECIFICATION 6.17): so says `tallyAfter`.
+// SPECIFICATION 3.3. A step that is turned down leaves the tally as it was lent (SPECIFICATION 3.10): so says `tallyAfter`.
 pub fn step(pool: Pool, client: u8, tally: &mut Tally) -> Answered
     ensures { λ r. ⌜ (r ≡ answeredOf pool client) × (now (tally .exit) ≡ tallyAfter pool client (now (tally .entry))) ⌝ }
     ensures { λ r. ⌜ Among byStep (refusalOf (r .answer)) ⌝ }

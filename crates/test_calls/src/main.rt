@@ -204,7 +204,7 @@ fn started(size: u8, client_count: u8, cap: u8, hand: u32) -> Run {
     }
 }
 
-// SPECIFICATION 6.17: 1 where a call that was turned down changed the pool.
+// SPECIFICATION 3.10: 1 where a call that was turned down changed the pool.
 fn broke(answer: Answer, before: Pool, after: Pool) -> u32 {
     let n = answers::refusal_of(answer);
     if n == 0 {

@@ -49,9 +49,9 @@ fn play(schedule: &[u8])
     let Reading::Setup(size, client_count, cap, hand) = reading else {
         return;
     };
-    let done = foqheran::setup(size, client_count, cap, hand);
+    let done = storeless::setup(size, client_count, cap, hand);
     let answer = done.answer;
-    if foqheran::refusal_of(answer) == 0 {
+    if storeless::refusal_of(answer) == 0 {
         play_calls(schedule, set_up(size, client_count, cap, hand));
     }
 }

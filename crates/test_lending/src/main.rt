@@ -25,7 +25,7 @@ fn rounds(state: State, n: u8) -> State {
 
 fn print_holdings(state: State, client: u8) {
     let pool = state.pool;
-    print_listed(foqheran::holdings_on(pool, client, test_support::filler()));
+    print_listed(storeless::holdings_on(pool, client, test_support::filler()));
 }
 
 fn print_tally(state: State) {
@@ -126,7 +126,7 @@ fn list() {
 
     // Client 0 once more, on rows that say nothing.
     let pool = state.pool;
-    print_listed(foqheran::holdings_of(pool, 0));
+    print_listed(storeless::holdings_of(pool, 0));
 }
 
 fn main() {

@@ -3,9 +3,9 @@
 // space has one byte more. A test program.
 //
 // It prints a line for each: the space's bytes, then the records, the bytes and the refusal that the run returned, then the space's check sum.
-use foqheran::Ended;
 use libc::STDIN_FILENO;
 use libc::STDOUT_FILENO;
+use storeless::Ended;
 ghost use mathlib.Core.Path.{_≡_};
 ghost use Prim.Native.Nat.{_≤_};
 ghost use lib.ListN.{length};
@@ -38,7 +38,7 @@ fn print_line(size: usize, ended: Ended, sum: u64) {
 fn play_in(schedule: &[u8], space: &mut [u8]) -> usize
     ensures { λ r. ⌜ r ≤ length (now (space .exit)) ⌝ }
 {
-    let ended = foqheran::run(schedule, space);
+    let ended = storeless::run(schedule, space);
     print_line(space.len(), ended, check_sum(space));
     ended.bytes
 }

@@ -1,10 +1,10 @@
 // What the test programs share: a pool with the one tally that is lent to every step, and a holdings list printed. It lends through
-// `foqheran::step_of` and `holdings::on_first`, which own what they lend, so nothing here is walked by hand. Internal.
-use foqheran::Listed;
-use foqheran::Pool;
-use foqheran::Row;
-use foqheran::Tally;
+// `storeless::step_of` and `holdings::on_first`, which own what they lend, so nothing here is walked by hand. Internal.
 use libc::STDOUT_FILENO;
+use storeless::Listed;
+use storeless::Pool;
+use storeless::Row;
+use storeless::Tally;
 ghost use Prim.Native.Nat.{_≤_};
 ghost use Rattle.pool.specs.Limits.{maxHeld};
 
@@ -15,7 +15,7 @@ pub struct State {
 }
 
 pub fn set_up(size: u8, client_count: u8, cap: u8, hand: u32) -> State {
-    let done = foqheran::setup(size, client_count, cap, hand);
+    let done = storeless::setup(size, client_count, cap, hand);
     let pool = done.pool;
     let tally = Tally {
         hits: 0,
@@ -31,7 +31,7 @@ pub fn set_up(size: u8, client_count: u8, cap: u8, hand: u32) -> State {
 pub fn begin(state: State, client: u8, page: u32) -> State {
     let pool = state.pool;
     let tally = state.tally;
-    let done = foqheran::begin(pool, client, page);
+    let done = storeless::begin(pool, client, page);
     let next = done.pool;
     State { pool: next, tally }
 }
@@ -39,7 +39,7 @@ pub fn begin(state: State, client: u8, page: u32) -> State {
 pub fn release(state: State, client: u8, page: u32) -> State {
     let pool = state.pool;
     let tally = state.tally;
-    let done = foqheran::release(pool, client, page);
+    let done = storeless::release(pool, client, page);
     let next = done.pool;
     State { pool: next, tally }
 }
@@ -47,7 +47,7 @@ pub fn release(state: State, client: u8, page: u32) -> State {
 pub fn step(state: State, client: u8) -> State {
     let pool = state.pool;
     let tally = state.tally;
-    let done = foqheran::step_of(pool, client, tally);
+    let done = storeless::step_of(pool, client, tally);
     let next = done.pool;
     let counts = done.tally;
     State {
@@ -94,9 +94,9 @@ fn print_rows(rows: [Row; 8]) {
 pub fn print_listed(listed: Listed) {
     let answer = listed.answer;
     let rows = listed.rows;
-    print(foqheran::code_of(answer));
+    print(storeless::code_of(answer));
     io::write_all(STDOUT_FILENO, b" ");
-    print(foqheran::value_of(answer));
+    print(storeless::value_of(answer));
     print_rows(rows);
     io::write_all(STDOUT_FILENO, b"\n");
 }
