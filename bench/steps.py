@@ -2,11 +2,13 @@
 
 usage: python3 bench/steps.py PROGRAM
 
-PROGRAM is the proved program test_sweeps (crates/test_sweeps): it fills a pool of S 64
-and T 16 and then, for each byte of its input, plays a begin and 132 steps. The
+PROGRAM is the proved program test_sweeps (crates/test_sweeps), or test_byte_sweeps,
+of a pool that has bytes: it fills a pool of S 64 and T 16 and then, for each byte of
+its input, plays a begin and 132 steps. The
 time of a run without input, which is the filling, is taken off.
 """
 
+import pathlib
 import statistics
 import subprocess
 import sys
@@ -28,7 +30,8 @@ def seconds(program, requests):
 def main(program):
     times = [seconds(program, REQUESTS) - seconds(program, 0) for _ in range(ROUNDS)]
     step = statistics.median(times) / (REQUESTS * CALLS)
-    print("a public step, S 64 T 16, both range tests: %.2f microseconds" % (step * 1e6))
+    print("a public step, S 64 T 16, both range tests (%s): %.2f microseconds"
+          % (pathlib.Path(program).name, step * 1e6))
 
 
 if __name__ == "__main__":

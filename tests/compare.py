@@ -6,30 +6,40 @@ Plays generated schedules (seeds 0 to N - 1, 500 if not said) and the edge
 files below with PROGRAM, target/bin/replay if not said, and with second.py,
 and compares the reports byte for byte. Without PROGRAM it does the same with
 target/bin/test_spaces, on 60 generated schedules: what a run returns, and what it
-leaves of report spaces of many sizes; and with target/bin/test_holdings, on 120:
-the holdings after each call, on lists of all lengths. It prints what it compared. At the
-first difference it keeps the schedule and both outputs in target/compare/,
-says where they differ, and ends with exit status 1.
+leaves of report spaces of many sizes; with target/bin/test_holdings, on 120:
+the holdings after each call, on lists of all lengths; and with
+target/bin/test_bytes and second_store.py, on 300 scripts of generate_bytes.py
+and on second_store.py's examples: the answers of a pool with bytes, its frames
+and its store. It prints what it compared. At the first difference it keeps the
+schedule or script and both outputs in target/compare/, says where they differ,
+and ends with exit status 1.
 """
 
+import dataclasses
 import itertools
 import pathlib
+import struct
 import subprocess
 import sys
 import time
+import typing
 
 sys.dont_write_bytecode = True  # leave no compiled files beside the sources
 
 import generate  # noqa: E402
+import generate_bytes  # noqa: E402
 import second  # noqa: E402
+import second_store  # noqa: E402
 
 TOP = pathlib.Path(__file__).resolve().parent.parent
 PROGRAMS = TOP / "target" / "bin"
-BUILDS = {"replay": "./replay", "test_spaces": "rt check test_spaces", "test_holdings": "rt check test_holdings"}
+BUILDS = {"replay": "./replay", "test_spaces": "rt check test_spaces", "test_holdings": "rt check test_holdings",
+          "test_bytes": "rt check test_bytes"}
 KEPT = TOP / "target" / "compare"
-TIME_LIMIT = 20  # seconds for one schedule, which takes a few milliseconds
+TIME_LIMIT = 20  # seconds for one schedule or script, which takes a few milliseconds
 SPACES_SEEDS = 60  # generate.py's whole rotation
 HOLDINGS_SEEDS = 2 * SPACES_SEEDS
+BYTES_SEEDS = 300  # twelve times generate_bytes.py's whole rotation
 
 
 def step(client):
@@ -135,7 +145,42 @@ def generated(count):
         yield "seed %d" % seed, generate.generate(seed)
 
 
-# What second.py has to say to a schedule, in the words of each program.
+# Scripts for a pool with bytes, as ASCII text.
+
+
+def scripts(count):
+    for seed in range(count):
+        yield "script %d" % seed, generate_bytes.script(seed).encode("ascii")
+
+
+def example_scripts():
+    for number, (_, script, _) in enumerate(second_store.EXAMPLES):
+        yield "example script %d" % number, script.encode("ascii")
+
+
+KINDS = ("setup", "begin", "step", "release", "read", "write", "lend", "dump")
+
+
+def script_record(name, client=0, page=0, offset=0, byte=0, more=0):
+    """A line of a script as the program test_bytes reads it."""
+    return struct.pack("<BBBBII", KINDS.index(name), client, byte, more, page, offset)
+
+
+def script_records(script):
+    """All lines of a script as the program test_bytes reads them."""
+    found = []
+    for name, *numbers in second_store.readScript(script.decode("ascii")):
+        if name == "setup":
+            slots, clients, cap, hand, length = numbers
+            found.append(script_record(name, slots, hand, length, clients, cap))
+        elif name == "lend":
+            found.append(script_record(name, page=numbers[0]))
+        else:
+            found.append(script_record(name, *numbers))
+    return b"".join(found)
+
+
+# What the second program has to say to a schedule or script, in the words of each program.
 
 
 def report(schedule):
@@ -187,17 +232,22 @@ def lists(schedule):
     return b"".join(found)
 
 
+def byte_report(script):
+    """As the program test_bytes: the report."""
+    return second_store.play(script.decode("ascii")).encode("ascii")
+
+
 # The comparison.
 
 
 class NotPlayed(Exception):
-    """The program has no output for a schedule; why."""
+    """The program has no output for a schedule or script; why."""
 
 
-def played(program, schedule):
+def played(program, given):
     """What the program prints."""
     try:
-        done = subprocess.run([program], input=schedule, stdout=subprocess.PIPE, timeout=TIME_LIMIT)
+        done = subprocess.run([program], input=given, stdout=subprocess.PIPE, timeout=TIME_LIMIT)
     except subprocess.TimeoutExpired:
         raise NotPlayed("did not end within %d seconds" % TIME_LIMIT) from None
     except OSError as wrong:
@@ -212,44 +262,65 @@ def shown(line):
     return repr(line)[1:] if line else "nothing more"
 
 
-def first_difference(ours, theirs):
+def first_difference(ours, theirs, second_name):
     """The first line that differs, by its number from 0, and both forms of it."""
     pairs = itertools.zip_longest(ours.splitlines(True), theirs.splitlines(True), fillvalue=b"")
     number, (ours, theirs) = next((number, pair) for number, pair in enumerate(pairs) if pair[0] != pair[1])
     place = "the end of line" if ours.rstrip(b"\r\n") == theirs.rstrip(b"\r\n") else "line"
-    return "%s %d: the program says %s, second.py %s" % (place, number, shown(ours), shown(theirs))
+    return "%s %d: the program says %s, %s %s" % (place, number, shown(ours), second_name, shown(theirs))
 
 
 def stop(name, what, **kept):
-    """Keep some bytes of this schedule, say what is wrong, and end."""
+    """Keep some bytes of this schedule or script, say what is wrong, and end."""
     KEPT.mkdir(parents=True, exist_ok=True)
     for end, data in kept.items():
         (KEPT / (name.replace(" ", "-") + "." + end)).write_bytes(data)
     sys.exit("%s: %s\nkept in target/compare/: the %s" % (name, what, ", ".join(kept)))
 
 
-def compare(program, expected, files):
-    """How many files and lines were compared; stops at a difference."""
-    count = lines = 0
-    for name, schedule in files:
-        theirs = expected(schedule)
-        try:
-            ours = played(program, schedule)
-        except NotPlayed as why:
-            stop(name, "%s %s" % (program.name, why), schedule=schedule)
-        if ours != theirs:
-            stop(name, "%s and second.py differ at %s" % (program.name, first_difference(ours, theirs)), schedule=schedule, program=ours, second=theirs)
-        count += 1
-        lines += theirs.count(b"\n")
-    return count, lines
+@dataclasses.dataclass
+class Comparison:
+    """A program, what it must print, and the files that it is tried on, each by its name and as it is kept."""
+
+    program: pathlib.Path
+    expected: typing.Callable
+    files: typing.List  # of pairs: what the files are, and the files
+    second: str = "second.py"
+    kind: str = "schedule"
+    given: typing.Callable = bytes  # what the program reads for a file
+
+    def compare(self, files):
+        """How many files and lines were compared; stops at a difference."""
+        count = lines = 0
+        for name, file in files:
+            theirs = self.expected(file)
+            try:
+                ours = played(self.program, self.given(file))
+            except NotPlayed as why:
+                stop(name, "%s %s" % (self.program.name, why), **{self.kind: file})
+            if ours != theirs:
+                where = first_difference(ours, theirs, self.second)
+                stop(name, "%s and %s differ at %s" % (self.program.name, self.second, where), **{self.kind: file}, program=ours, second=theirs)
+            count += 1
+            lines += theirs.count(b"\n")
+        return count, lines
+
+
+def of_schedules(program, expected, seeds):
+    return Comparison(program, expected, [("generated schedules", generated(seeds)), ("edge files", edge_files())])
+
+
+def of_scripts(seeds):
+    return Comparison(PROGRAMS / "test_bytes", byte_report, [("generated scripts", scripts(seeds)), ("examples", example_scripts())],
+                      "second_store.py", "script", script_records)
 
 
 def comparisons(program, seeds):
-    """The program, what it must print, and the number of generated files."""
+    """All that is to be compared."""
     if program:
-        return [(pathlib.Path(program).resolve(), report, seeds)]
-    return [(PROGRAMS / "replay", report, seeds), (PROGRAMS / "test_spaces", spaces, min(seeds, SPACES_SEEDS)),
-            (PROGRAMS / "test_holdings", lists, min(seeds, HOLDINGS_SEEDS))]
+        return [of_schedules(pathlib.Path(program).resolve(), report, seeds)]
+    return [of_schedules(PROGRAMS / "replay", report, seeds), of_schedules(PROGRAMS / "test_spaces", spaces, min(seeds, SPACES_SEEDS)),
+            of_schedules(PROGRAMS / "test_holdings", lists, min(seeds, HOLDINGS_SEEDS)), of_scripts(min(seeds, BYTES_SEEDS))]
 
 
 def read_arguments(arguments):
@@ -269,15 +340,15 @@ def read_arguments(arguments):
 
 def main(arguments):
     todo = comparisons(*read_arguments(arguments))
-    for program, _, _ in todo:
+    for program in (comparison.program for comparison in todo):
         if not program.is_file():
             how = BUILDS.get(program.name)
             sys.exit("%s is not there" % program + (": %s builds it" % how if how else ""))
     started = time.time()
-    for program, expected, seeds in todo:
-        for what, files in (("generated schedules", generated(seeds)), ("edge files", edge_files())):
-            count, lines = compare(program, expected, files)
-            print("%s: %d %s, %d lines: no difference" % (program.name, count, what, lines), flush=True)
+    for comparison in todo:
+        for what, files in comparison.files:
+            count, lines = comparison.compare(files)
+            print("%s: %d %s, %d lines: no difference" % (comparison.program.name, count, what, lines), flush=True)
     print("compared in %.0f s" % (time.time() - started))
     return 0
 

@@ -30,10 +30,12 @@ from scheduling import text, words  # noqa: E402
 
 SPECIFICATION = TOP / "docs" / "SPECIFICATION.md"
 GUARANTEE = TOP / "docs" / "GUARANTEE.md"
-TYPES = TOP / "crates" / "pool" / "src" / "lib.rt"
+TYPES = [TOP / "crates" / name / "src" / "lib.rt"
+         for name in ("pool", "memory")]
 STAGE_CODE = TOP / "crates" / "stages" / "src" / "lib.rt"
 STAGE_PROOFS = TOP / "crates" / "stages" / "proofs"
-SPECS = [TOP / "crates" / name / "specs" for name in ("pool", "guarantee")]
+SPECS = [TOP / "crates" / name / "specs"
+         for name in ("pool", "guarantee", "memory", "contents", "mixed")]
 SUFFIXES = (".antt", ".edit", ".md", ".py", ".rs", ".rt", ".txt", "")
 STAGES, REFUSALS, CASES = 4, 6, 12  # sections whose rows are numbered or named
 
@@ -117,6 +119,18 @@ def spec_file(name):
     return found[0] if found else None
 
 
+def defined_in(line):
+    """The name that a line defines, or None."""
+    defines = DEFINES.match(line)
+    return defines[1] if defines else None
+
+
+def type_file(name):
+    """The file that declares a type; the first of them if none does."""
+    return next((path for path in TYPES
+                 if name in map(defined_in, read(path).splitlines())), TYPES[0])
+
+
 def part_end(lines, at):
     """Where the lines end that stand further in than a line."""
     further = re.compile(r"$|%s +" % re.match(" *", lines[at])[0])
@@ -128,18 +142,19 @@ def place_of(name):
     """The file that defines a name, and the line of it where it does.
 
     'State.slot' is slot in the file State, 'Claims.Point3.grants' is grants in
-    Point3 in the file Claims, and 'Pool.free' is free in the type Pool.
+    Point3 in the file Claims, and 'Pool.free' is free in the type Pool. Where a
+    file has a type's name, as Memory has, the type's fields cannot be named.
     """
     file, *inner = name.split(".")
     path = spec_file(file) if inner else None
     if path is None:
-        path, inner = TYPES, [file, *inner]
+        path, inner = type_file(file), [file, *inner]
     lines = read(path).splitlines()
     at, end = -1, len(lines)
     for word in inner:
         part = re.compile(r" +(?:pub )?%s ?:" % re.escape(word))
         at = next((place for place in range(at + 1, end)
-                   if (DEFINES.match(lines[place]) or [None, None])[1] == word
+                   if defined_in(lines[place]) == word
                    or part.match(lines[place])), None)
         need(at is not None, "%s has no definition %s" % (here(path), name))
         end = part_end(lines, at)
@@ -152,8 +167,7 @@ def comment_above(path, at, group=()):
     is_comment = [line.lstrip().startswith(("--", "//")) for line in lines]
     while at > 0 and not is_comment[at - 1]:
         at -= 1
-        passed = DEFINES.match(lines[at])
-        if passed and passed[1] not in group:
+        if defined_in(lines[at]) not in (None, *group):
             return ""
     end = at
     while at > 0 and is_comment[at - 1]:
@@ -344,22 +358,34 @@ def refusals():
 
 def limits():
     """The limits are those of the definitions and of the code."""
-    defined = dict(re.findall(r"^(max\w+) = (\d+)$",
-                              read(spec_file("Limits")), re.M))
-    size, clients, cap, held = (int(defined["max" + name]) for name
-                                in ("Size", "Clients", "Cap", "Held"))
+    defined = dict(re.findall(r"^(max\w+|pageBytes) = (\d+)$", "\n".join(
+        read(spec_file(name)) for name in ("Limits", "Memory")), re.M))
+    size, clients, cap, held, page, pages = (
+        int(defined[name]) for name in ("maxSize", "maxClients", "maxCap",
+                                        "maxHeld", "pageBytes", "maxPages"))
     for clause, said in (((1, 1), "S is 1 to %d, T is 1 to %d, C is 1 to %d."
                           % (size, clients, cap)),
                          ((1, 2), "-1 to %d" % (clients * held)),
                          ((2, 2), "at most %d open grants" % held),
-                         ((5, 3), "-1 to %d" % (clients * held))):
+                         ((5, 3), "-1 to %d" % (clients * held)),
+                         ((13, 1), "%d for each page. It has 1 to %d pages"
+                          % (page, pages)),
+                         ((13, 1), "0 to %d, is its *offset*" % (page - 1)),
+                         ((13, 2), "for each frame %d bytes" % page),
+                         ((13, 4), "%d bytes for each page" % page),
+                         ((13, 11), "at most %d pages" % pages)):
         need(said in TEXTS[clause],
              "clause %d.%d does not say %r" % (*clause, said))
-    for name, limit in (("SIZE", size), ("CLIENTS", clients), ("CAP", cap),
-                        ("HELD", held)):
-        need("pub const MAX_%s: u8 = %d;" % (name, limit) in read(TYPES),
-             "the code's MAX_%s is not %d" % (name, limit))
-    return "the limits: %d, %d, %d, %d" % (size, clients, cap, held)
+    need(words.REFUSALS[17].endswith(" %d or more" % page),
+         "refusal 17 is not for offsets from %d on" % page)
+    code = "\n".join(map(read, TYPES))
+    for name, limit in (("MAX_SIZE: u8", size), ("MAX_CLIENTS: u8", clients),
+                        ("MAX_CAP: u8", cap), ("MAX_HELD: u8", held),
+                        ("PAGE: usize", page), ("MAX_PAGES: u16", pages)):
+        need("pub const %s = %d;" % (name, limit) in code,
+             "the code's %s is not %d" % (name, limit))
+    return "the limits: %d, %d, %d, %d; %d bytes, %d pages" % (
+        size, clients, cap, held, page, pages)
 
 
 def rules():

@@ -203,7 +203,7 @@ def explanations():
              > 2**16 for row in rows), "no page above 65535 was granted")
     need(any(row.client == "255" for row in rows), "no client 255 was met")
     same(sorted(words.STAGES), list(range(1, 24)), "the stages with a name")
-    same(sorted(words.REFUSALS), list(range(1, 16)), "the refusals in words")
+    same(sorted(words.REFUSALS), list(range(1, 18)), "the refusals in words")
     return ("explain, seeds 0 to %d: %d rows, totals by client and in all"
             % (SEEDS[-1], len(rows)))
 

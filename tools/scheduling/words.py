@@ -49,6 +49,8 @@ REFUSALS = {
     13: "the client does not hold this page",
     14: "the list has too few rows",
     15: "its sweep met only busy slots",
+    16: "the page is outside the store",
+    17: "the offset is 64 or more",
 }
 
 LAST_TO_END = 8  # refusals up to this number end a run

@@ -1,0 +1,443 @@
+"""A second player of byte scripts: python3 second_store.py < script
+
+It plays the pool of second.py with a store lent to it and 64 bytes in every
+frame, and exists to be compared with the main program. Like second.py it was
+made from the user's text, and a list of readings where that is open; nothing
+of the main program was looked at.
+
+A script has one call a line, with decimal numbers:
+
+    setup S T C HAND LENGTH          the first line, and only that
+    lend N
+    begin CLIENT PAGE
+    step CLIENT
+    release CLIENT PAGE
+    read CLIENT PAGE OFFSET
+    write CLIENT PAGE OFFSET BYTE
+    dump
+
+The store is the front of one space of 16,512 bytes: its first LENGTH bytes at
+setup and until a "lend" says how many. Every call gives one line, code and
+value as in the report of a schedule; "lend" gives none. "dump" gives one line
+a frame (number, filled, changed, bytes), then the space by lines of 64 bytes
+as far as LENGTH goes, one line at least. A refused setup ends the report.
+
+The exit status is 2 if a line of the script cannot be read.
+"python3 second_store.py --check" plays the EXAMPLES below instead.
+"""
+
+import sys
+
+sys.dont_write_bytecode = True  # leave no compiled files beside the sources
+
+from second import (DONE, MOST_CLIENTS, MOST_COUNT,  # noqa: E402
+                    MOST_GRANTS, MOST_SLOTS, REFUSAL, BufferCache, Frame,
+                    HashTable, Pool, Refused)
+
+PAGE = 64  # bytes of a page
+MOST_PAGES = 256  # of a store
+SPACE = 16512  # bytes that stores are cut from
+
+
+def place(page):
+    """Where a page stands in the store."""
+    return slice(PAGE * page, PAGE * (page + 1))
+
+
+# The frames and the table, with bytes.
+
+
+class ByteFrame(Frame):
+    """A frame with bytes, zero at setup, and its two marks."""
+
+    def __init__(self, number, cap):
+        super().__init__(number, cap)
+        self.bytes = bytearray(PAGE)
+        self.filled = False
+        self.changed = False
+
+    def renew(self, key):
+        """Stage 4: both marks go off; the bytes stay as they were."""
+        super().renew(key)
+        self.filled = self.changed = False
+
+
+class ByteTable(HashTable):
+    """The table; where a frame leaves it, its bytes are looked after."""
+
+    store = None  # what the running step was lent
+
+    def remove(self, key, frame):
+        """Stage 17: a changed frame that is removed goes to the store."""
+        if self.get(key) is frame and frame.changed:
+            self.store[place(key)] = frame.bytes
+        super().remove(key, frame)
+
+    def replace(self, key, old, new):
+        """Stage 22: with the entry, bytes and marks go to the new frame."""
+        if not super().replace(key, old, new):
+            return False
+        new.bytes[:] = old.bytes
+        new.filled, new.changed = old.filled, old.changed
+        old.filled = old.changed = False
+        return True
+
+
+class ByteCache(BufferCache):
+    """The table and the clock of second.py over frames with bytes."""
+
+    def __init__(self, size, clients, cap, hand):
+        super().__init__(size, clients, cap, hand)
+        self.HASHTBL = ByteTable()
+        self.frames = [ByteFrame(frame.number, cap) for frame in self.frames]
+
+
+# The calls.
+
+
+class StorePool(Pool):
+    """The pool of second.py that may have a store; the calls of a script.
+
+    It keeps how many pages the store has, 0 for none, but not the store.
+    """
+
+    def __init__(self, slots, clients, cap, hand, store):
+        pages, rest = divmod(len(store), PAGE)
+        if not (1 <= slots <= MOST_SLOTS and 1 <= clients <= MOST_CLIENTS
+                and 1 <= cap <= MOST_COUNT
+                and rest == 0 and pages <= MOST_PAGES):
+            raise Refused(8)
+        super().__init__(slots, clients, cap, hand)
+        self.cache = ByteCache(slots, self.clients, cap, hand)
+        self.pages = pages
+
+    def begin(self, number, page):
+        """As in second.py, which refuses by 10 and 12; then comes 16."""
+        client = self.client(number)
+        may = client.request is None and len(client.grants) < MOST_GRANTS
+        if may and self.pages > 0 and page >= self.pages:
+            raise Refused(16)
+        return super().begin(number, page)
+
+    def step(self, number, store):
+        self.check(store)
+        self.cache.HASHTBL.store = store
+        return super().step(number)
+
+    def read(self, number, page, offset, store):
+        """The byte at the offset of a page the resting client holds."""
+        frame = self.filledFrame(number, page, offset, store)
+        return DONE, frame.bytes[offset]
+
+    def write(self, number, page, offset, byte, store):
+        """Put a byte at the offset of a page the resting client holds."""
+        frame = self.filledFrame(number, page, offset, store)
+        frame.bytes[offset] = byte
+        frame.changed = True
+        return DONE, page
+
+    def filledFrame(self, number, page, offset, store):
+        """The frame a read or write is about, filled; all their refusals."""
+        self.check(store)
+        client = self.client(number)
+        if client.request is not None:
+            raise Refused(10)
+        frame = dict(client.grants).get(page)
+        if frame is None:
+            raise Refused(13)
+        if page >= self.pages:
+            raise Refused(16)
+        if offset >= PAGE:
+            raise Refused(17)
+        if not frame.filled:
+            frame.bytes[:] = store[place(page)]
+            frame.filled = True
+        return frame
+
+    def check(self, store):
+        if len(store) != PAGE * self.pages:
+            raise Refused(8)
+
+
+# The script and the report.
+
+
+class Unreadable(Exception):
+    """A line of a script that cannot be read."""
+
+
+BYTE, WORD = 255, 2**32 - 1
+NUMBERS = {  # the largest value of each number after the word
+    "setup": (BYTE, BYTE, BYTE, WORD, SPACE),
+    "lend": (SPACE,),
+    "begin": (BYTE, WORD),
+    "step": (BYTE,),
+    "release": (BYTE, WORD),
+    "read": (BYTE, WORD, WORD),
+    "write": (BYTE, WORD, WORD, BYTE),
+    "dump": (),
+}
+
+
+def readLine(text, first):
+    """The word of a line and its numbers, as one list."""
+    name, *numbers = text.split() or [""]
+    if name not in NUMBERS:
+        raise Unreadable("no such call")
+    if (name == "setup") != first:
+        raise Unreadable("the first line, and only that, is a setup")
+    if len(numbers) != len(NUMBERS[name]):
+        raise Unreadable("%s takes %d numbers" % (name, len(NUMBERS[name])))
+    for number, largest in zip(numbers, NUMBERS[name]):
+        if not (number.isascii() and number.isdigit()
+                and len(number) <= 10 and int(number) <= largest):
+            raise Unreadable("not a number from 0 to %d: %s"
+                             % (largest, number))
+    return [name, *map(int, numbers)]
+
+
+def readScript(script):
+    """All calls of a script."""
+    calls = []
+    for number, text in enumerate(script.splitlines() or [""], 1):
+        try:
+            calls.append(readLine(text, number == 1))
+        except Unreadable as fault:
+            raise Unreadable("line %d, %r: %s" % (number, text, fault))
+    return calls
+
+
+class Player:
+    """The space, what of it is lent, and the pool once it is set up."""
+
+    def __init__(self):
+        self.space = bytearray((i * 7 + i // 64 * 13 + 5) % 256
+                               for i in range(SPACE))
+        self.length = 0  # of the store at setup
+        self.lent = 0  # of the store lent now
+        self.pool = None
+
+    def call(self, name, *numbers):
+        """Make one call; code and value of its line."""
+        store = memoryview(self.space)[:self.lent]
+        try:
+            if name == "setup":
+                return self.setup(*numbers)
+            if name in ("begin", "release"):
+                return getattr(self.pool, name)(*numbers)
+            return getattr(self.pool, name)(*numbers, store)
+        except Refused as refused:
+            return REFUSAL + refused.number, 0
+
+    def setup(self, slots, clients, cap, hand, length):
+        self.length = self.lent = length
+        store = memoryview(self.space)[:length]
+        self.pool = StorePool(slots, clients, cap, hand, store)
+        return DONE, slots
+
+    def lines(self, name, *numbers):
+        """Play one line of a script; the report's lines for it."""
+        if name == "lend":
+            self.lent, = numbers
+            return []
+        if name == "dump":
+            return self.dump()
+        return ["%d %d" % self.call(name, *numbers)]
+
+    def dump(self):
+        return ["%d %d %d %s" % (frame.number, frame.filled, frame.changed,
+                                 frame.bytes.hex())
+                for frame in self.pool.cache.frames] + [
+            "- " + self.space[at:at + PAGE].hex()
+            for at in range(0, max(self.length, PAGE), PAGE)]
+
+
+def play(script):
+    """The report of a script."""
+    player = Player()
+    report = []
+    for call in readScript(script):
+        report += player.lines(*call)
+        if player.pool is None:  # the setup was refused
+            break
+    return "".join(line + "\n" for line in report)
+
+
+# Examples. Their reports were worked out by hand from the text.
+
+
+def row(first, **others):
+    """64 bytes in hex, each 7 above the last; b5=9 makes byte 5 a 9.
+
+    Pages 0, 1 and 2 of the space start with the bytes 5, 210 and 159.
+    """
+    row = [(first + 7 * i) % 256 for i in range(64)]
+    for name, byte in others.items():
+        row[int(name[1:])] = byte
+    return bytes(row).hex()
+
+
+ZERO = 64 * "00"
+
+
+def example(about, *pairs):
+    """What it shows, the script and the report.
+
+    A pair is a line of the script and what it adds to the report. A list of
+    stages stands for as many such lines, steps answered by these stages.
+    """
+    script, report = [], []
+    for call, answer in pairs:
+        if isinstance(answer, list):
+            script += [call] * len(answer)
+            report += ["1 %d" % stage for stage in answer]
+        else:
+            script.append(call)
+            report += answer.split("\n") if answer else []
+    return about, "\n".join(script) + "\n", "\n".join(report) + "\n"
+
+
+TO_EMPTY_SLOT = [4, 5, 6, 7, 8, 9, 18]
+TO_17 = [4, 5, 10, 11, 12, 13, 14, 15, 16, 17]
+
+EXAMPLES = [
+    example("A read fills, a write marks; refusals 10, 17, 13, 16 and 9.",
+            ("setup 1 1 3 0 64", "0 1"),
+            ("begin 0 0", "0 0"),
+            ("step 0", TO_EMPTY_SLOT),
+            ("read 0 0 1", "110 0"),
+            ("step 0", "2 0"),
+            ("dump", "0 0 0 " + ZERO + "\n1 0 0 " + ZERO
+             + "\n2 0 0 " + ZERO + "\n- " + row(5)),
+            ("read 0 0 1", "0 12"),
+            ("dump", "0 1 0 " + row(5) + "\n1 0 0 " + ZERO
+             + "\n2 0 0 " + ZERO + "\n- " + row(5)),
+            ("write 0 0 1 200", "0 0"),
+            ("read 0 0 1", "0 200"),
+            ("read 0 0 64", "117 0"),
+            ("write 0 1 64 3", "113 0"),
+            ("begin 0 1", "116 0"),
+            ("read 1 1 64", "109 0"),
+            ("dump", "0 1 1 " + row(5, b1=200) + "\n1 0 0 " + ZERO
+             + "\n2 0 0 " + ZERO + "\n- " + row(5))),
+    example("A changed page goes to the store at 17, not before, and is read "
+            "back; stage 4 takes its old frame and turns the marks off.",
+            ("setup 1 1 3 0 128", "0 1"),
+            ("begin 0 1", "0 1"),
+            ("step 0", TO_EMPTY_SLOT),
+            ("step 0", "2 0"),
+            ("write 0 1 63 9", "0 1"),
+            ("release 0 1", "0 1"),
+            ("begin 0 0", "0 0"),
+            ("step 0", TO_17),
+            ("dump", "0 1 1 " + row(210, b63=9) + "\n1 0 0 " + ZERO
+             + "\n2 0 0 " + ZERO + "\n- " + row(5) + "\n- " + row(210)),
+            ("step 0", "1 18"),
+            ("dump", "0 1 1 " + row(210, b63=9) + "\n1 0 0 " + ZERO
+             + "\n2 0 0 " + ZERO + "\n- " + row(5)
+             + "\n- " + row(210, b63=9)),
+            ("step 0", "2 1"),
+            ("release 0 0", "0 0"),
+            ("begin 0 1", "0 1"),
+            ("step 0", TO_17 + [18]),
+            ("step 0", "2 2"),
+            ("read 0 1 63", "0 9"),
+            ("release 0 1", "0 1"),
+            ("begin 0 0", "0 0"),
+            ("step 0", [4, 5]),
+            ("dump", "0 0 0 " + row(210, b63=9) + "\n1 0 0 " + ZERO
+             + "\n2 1 0 " + row(210, b63=9) + "\n- " + row(5)
+             + "\n- " + row(210, b63=9))),
+    example("At 22 the new frame gets bytes and marks; the 17 that comes too "
+            "late writes nothing.",
+            ("setup 2 2 3 0 192", "0 2"),
+            ("begin 0 0", "0 0"),
+            ("step 0", TO_EMPTY_SLOT),
+            ("step 0", "2 0"),
+            ("write 0 0 0 77", "0 0"),
+            ("release 0 0", "0 0"),
+            ("begin 0 1", "0 1"),
+            ("step 0", TO_EMPTY_SLOT),
+            ("step 0", "2 1"),
+            ("release 0 1", "0 1"),
+            ("begin 0 2", "0 2"),
+            ("step 0", TO_17),
+            ("begin 1 0", "0 0"),
+            ("step 1", [2] + TO_17 + [18, 19, 22]),
+            ("step 1", "2 3"),
+            ("read 1 0 0", "0 77"),
+            ("step 0", "1 18"),
+            ("step 0", "2 2"),
+            ("dump", "0 0 0 " + row(5, b0=77) + "\n1 0 0 " + ZERO
+             + "\n2 0 0 " + ZERO + "\n3 1 1 " + row(5, b0=77)
+             + "\n4 0 0 " + ZERO + "\n5 0 0 " + ZERO
+             + "\n- " + row(5) + "\n- " + row(210) + "\n- " + row(159))),
+    example("Without a store any page may be begun, a held one can be neither "
+            "read nor written, and only an empty store may be lent.",
+            ("setup 1 1 3 0 0", "0 1"),
+            ("begin 0 4294967295", "0 4294967295"),
+            ("step 0", TO_EMPTY_SLOT),
+            ("step 0", "2 0"),
+            ("read 0 4294967295 64", "116 0"),
+            ("write 0 4294967295 0 1", "116 0"),
+            ("read 0 3 0", "113 0"),
+            ("lend 64", ""),
+            ("step 0", "108 0"),
+            ("read 0 3 0", "108 0"),
+            ("release 0 4294967295", "0 4294967295"),
+            ("lend 0", ""),
+            ("step 0", "111 0"),
+            ("dump", "0 0 0 " + ZERO + "\n1 0 0 " + ZERO + "\n2 0 0 " + ZERO
+             + "\n- " + row(5))),
+    example("A store of another length is refused before all else, and the "
+            "client stands where it stood.",
+            ("setup 1 1 3 0 128", "0 1"),
+            ("begin 0 0", "0 0"),
+            ("lend 127", ""),
+            ("step 0", "108 0"),
+            ("read 7 0 0", "108 0"),
+            ("write 0 0 0 1", "108 0"),
+            ("lend 0", ""),
+            ("step 7", "108 0"),
+            ("begin 0 0", "110 0"),
+            ("lend 128", ""),
+            ("read 7 0 0", "109 0"),
+            ("write 0 0 0 1", "110 0"),
+            ("step 0", [4, 5])),
+    example("A setup with a store of 257 pages is refused; nothing follows.",
+            ("setup 1 1 3 0 16448", "108 0"),
+            ("begin 0 0", ""),
+            ("dump", "")),
+]
+
+
+def checkExamples():
+    """Tell of each example whose report is another; the exit status."""
+    wrong = [about for about, script, report in EXAMPLES
+             if play(script) != report]
+    for about in wrong:
+        print("another report: " + about)
+    print("%d of %d examples as expected"
+          % (len(EXAMPLES) - len(wrong), len(EXAMPLES)))
+    return 1 if wrong else 0
+
+
+def main(arguments):
+    """Do what the command line says; the exit status."""
+    if arguments == ["--check"]:
+        return checkExamples()
+    if arguments:
+        print("usage: python3 second_store.py [--check] < script > report",
+              file=sys.stderr)
+        return 2
+    try:
+        script = sys.stdin.buffer.read().decode("ascii")
+        sys.stdout.write(play(script))
+    except (Unreadable, UnicodeDecodeError) as fault:
+        print("second_store.py: %s" % fault, file=sys.stderr)
+        return 2
+    return 0
+
+
+if __name__ == "__main__":
+    sys.exit(main(sys.argv[1:]))
