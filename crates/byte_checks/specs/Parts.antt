@@ -1,8 +1,8 @@
 -- The parts of check 8 of the bytes, each over the lists and numbers that it looks at; together they are `bytesOk`. Assumes nothing.
-use mathlib.Core.Path.{_≡_, refl, sym, ap, _∙_}
+use mathlib.Core.Path.{_≡_, refl, sym, _∙_}
 use mathlib.Core.Logic.{_≢_}
 use mathlib.Core.Bool.{Bool, true, false, not}
-use mathlib.Core.List.{List}
+use mathlib.Core.List.{List, []}
 use Prim.Native.Nat.{ℕ, _≤_, _<_}
 use native.Mathlib.Omega.{arith}
 use lib.Dec.{eqb, leb}
@@ -11,11 +11,13 @@ use borrow.Author.Tests.{eq-eqb, ne-eqb, le-leb, lt-leb, lt-ltb}
 use Rattle.pool.specs.Limits.{maxFrames}
 use Rattle.pool.specs.Choose.{choose, both, either, every}
 use Rattle.pool.specs.State.{none, total, clientCount, within, ofClient, page, entryPage, entryFrame, client, grantPage}
+use Rattle.pool.specs.Valid.{valid}
 use Rattle.pool.specs.declared.Pool.{Pool}
 use Rattle.pool.specs.declared.Client.{Client}
-use Rattle.laws.specs.Choices.{chosen, passed}
+use Rattle.laws.specs.Choices.{both-are}
 use Rattle.laws.specs.Elements.{clientIn}
 use Rattle.laws.specs.Scans.{both-yes, every-yes}
+use Rattle.validity.specs.Parts.{validIn, of-parts}
 use Rattle.memory.specs.Memory.{maxPages, isFrame, isFilled, isChanged}
 use Rattle.memory.specs.Requests.{inside, entryInside, clientInside, pagesInside, unmarkedAt, marksOk, bytesOk}
 use Rattle.memory.specs.declared.Memory.{Memory}
@@ -125,11 +127,11 @@ all-inside p =
 
 -- ---- the three cases, of a memory with so many pages and these marks
 
-too-many : (p : Pool) (m : Memory) → maxPages < m .pages → false ≡ bytesOk p m
+pub too-many : (p : Pool) (m : Memory) → maxPages < m .pages → false ≡ bytesOk p m
 unfolding bytesOk both choose
 too-many p m many = rw (lt-leb _ _ many)
 
-with-store : (p : Pool) (m : Memory) → m .pages ≢ 0 → m .pages ≤ maxPages → fromFrames p (m .pages) ≡ bytesOk p m
+pub with-store : (p : Pool) (m : Memory) → m .pages ≢ 0 → m .pages ≤ maxPages → fromFrames p (m .pages) ≡ bytesOk p m
 unfolding bytesOk both marksOk either choose
 with-store p m some few = in-parts p (m .pages) ∙ sym (rw (le-leb _ _ few, ne-eqb _ _ some) (alone (pagesInside p (m .pages))))
   where
@@ -137,17 +139,55 @@ with-store p m some few = in-parts p (m .pages) ∙ sym (rw (le-leb _ _ few, ne-
     alone true = refl
     alone false = refl
 
-without-store : (p : Pool) (m : Memory) → m .pages ≡ 0 → unmarkedIn (m .filled) (m .changed) (total p) ≡ bytesOk p m
+pub without-store : (p : Pool) (m : Memory) → m .pages ≡ 0 → unmarkedIn (m .filled) (m .changed) (total p) ≡ bytesOk p m
 unfolding bytesOk both marksOk either choose
 without-store p m e = marks-in p m ∙ sym (rw (e, le-leb 0 maxPages (omega arith), all-inside p, eq-eqb 0 0 refl))
 
-module _ (p : Pool) (m : Memory) {n : ℕ} (e : m .pages ≡ n) where
-  pub by-many : maxPages < n → false ≡ bytesOk p m
-  by-many many = too-many p m (omega (arith, e))
+-- ---- of a pool and a memory that only lent the parts that are looked at
 
-  pub by-pages : n ≢ 0 → n ≤ maxPages → fromFrames p n ≡ bytesOk p m
-  by-pages some few = ap (fromFrames p) (sym e) ∙ with-store p m (λ z. some (sym e ∙ z)) (omega (arith, e))
+-- a pool with these parts, and a memory
+abbrev pub booksOf : ℕ → ℕ → List ℕ → List ℕ → List ℕ → List Client → List ℕ → Pool
+booksOf size count pages tablePages tableFrames clients grantPages =
+    record {
+      size = size;
+      «client_count» = count;
+      cap = 0;
+      hand = 0;
+      free = 0;
+      last = 0;
+      slots = [];
+      pages = pages;
+      pins = [];
+      counts = [];
+      «table_pages» = tablePages;
+      «table_frames» = tableFrames;
+      clients = clients;
+      «grant_pages» = grantPages;
+      «grant_frames» = [];
+    }
 
-  pub by-marks : {filled changed : List Bool} → m .filled ≡ filled → m .changed ≡ changed → n ≡ 0
-      → unmarkedIn filled changed (total p) ≡ bytesOk p m
-  by-marks f g z = rw (← f, ← g) (without-store p m (e ∙ z))
+abbrev pub marksOf : ℕ → List Bool → List Bool → Memory
+marksOf pages filled changed = record { pages = pages; bytes = []; filled = filled; changed = changed }
+
+unfoldable pub bytesOkIn : ℕ → ℕ → List ℕ → List ℕ → List ℕ → List Client → List ℕ → ℕ → List Bool → List Bool → Bool
+bytesOkIn size count framePages tablePages tableFrames clients grantPages pages filled changed =
+    bytesOk (booksOf size count framePages tablePages tableFrames clients grantPages) (marksOf pages filled changed)
+
+-- check 8 of a pool that has bytes
+abbrev pub soundIn : ℕ → ℕ → ℕ → ℕ → ℕ → List ℕ → List ℕ → List ℕ → List ℕ → List ℕ → List ℕ → List Client → List ℕ → List ℕ → ℕ → List Bool
+    → List Bool → Bool
+soundIn size count cap free last slots framePages pins counts tablePages tableFrames clients grantPages grantFrames pages filled changed =
+    both (validIn size count cap free last slots pins counts tablePages tableFrames clients grantPages grantFrames)
+    (bytesOkIn size count framePages tablePages tableFrames clients grantPages pages filled changed)
+
+of-bytes : (p : Pool) (m : Memory) →
+    bytesOkIn (p .size) (clientCount p) (p .pages) (p .«table_pages») (p .«table_frames») (p .clients) (p .«grant_pages») (m .pages) (m .filled) (m .changed)
+    ≡ bytesOk p m
+unfolding
+    bytesOkIn bytesOk pagesInside entryInside clientInside marksOk unmarkedAt isFilled isChanged page entryPage entryFrame client grantPage
+of-bytes p m = refl
+
+pub of-sound : (p : Pool) (m : Memory) →
+    soundIn (p .size) (clientCount p) (p .cap) (p .free) (p .last) (p .slots) (p .pages) (p .pins) (p .counts) (p .«table_pages») (p .«table_frames»)
+    (p .clients) (p .«grant_pages») (p .«grant_frames») (m .pages) (m .filled) (m .changed) ≡ both (valid p) (bytesOk p m)
+of-sound p m = both-are refl (of-parts p) (of-bytes p m)

@@ -1,15 +1,15 @@
 // Check 8 of a pool that has bytes (SPECIFICATION 13.11): its own check 8 (crate `validity`), that every page number of it is inside the store, and that
-// a pool without a store has no marks. Internal.
+// a pool without a store has no marks. A caller whose pool stands somewhere lends its parts; the loops over frames and entries go on to the end, since
+// a loop without a way out is turned into vector instructions. Internal.
 ghost use mathlib.Core.Path.{_≡_};
-ghost use mathlib.Core.Bool.{true};
 ghost use Prim.Native.Nat.{ℕ, _<_, _≤_};
-ghost use Rattle.pool.specs.Limits.{maxClients, maxHeld, maxFrames};
+ghost use Rattle.pool.specs.Limits.{maxSize, maxClients, maxHeld, maxFrames};
 ghost use Rattle.pool.specs.Choose.{both};
 ghost use Rattle.pool.specs.Valid.{valid};
 ghost use Rattle.laws.specs.Elements.{clientIn};
 ghost use Rattle.memory.specs.Requests.{inside, bytesOk};
 ghost use Rattle.memory.specs.declared.Memory.{Memory};
-ghost use Rattle.byte_checks.specs.Parts.{framesInside, entryInsideIn, entriesInside, grantsInside, wantedInside, clientInsideIn, clientsInside, unmarkedIn};
+ghost use Rattle.byte_checks.specs.Parts.{framesInside, entryInsideIn, entriesInside, grantsInside, wantedInside, clientInsideIn, clientsInside, unmarkedIn, bytesOkIn, soundIn};
 use memory::MAX_PAGES;
 use pool::CLIENTS;
 use pool::Client;
@@ -18,6 +18,7 @@ use pool::GRANTS;
 use pool::HELD;
 use pool::NONE;
 use pool::Pool;
+use pool::SLOTS;
 
 // Whether a page is inside a store of so many pages; where there is none, every page is.
 pub fn inside(store: u16, page: u32) -> bool
@@ -34,13 +35,12 @@ fn frames_inside(pages: &[u32; FRAMES], n: usize, store: u16) -> bool
     requires { ⌜ n ≤ maxFrames ⌝ }
     ensures { λ r. ⌜ r ≡ framesInside (now (pages .entry)) n store ⌝ }
 {
+    let mut ok = true;
     for i in 0..n {
-        let ok = inside(store, pages[i]);
-        if !ok {
-            return false;
-        }
+        let passes = inside(store, pages[i]);
+        ok = range_tests::both(ok, passes);
     }
-    true
+    ok
 }
 
 // Place i of the table.
@@ -63,13 +63,12 @@ fn entries_inside<'a>(
     requires { ⌜ n ≤ maxFrames ⌝ }
     ensures { λ r. ⌜ r ≡ entriesInside (now (pages .entry)) (now (frames .entry)) n store ⌝ }
 {
+    let mut ok = true;
     for i in 0..n {
-        let ok = entry_inside(frames[i], pages[i], store);
-        if !ok {
-            return false;
-        }
+        let passes = entry_inside(frames[i], pages[i], store);
+        ok = range_tests::both(ok, passes);
     }
-    true
+    ok
 }
 
 // The pages of client c's grants.
@@ -145,42 +144,100 @@ fn unmarked<'a>(filled: &'a [bool; FRAMES], changed: &'a [bool; FRAMES], n: usiz
     true
 }
 
-// What is tested of the bytes, for a memory with these marks. Without a store every page is inside, and with one any mark may be on.
+// What is tested of the bytes, of a pool with these parts and a memory of so many pages and with these marks. Without a store every page is inside,
+// and with one any mark may be on.
 fn bytes_ok<'a>(
-    pool: Pool,
+    size: u8,
+    client_count: u8,
+    frame_pages: &'a [u32; FRAMES],
+    table_pages: &'a [u32; FRAMES],
+    table_frames: &'a [u8; FRAMES],
+    clients: [Client; CLIENTS],
+    grant_pages: &'a [u32; GRANTS],
     pages: u16,
     filled: &'a [bool; FRAMES],
     changed: &'a [bool; FRAMES],
 ) -> bool
-    requires { ⌜ valid pool ≡ true ⌝ }
-    ensures { λ r. ⌜ ((m : Memory) → m .pages ≡ pages → m .filled ≡ now (filled .entry) → m .changed ≡ now (changed .entry) →
-        r ≡ bytesOk pool m) ⌝ }
+    requires { ⌜ (size ≤ maxSize) × («client_count» ≤ maxClients)
+        × ((c : ℕ) → c < «client_count» → clientIn clients «client_count» c .held ≤ maxHeld) ⌝ }
+    ensures { λ r. ⌜ r ≡ bytesOkIn size «client_count» (now («frame_pages» .entry)) (now («table_pages» .entry)) (now («table_frames» .entry))
+        clients (now («grant_pages» .entry)) pages (now (filled .entry)) (now (changed .entry)) ⌝ }
 {
-    let n = (pool.size + 2 * pool.client_count) as usize;
+    let n = (size + 2 * client_count) as usize;
     if pages == 0 {
         return unmarked(filled, changed, n);
     }
     if pages > MAX_PAGES {
         return false;
     }
-    let frames = frames_inside(&pool.pages, n, pages);
+    let frames = frames_inside(frame_pages, n, pages);
     if !frames {
         return false;
     }
-    let entries = entries_inside(&pool.table_pages, &pool.table_frames, n, pages);
+    let entries = entries_inside(table_pages, table_frames, n, pages);
     if !entries {
         return false;
     }
-    let clients = pool.clients;
-    clients_inside(
-        clients,
-        pool.client_count as usize,
-        &pool.grant_pages,
-        pages,
-    )
+    clients_inside(clients, client_count as usize, grant_pages, pages)
 }
 
 // Check 8 of a pool that has bytes: the pool's own, and that of the bytes.
+pub fn parts_sound<'a>(
+    size: u8,
+    client_count: u8,
+    cap: u8,
+    free: u8,
+    last: u8,
+    slots: &'a [u8; SLOTS],
+    frame_pages: &'a [u32; FRAMES],
+    pins: &'a [u8; FRAMES],
+    counts: &'a [u8; FRAMES],
+    table_pages: &'a [u32; FRAMES],
+    table_frames: &'a [u8; FRAMES],
+    clients: [Client; CLIENTS],
+    grant_pages: &'a [u32; GRANTS],
+    grant_frames: &'a [u8; GRANTS],
+    pages: u16,
+    filled: &'a [bool; FRAMES],
+    changed: &'a [bool; FRAMES],
+) -> bool
+    ensures { λ r. ⌜ r ≡ soundIn size «client_count» cap free last (now (slots .entry)) (now («frame_pages» .entry)) (now (pins .entry))
+        (now (counts .entry)) (now («table_pages» .entry)) (now («table_frames» .entry)) clients (now («grant_pages» .entry))
+        (now («grant_frames» .entry)) pages (now (filled .entry)) (now (changed .entry)) ⌝ }
+{
+    let ok = validity::parts_ok(
+        size,
+        client_count,
+        cap,
+        free,
+        last,
+        slots,
+        pins,
+        counts,
+        table_pages,
+        table_frames,
+        clients,
+        grant_pages,
+        grant_frames,
+    );
+    if !ok {
+        return false;
+    }
+    bytes_ok(
+        size,
+        client_count,
+        frame_pages,
+        table_pages,
+        table_frames,
+        clients,
+        grant_pages,
+        pages,
+        filled,
+        changed,
+    )
+}
+
+// The same of a pool by value.
 pub fn sound<'a>(
     pool: Pool,
     pages: u16,
@@ -190,9 +247,24 @@ pub fn sound<'a>(
     ensures { λ r. ⌜ ((m : Memory) → m .pages ≡ pages → m .filled ≡ now (filled .entry) → m .changed ≡ now (changed .entry) →
         r ≡ both (valid pool) (bytesOk pool m)) ⌝ }
 {
-    let ok = validity::valid(pool);
-    if !ok {
-        return false;
-    }
-    bytes_ok(pool, pages, filled, changed)
+    let clients = pool.clients;
+    parts_sound(
+        pool.size,
+        pool.client_count,
+        pool.cap,
+        pool.free,
+        pool.last,
+        &pool.slots,
+        &pool.pages,
+        &pool.pins,
+        &pool.counts,
+        &pool.table_pages,
+        &pool.table_frames,
+        clients,
+        &pool.grant_pages,
+        &pool.grant_frames,
+        pages,
+        filled,
+        changed,
+    )
 }

@@ -34,20 +34,38 @@ pub fn step_tallied(mut pool: BufferPool, client: u8, tally: Tally, store: &mut 
         × (now (store .exit) ≡ callOn (stateOf pool (now (store .entry))) (Asks (Step client)) .state .store) ⌝ }
     ensures { λ r. ⌜ Among byStep (refusalOf (r .answer)) ⌝ }
 {
-    let books = pool.pool;
     let pages = pool.memory.pages;
-    let sound = byte_checks::sound(books, pages, &pool.memory.filled, &pool.memory.changed);
+    let clients = pool.pool.clients;
+    let sound = byte_checks::parts_sound(
+        pool.pool.size,
+        pool.pool.client_count,
+        pool.pool.cap,
+        pool.pool.free,
+        pool.pool.last,
+        &pool.pool.slots,
+        &pool.pool.pages,
+        &pool.pool.pins,
+        &pool.pool.counts,
+        &pool.pool.table_pages,
+        &pool.pool.table_frames,
+        clients,
+        &pool.pool.grant_pages,
+        &pool.pool.grant_frames,
+        pages,
+        &pool.memory.filled,
+        &pool.memory.changed,
+    );
     if !sound {
         return refused(pool, tally);
     }
     if store.len() != PAGE * pages as usize {
         return refused(pool, tally);
     }
+    let books = pool.pool;
     let made = checked::call_made(books, Call::Step(client));
     let write = made.write;
-    let frames = books.table_frames;
-    let total = reads::total(books.size, books.client_count);
-    let entry = effects::replaced(&frames, total, write);
+    let total = reads::total(pool.pool.size, pool.pool.client_count);
+    let entry = effects::replaced(&pool.pool.table_frames, total, write);
     effects::put_store(
         store,
         pages,

@@ -2,7 +2,7 @@
 -- definition by computation: `in-parts`. Assumes nothing.
 use mathlib.Core.Path.{_≡_, refl}
 use mathlib.Core.Bool.{Bool}
-use mathlib.Core.List.{List}
+use mathlib.Core.List.{List, []}
 use Prim.Native.Nat.{ℕ}
 use lib.Dec.{leb}
 use Rattle.pool.specs.Choose.{both, every}
@@ -37,6 +37,27 @@ clientOkIn k c size n pages frames = both (countsOk k size) (both (namesOk k n) 
 unfoldable pub clientsOkIn : List Client → ℕ → ℕ → ℕ → List ℕ → List ℕ → Bool
 clientsOkIn l count size n pages frames = every (λ c. clientOkIn (clientIn l count c) c size n pages frames) count
 
+-- a pool with the parts that check 8 looks at
+abbrev pub partsOf : ℕ → ℕ → ℕ → ℕ → ℕ → List ℕ → List ℕ → List ℕ → List ℕ → List ℕ → List Client → List ℕ → List ℕ → Pool
+partsOf size count cap free last slots pins counts tablePages tableFrames clients grantPages grantFrames =
+    record {
+      size = size;
+      «client_count» = count;
+      cap = cap;
+      hand = 0;
+      free = free;
+      last = last;
+      slots = slots;
+      pages = [];
+      pins = pins;
+      counts = counts;
+      «table_pages» = tablePages;
+      «table_frames» = tableFrames;
+      clients = clients;
+      «grant_pages» = grantPages;
+      «grant_frames» = grantFrames;
+    }
+
 -- check 8 of a pool from each part on
 abbrev pub fromClients : Pool → Bool
 fromClients p = clientsOkIn (p .clients) (clientCount p) (p .size) (total p) (p .«grant_pages») (p .«grant_frames»)
@@ -58,3 +79,14 @@ unfolding
     valid clientOk slot pins count entryPage entryFrame client grantPage grantFrame maps entryOf grantOf slotsOkIn statesOkIn
     mapsIn entryIn entryOkIn entriesOkIn grantIn grantOkIn grantsOkIn clientIn clientOkIn clientsOkIn
 in-parts p = refl
+
+-- Check 8 of a pool with these parts. It looks neither at the hand nor at the frames' pages, so that they may be anything.
+unfoldable pub validIn : ℕ → ℕ → ℕ → ℕ → ℕ → List ℕ → List ℕ → List ℕ → List ℕ → List ℕ → List Client → List ℕ → List ℕ → Bool
+validIn size count cap free last slots pins counts tablePages tableFrames clients grantPages grantFrames =
+    valid (partsOf size count cap free last slots pins counts tablePages tableFrames clients grantPages grantFrames)
+
+pub of-parts : (p : Pool) →
+    validIn (p .size) (clientCount p) (p .cap) (p .free) (p .last) (p .slots) (p .pins) (p .counts) (p .«table_pages») (p .«table_frames») (p .clients)
+    (p .«grant_pages») (p .«grant_frames») ≡ valid p
+unfolding validIn valid clientOk slot pins count entryPage entryFrame client grantPage grantFrame maps entryOf grantOf
+of-parts p = refl

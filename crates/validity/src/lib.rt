@@ -2,12 +2,13 @@
 //
 // The small tests are in crate `range_tests`, those that compare pages in crate `repeats`; here are the loops over slots, frames and clients, and
 // what comes after what. The cheap tests come first, and each part is looked at only once the numbers that bound it are known to be in range. The
-// arrays of numbers are lent, each test over the ones that it looks at, so that the pool itself is never copied in a loop.
+// arrays of numbers are lent, each test over the ones that it looks at, so that a caller whose pool stands somewhere need not copy it. The loops over
+// slots and frames go on to the end, since a loop without a way out is turned into vector instructions.
 ghost use mathlib.Core.Path.{_≡_};
 ghost use Prim.Native.Nat.{_<_, _≤_};
 ghost use Rattle.pool.specs.Limits.{maxSize, maxClients, maxFrames};
 ghost use Rattle.pool.specs.Valid.{valid};
-ghost use Rattle.validity.specs.Parts.{slotsOkIn, statesOkIn, clientOkIn, clientsOkIn};
+ghost use Rattle.validity.specs.Parts.{slotsOkIn, statesOkIn, clientOkIn, clientsOkIn, validIn};
 use pool::CLIENTS;
 use pool::Client;
 use pool::FRAMES;
@@ -21,13 +22,12 @@ fn slots_ok(slots: &[u8; SLOTS], size: usize, n: u8) -> bool
     requires { ⌜ size ≤ maxSize ⌝ }
     ensures { λ r. ⌜ r ≡ slotsOkIn (now (slots .entry)) size n ⌝ }
 {
+    let mut ok = true;
     for i in 0..size {
-        let ok = range_tests::frame_ok(n, slots[i]);
-        if !ok {
-            return false;
-        }
+        let passes = range_tests::frame_ok(n, slots[i]);
+        ok = range_tests::both(ok, passes);
     }
-    true
+    ok
 }
 
 // SPECIFICATION 5.3. The pins are stored one more.
@@ -35,13 +35,12 @@ fn states_ok<'a>(pins: &'a [u8; FRAMES], counts: &'a [u8; FRAMES], n: usize, cap
     requires { ⌜ n ≤ maxFrames ⌝ }
     ensures { λ r. ⌜ r ≡ statesOkIn (now (pins .entry)) (now (counts .entry)) n cap ⌝ }
 {
+    let mut ok = true;
     for i in 0..n {
-        let ok = range_tests::both(pins[i] <= MAX_PINS, counts[i] <= cap);
-        if !ok {
-            return false;
-        }
+        let passes = range_tests::both(pins[i] <= MAX_PINS, counts[i] <= cap);
+        ok = range_tests::both(ok, passes);
     }
-    true
+    ok
 }
 
 // Client c: its numbers, the frames that it remembers, its grants.
@@ -89,38 +88,74 @@ fn clients_ok<'a>(
     true
 }
 
-// All of section 5.
-pub fn valid(pool: Pool) -> bool
-    ensures { λ r. ⌜ r ≡ valid pool ⌝ }
+// All of section 5, of a pool with these parts.
+pub fn parts_ok<'a>(
+    size: u8,
+    client_count: u8,
+    cap: u8,
+    free: u8,
+    last: u8,
+    slots: &'a [u8; SLOTS],
+    pins: &'a [u8; FRAMES],
+    counts: &'a [u8; FRAMES],
+    table_pages: &'a [u32; FRAMES],
+    table_frames: &'a [u8; FRAMES],
+    clients: [Client; CLIENTS],
+    grant_pages: &'a [u32; GRANTS],
+    grant_frames: &'a [u8; GRANTS],
+) -> bool
+    ensures { λ r. ⌜ r ≡ validIn size «client_count» cap free last (now (slots .entry)) (now (pins .entry)) (now (counts .entry))
+        (now («table_pages» .entry)) (now («table_frames» .entry)) clients (now («grant_pages» .entry)) (now («grant_frames» .entry)) ⌝ }
 {
-    let numbers = range_tests::numbers_ok(pool.size, pool.client_count, pool.cap);
+    let numbers = range_tests::numbers_ok(size, client_count, cap);
     if !numbers {
         return false;
     }
-    let n = pool.size + 2 * pool.client_count;
+    let n = size + 2 * client_count;
     // SPECIFICATION 5.1: free, and the frame taken last.
-    let shared = range_tests::both(pool.free <= pool.size, range_tests::frame_ok(n, pool.last));
+    let shared = range_tests::both(free <= size, range_tests::frame_ok(n, last));
     if !shared {
         return false;
     }
-    let slots = slots_ok(&pool.slots, pool.size as usize, n);
-    if !slots {
+    let named = slots_ok(slots, size as usize, n);
+    if !named {
         return false;
     }
-    let states = states_ok(&pool.pins, &pool.counts, n as usize, pool.cap);
+    let states = states_ok(pins, counts, n as usize, cap);
     if !states {
         return false;
     }
-    let entries = repeats::entries_ok(&pool.table_pages, &pool.table_frames, n);
+    let entries = repeats::entries_ok(table_pages, table_frames, n);
     if !entries {
         return false;
     }
-    let clients = pool.clients;
     clients_ok(
         clients,
-        pool.client_count as usize,
-        pool.size,
+        client_count as usize,
+        size,
         n,
+        grant_pages,
+        grant_frames,
+    )
+}
+
+// The same of a pool by value.
+pub fn valid(pool: Pool) -> bool
+    ensures { λ r. ⌜ r ≡ valid pool ⌝ }
+{
+    let clients = pool.clients;
+    parts_ok(
+        pool.size,
+        pool.client_count,
+        pool.cap,
+        pool.free,
+        pool.last,
+        &pool.slots,
+        &pool.pins,
+        &pool.counts,
+        &pool.table_pages,
+        &pool.table_frames,
+        clients,
         &pool.grant_pages,
         &pool.grant_frames,
     )

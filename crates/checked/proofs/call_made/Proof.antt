@@ -8,6 +8,7 @@ use mathlib.Core.Logic.{_≢_, ⊎-elim}
 use mathlib.Core.Bool.{Bool, true}
 use Rattle.pool.specs.Answers.{refusalOf}
 use Rattle.pool.specs.Valid.{valid}
+use Rattle.validity.specs.Parts.{of-parts}
 use Rattle.play.specs.Turn.{turn, played}
 use Rattle.copied.specs.declared.Made.{Made}
 use Rattle.checked.specs.Ways.{as-unmade, nothing-changes, breaks, as-made}
@@ -29,12 +30,17 @@ not-8 c e =
     let eight : n ≡ 8 = refused-is (c .before) ∙ e in
     ⊎-elim (λ w. let fifteen : n ≡ 15 = eqb-true n 15 (not-false _ (w .1 .left)) in omega arith) (λ w. omega (arith, w .left)) (c .if1 .came)
 
+-- where the turn is known to leave check 8 open
+abbrev at-join : tie.After-parts-ok → tie.Joined1
+at-join c = c .before .before .before .before .before .before .before .before .before .before
+
 -- whether the copy passes check 8
-next-is : (c : tie.After-valid) {b : Bool} → c .valid .result ≡ b →
-    let a = start (c .before .before .before) .args in
+next-is : (c : tie.After-parts-ok) {b : Bool} → c .parts-ok .result ≡ b →
+    let a = start (at-join c .before) .args in
     valid (played (a .pool) (a .call) .pool) ≡ b
 next-is c e =
-    ap (λ (o : Made). valid (o .pool)) (sym (c .before .before .before .before .on-copy .ensures)) ∙ sym (c .valid .ensures) ∙ e
+    let o = at-join c .before .before .on-copy in
+    ap (λ (o : Made). valid (o .pool)) (sym (o .ensures)) ∙ sym (of-parts (o .result .pool)) ∙ sym (c .parts-ok .ensures) ∙ e
 
 returns : tie.Need-returns
 returns c =
@@ -47,7 +53,7 @@ returns c =
 returns-2 : tie.Need-returns-2
 returns-2 c =
     let checked = c .before .before in
-    let j = checked .before .before in
+    let j = at-join checked in
     let s = start (j .before) in
     c .unmade2 .ensures
     ∙ as-unmade (s .args .pool) (s .args .call) 8 (breaks (s .args .pool) (s .args .call) (s .pre) (not-8 j)
@@ -56,7 +62,7 @@ returns-2 c =
 returns-3 : tie.Need-returns-3
 returns-3 c =
     let checked = c .before in
-    let j = checked .before .before in
+    let j = at-join checked in
     let s = start (j .before) in
     j .before .before .on-copy .ensures
     ∙ as-made (s .args .pool) (s .args .call) (s .pre) (not-8 j) (next-is checked (not-false _ (c .if3 .left)))
