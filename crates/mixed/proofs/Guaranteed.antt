@@ -9,7 +9,7 @@ use Rattle.memory.specs.Requests.{State}
 use Rattle.memory.specs.Happenings.{SetUpOn}
 use Rattle.contents.proofs.SetupKept.{kept-setup, pool-setup}
 use Rattle.mixed.specs.Mixed.{GuaranteeOn}
-use Rattle.mixed.proofs.Passes.{holdings-same}
+use Rattle.mixed.proofs.Passes.{holdings-same, check-8}
 use Rattle.mixed.proofs.Calls.{same-length}
 use Rattle.mixed.proofs.Answers.{listed-on, turned-down-on, refused-on}
 use Rattle.mixed.proofs.Lists.{throughout-on}
@@ -38,6 +38,7 @@ guarantee-on =
       holdings = λ x u rs. throughout-on _ (λ y k. holdings-same y k) x (kept-setup u) rs;
       as-before = λ x u e calls. as-before-from x (kept-setup u) (no-pages u e) calls;
       same-length = same-length;
+      check-8 = check-8;
       inside-after = inside-after;
       by-stage = by-stage;
     }

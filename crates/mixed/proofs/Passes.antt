@@ -9,7 +9,7 @@ use Prim.Native.Nat.{ℕ, _≤_, _<_}
 use native.Mathlib.Omega.{arith}
 use native.Mathlib.Decide.{ℕ-discrete, decLt}
 use lib.Dec.{eqb, leb}
-use borrow.Author.Tests.{eqb-true, eqb-false, eq-eqb, ne-eqb, lt-ltb, le-leb, not-true}
+use borrow.Author.Tests.{eqb-true, eqb-false, eq-eqb, ne-eqb, lt-ltb, leb-true, le-leb, not-true}
 use Rattle.pool.specs.Choose.{choose, either, every}
 use Rattle.pool.specs.State.{clientCount, total, page, client, grantPage}
 use Rattle.pool.specs.Holdings.{holdingsOf}
@@ -26,6 +26,7 @@ use Rattle.memory.specs.declared.Memory.{Memory}
 use Rattle.contents.proofs.Frames.{Off}
 use Rattle.contents.proofs.Passed.{inside-means}
 use Rattle.contents.proofs.Kept.{Inside, PagesInside, Kept}
+use Rattle.mixed.specs.Mixed.{SoundBytes, Claim-check-8}
 
 -- ---- put together, from what is tested
 
@@ -134,11 +135,50 @@ marks-mean p m h e f l =
       | inr t ↦ let a = both-true _ _ (every-at (unmarkedAt m) (total p) t f l) in record { filled = not-true _ (a .0); changed = not-true _ (a .1) }
     ]
 
+bytes-mean : (p : Pool) (m : Memory) → bytesOk p m ≡ true
+    → (leb (m .pages) maxPages ≡ true) × PagesInside (m .pages) p × (m .pages ≡ 0 → (f : ℕ) → f < total p → Off m f)
+unfolding bytesOk
+bytes-mean p m e =
+    let a = both-true _ _ e in
+    let b = both-true _ _ (a .1) in
+    (a .0, pages-mean _ p (b .0), marks-mean p m (b .1))
+
 pub passed : (x : State) (r : Request) → refusalOn x r ≡ 0 → Passed x
-unfolding refusalOn bytesOk
+unfolding refusalOn
 passed x r =
     by-test (λ (n : ℕ). n ≡ 0 → Passed x)
-    (λ t _. let a = both-true _ _ (both-first _ _ t) in
-    let b = both-true _ _ (a .1) in
-    record { few = a .0; inside = pages-mean _ (x .pool) (b .0); unmarked = marks-mean (x .pool) (x .memory) (b .1) })
+    (λ t _. let a = bytes-mean (x .pool) (x .memory) (both-first _ _ t) in record { few = a .0; inside = a .1; unmarked = a .2 })
     (λ _ e. absurd (differ 8 0 tt e))
+
+-- ---- both ways, as the claim has it
+
+sound-means : (p : Pool) (m : Memory) → bytesOk p m ≡ true → SoundBytes p m
+sound-means p m e =
+    let a = bytes-mean p m e in
+    let i = a .1 in
+    let few : m .pages ≤ maxPages = leb-true _ _ (a .0) in
+    record {
+      few = omega (arith, few);
+      frames = λ z f _. i .frames f z;
+      entries = λ z j w. i .entries j w z;
+      wanted = λ z c w. i .wanted c w z;
+      grants = λ z c j l. i .grants c j l z;
+      unmarked = λ z f l. let o = a .2 z f l in (o .filled, o .changed);
+    }
+
+sound-yes : (p : Pool) (m : Memory) → SoundBytes p m → bytesOk p m ≡ true
+sound-yes p m s =
+    bytes-from p m (le-leb (m .pages) maxPages (omega (arith, s .few)))
+    (record {
+      frames = λ f z. elim (decLt f (total p)) [
+        | yes l ↦ s .frames z f l
+        | no l ↦ rw (page-past p f (omega arith)) (zero-inside _ z)
+      ];
+      entries = λ j w z. s .entries z j w;
+      wanted = λ c w z. s .wanted z c w;
+      grants = λ c j l z. s .grants z c j l;
+    })
+    (λ z f l. let o = s .unmarked z f l in record { filled = o .0; changed = o .1 })
+
+pub check-8 : Claim-check-8
+check-8 p m = (sound-means p m, sound-yes p m)

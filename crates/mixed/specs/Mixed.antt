@@ -2,14 +2,14 @@
 -- pool; that a read or write leaves the pool; and a sequential pool that knows how many pages the store has. Then what holds of every state, also of
 -- one that was handed over. `GuaranteeOn` is all of it. Statements only. Assumes nothing.
 use mathlib.Core.Path.{_≡_}
-use mathlib.Core.Logic.{_≢_, _⊎_}
+use mathlib.Core.Logic.{_≢_, _⊎_, _↔_}
 use mathlib.Core.Bool.{true, false}
 use mathlib.Core.List.{List, [], _∷_}
-use Prim.Native.Nat.{ℕ, suc, _+_, _<_}
+use Prim.Native.Nat.{ℕ, suc, _+_, _≤_, _<_}
 use lib.Dec.{T}
 use lib.ListN.{length, replicate}
 use Rattle.pool.specs.Choose.{choose, member}
-use Rattle.pool.specs.State.{none, clientCount, total, resting, slot, page, client}
+use Rattle.pool.specs.State.{none, clientCount, total, resting, slot, page, entryPage, entryFrame, client, grantPage}
 use Rattle.pool.specs.Table.{lookup, resident, residents}
 use Rattle.pool.specs.Frames.{freeFrame}
 use Rattle.pool.specs.Valid.{valid}
@@ -31,7 +31,7 @@ use Rattle.guarantee.specs.Sequential.{Sequential, start, seqRefusal, Rule}
 use Rattle.guarantee.specs.BusySweep.{BusySweep}
 use Rattle.guarantee.specs.Claims.{GrantLists, OneCopy, NoHeldEvicted, HeldPinned, TakenOutOnce, SamePages, SameStages, OneEffect, RefusedAlone, Listed}
 use Rattle.guarantee.specs.Claims.{withClient, BelowLargest}
-use Rattle.memory.specs.Memory.{isChanged, copiedPage, unmarked, moved}
+use Rattle.memory.specs.Memory.{maxPages, isFilled, isChanged, copiedPage, unmarked, moved}
 use Rattle.memory.specs.Requests.{Request, Asks, ReadByte, WriteByte, State, Result, bytesOk, storeOk, firstOf, outsideAt, byteRefusal, refusalOn, refused}
 use Rattle.memory.specs.Requests.{callOn, bufferPool, holdingsOn}
 use Rattle.memory.specs.Happenings.{Happening, happenings, stateAfter, SetUpOn}
@@ -237,6 +237,22 @@ Claim-same-length =
     (x : State) (r : Request)
     → (callOn x r .state .memory .pages ≡ x .memory .pages) × (length (callOn x r .state .store) ≡ length (x .store))
 
+-- ---- check 8 of the bytes, of every pool and memory
+
+-- with a store each page number is one of its pages: a frame's, a used entry's, that of the page which a working client wants, a grant's; without one
+-- no frame has a mark
+pub record SoundBytes (p : Pool) (m : Memory) : Type 0 where
+  pub few : m .pages ≤ maxPages
+  pub frames : m .pages ≢ 0 → (f : ℕ) → f < total p → page p f < m .pages
+  pub entries : m .pages ≢ 0 → (i : ℕ) → entryFrame p i ≢ none → entryPage p i < m .pages
+  pub wanted : m .pages ≢ 0 → (c : ℕ) → client p c .stage ≢ 0 → client p c .page < m .pages
+  pub grants : m .pages ≢ 0 → (c i : ℕ) → i < client p c .held → grantPage p c i < m .pages
+  pub unmarked : m .pages ≡ 0 → (f : ℕ) → f < total p → (isFilled m f ≡ false) × (isChanged m f ≡ false)
+
+-- GUARANTEE 19, SPECIFICATION 13.11: this, and no more, is what check 8 asks of the bytes
+abbrev pub Claim-check-8 : Type 0
+Claim-check-8 = (p : Pool) (m : Memory) → (bytesOk p m ≡ true) ↔ SoundBytes p m
+
 -- ---- what the action does to bytes, of every state that passed the checks
 
 -- GUARANTEE 19, SPECIFICATION 13.11: every page number is inside the store again, and no mark is on without one: a second look at them would find nothing
@@ -291,5 +307,6 @@ pub record GuaranteeOn : Type 0 where
   pub holdings : Claim-holdings-on
   pub as-before : Claim-as-before
   pub same-length : Claim-same-length
+  pub check-8 : Claim-check-8
   pub inside-after : Claim-inside-after
   pub by-stage : Claim-by-stage
