@@ -1,2 +1,2 @@
-// What the proofs by hand share: the functions over a lent tally (crate `step`) and over a lent list of rows (crate `holdings`). There is no code
-// here. Internal.
+// What the proofs by hand share: the functions over a lent tally (crates `step`, `byte_lent`) and over a lent list of rows (crates `holdings`,
+// `byte_holdings`). There is no code here. Internal.

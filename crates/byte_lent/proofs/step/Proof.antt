@@ -27,7 +27,7 @@ use sound.WpLaws.{FmC, fmOf, WpFn-mono}
 use denote.RattleType.{owns}
 use denote.Laws.{Is, shows}
 use denote.Memory.{mem}
-use denote.Plain.{uint-makes, uint-vals, uint-tells}
+use denote.Plain.{uint-vals, uint-tells}
 use denote.Builtin.{u8}
 use denote.Ref.{RefT, MutRef, ptr-vals, mut-tells}
 use denote.Slice.{sliceVal, MutSlice, Room, finally, slice-vals, mut-slice-tells}
@@ -53,7 +53,7 @@ use Rattle.memory.specs.declared.BufferPool.{BufferPool}
 use Rattle.memory.specs.declared.Reply.{Reply}
 use Rattle.memory.specs.declared.Tallied.{Tallied}
 use Rattle.byte_lent.specs.Lent.{storeOn}
-use Rattle.walks.proofs.Machine.{tv}
+use Rattle.walks.proofs.Machine.{tv, bv, asked-on}
 use Rattle.walks.proofs.Lending.{spelled}
 use Rattle.walks.proofs.Promises.{says-both}
 use Rattle.pool.proofs.Tally as T
@@ -78,10 +78,6 @@ stayed = (
   stay-none (λ _. B.the-row) yes,
   (stay-none (λ _. u8) yes, (stay-ref (0 ∷ []) tt (plain (λ _. T.the-row)), (gave-slice (1 ∷ []) tt (plain (λ _. u8)), tt))),
 )
-
--- the machine value of a pool with its bytes
-abbrev bv : BufferPool → Val
-bv = LL.val B.the-type B′.the-laws
 
 -- by which numbers a step is refused
 abbrev Few : Tallied → Type 0
@@ -143,9 +139,8 @@ module _ {M : Type 1} (𝓤 : URA M) (H : Heap 𝓤) (A : Atoms 𝓤) (W : Given
       (tt, (tt, (r .tally, (zs, tt)))) (tt, (tt, (tt, (same, tt))))) $
       says-both ! (ap passed-on (e .0), ap (λ (y : Tallied). y .tally) (e .0), e .1) few $ move ! (2 ∷ 3 ∷ []) $ join ! $ frame ! $
       feqI ! (List Val) (vptr b o ∷ []) (vptr b o ∷ []) refl $ fjoin3 ! $ nothing ! $ move ! (2 ∷ 0 ∷ []) $ fjoin ! $ move ! (1 ∷ 0 ∷ []) $ fjoin ! $
-      owned ! u8 (Is u8) (uint-makes 𝓤 H A W w8) n _ (refl, n-fits) $ fjoin ! $
-      owned ! B.the-row (Is B.the-row) (LL.makes B.the-type B′.the-plain 𝓤 H A) p _ p-is $ fjoin ! $
-      owned ! O.the-row (Is O.the-row) (LL.makes O.the-type O′.the-plain 𝓤 H A) (passed-on r) _ (rest-is r is) $ move ! (1 ∷ 0 ∷ []) $ done !
+      asked-on ! p n p-is n-fits $ owned ! O.the-row (Is O.the-row) (LL.makes O.the-type O′.the-plain 𝓤 H A) (passed-on r) _ (rest-is r is) $
+      move ! (1 ∷ 0 ∷ []) $ done !
 
   -- what the triple of `step_tallied` binds outside: the store's own lifetime, share and name
   abbrev to-core : Core 𝓤 H A at-mem run .Ghost
@@ -155,9 +150,7 @@ module _ {M : Type 1} (𝓤 : URA M) (H : Heap 𝓤) (A : Atoms 𝓤) (W : Given
       ent 𝓤 (sep 𝓤 (sep 𝓤 (A .lft μ t) (sem 𝓤 H A ftrue)) (sem 𝓤 H A (MutSlice (named 1) μ u8 .own lent (s ∷ [])))) (Core 𝓤 H A at-mem run .pre to-core)
   goes-core was =
       qed W ((‵ (flft μ t) ⊛ ‵ ftrue) ∷ ‵ (MutSlice (named 1) μ u8 .own lent (s ∷ [])) ∷ []) ∵ nothing ! $ move ! (2 ∷ 0 ∷ []) $ fjoin ! $
-      owned ! T.the-row (Is T.the-row) (LL.makes T.the-type T′.the-plain 𝓤 H A) h _ was $ fjoin ! $
-      owned ! u8 (Is u8) (uint-makes 𝓤 H A W w8) n _ (refl, n-fits) $ fjoin ! $
-      owned ! B.the-row (Is B.the-row) (LL.makes B.the-type B′.the-plain 𝓤 H A) p _ p-is $ fjoin ! $
+      owned ! T.the-row (Is T.the-row) (LL.makes T.the-type T′.the-plain 𝓤 H A) h _ was $ fjoin ! $ asked-on ! p n p-is n-fits $
       move ! (1 ∷ 0 ∷ []) $ join ! $ nothing ! $ move ! (1 ∷ 0 ∷ []) $ join ! $ done !
 
   module _ (C : Calls 𝓤 H) (Λ : Loops 𝓤 H) (fm : FmC 𝓤 H (W .laws) C) (known : Triple 𝓤 (C #byte-step·step-tallied) (Core 𝓤 H A at-mem run))
