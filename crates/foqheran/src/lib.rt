@@ -10,10 +10,11 @@ pub use buffered::release;
 pub use buffered::setup;
 pub use byte_calls::read;
 pub use byte_calls::write;
-pub use byte_holdings::holdings_on;
+pub use byte_holdings::holdings;
 pub use byte_lent::step;
 
-// The step with the tally handed over and back by value.
+// The step with the tally, and holdings with the list, handed over and back by value.
+pub use byte_holdings::holdings_on;
 pub use byte_step::step_tallied;
 
 // A whole schedule file, and its report.
