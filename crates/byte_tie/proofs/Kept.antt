@@ -14,6 +14,9 @@ use Rattle.byte_calls.proofs.read.Reads as read
 use Rattle.byte_calls.proofs.read.Met as read-met
 use Rattle.byte_calls.proofs.write.Reads as write
 use Rattle.byte_calls.proofs.write.Met as write-met
+use Rattle.byte_holdings.proofs.holdings_on.Reads as holdings-on
+use Rattle.byte_holdings.proofs.holdings_on.Met as holdings-on-met
+use Rattle.byte_holdings.proofs.holdings.Met as holdings-met
 use Rattle.byte_tie.specs.Contracts.{Unasked, Kept}
 
 pub unasked : Unasked
@@ -26,6 +29,8 @@ unasked =
       step = λ w κs b c tally store. refl;
       read = λ l b c g o store. tt;
       write = λ l b c g o v store. tt;
+      holdings-on = λ b c rows. tt;
+      holdings = λ w κs b c rows. refl;
     }
 
 pub kept : Kept
@@ -39,4 +44,7 @@ kept =
       step = step-met.met;
       read = λ w names k e. read.known w names k _ e (read-met.met (w .𝓤) (w .H) (w .𝓜) (w .𝓖) (w .𝓡));
       write = λ w names k e. write.known w names k _ e (write-met.met (w .𝓤) (w .H) (w .𝓜) (w .𝓖) (w .𝓡));
+      holdings-on = λ w names k e. holdings-on.known w names k _ e (holdings-on-met.met (w .𝓤) (w .H) (w .𝓜) (w .𝓖) (w .𝓡));
+      holdings-says = λ w κs b c l pool client rows a. refl;
+      holdings = holdings-met.met;
     }

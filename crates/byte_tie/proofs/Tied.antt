@@ -1,15 +1,19 @@
 -- Each contract says that the call is the definition's. A request that is no step leaves the store and counts nothing, so that the store that it is not
 -- lent, or only reads, is the definition's, and leaving the tally alone is tallying it. A list is a recursion over that; the answers of a play are
--- those of the happenings at the same places, so that what crates `contents` and `mixed` claim of these is claimed of the code. Assumes nothing.
+-- those of the happenings at the same places, so that what crates `contents` and `mixed` claim of these is claimed of the code. Holdings are those of the
+-- pool, once the bytes have passed check 8. Assumes nothing.
 use mathlib.Core.Path.{_≡_, refl, sym, ap, subst, _∙_}
 use mathlib.Core.Logic.{_≢_}
-use mathlib.Core.Bool.{Bool, true, false}
+use mathlib.Core.Bool.{Bool, true, false, true≢false}
 use mathlib.Core.List.{List, [], _∷_, map}
 use Prim.Native.Nat.{ℕ, zero, suc}
 use native.Mathlib.Omega.{arith}
+use lib.ListN.{length, take, drop}
 use Rattle.pool.specs.Choose.{choose, either}
+use Rattle.pool.specs.Answers.{refusalOf}
 use Rattle.pool.specs.Calls.{releaseMove, moveOf, finished, callOf}
 use Rattle.pool.specs.Tallies.{zeroTally, tallied}
+use Rattle.pool.specs.Holdings.{holdingsRefusal, listed}
 use Rattle.pool.specs.declared.Pool.{Pool}
 use Rattle.pool.specs.declared.Tally.{Tally}
 use Rattle.pool.specs.declared.Move.{Move}
@@ -19,12 +23,16 @@ use Rattle.pool.specs.declared.Counted.{Counted}
 use Rattle.pool.specs.declared.Call.{Call}
 use Rattle.pool.specs.declared.Call.the-variants.{Begin, Step, Release}
 use Rattle.pool.specs.declared.Answer.{Answer}
+use Rattle.pool.specs.declared.Answer.the-variants.{Done, Refused}
+use Rattle.pool.specs.declared.Row.{Row}
+use Rattle.pool.specs.declared.Listed.{Listed}
 use Rattle.pool.specs.declared.Counted.the-variants.{Nothing}
-use Rattle.laws.specs.Choices.{by-test}
+use Rattle.laws.specs.Choices.{by-test, chosen, passed}
 use Rattle.guarantee.specs.Runs.{At}
+use Rattle.guarantee.specs.Claims.{Listing}
 use Rattle.memory.specs.Memory.{storeAfter}
 use Rattle.memory.specs.Requests.{Request, Asks, ReadByte, WriteByte, State, Result, setupOn, storeOk, turnedAwayBy, refusalOn, writeOf, actionOn, callOn}
-use Rattle.memory.specs.Requests.{stateOf, bufferPool, reply, tallying}
+use Rattle.memory.specs.Requests.{bytesOk, refused, stateOf, bufferPool, reply, tallying, holdingsOn}
 use Rattle.memory.specs.Requests.{lent as is-lent}
 use Rattle.memory.specs.Happenings.{Happening, happenings, stateAfter}
 use Rattle.memory.specs.declared.BufferPool.{BufferPool}
@@ -36,10 +44,11 @@ use Rattle.mixed.specs.Mixed.{tallyOn}
 use Rattle.mixed.proofs.Calls.{by-call}
 use Rattle.mixed.proofs.Guaranteed.{guarantee-on}
 use Rattle.buffered.specs.Refusals.{setup-refusals, begin-refusals, step-refusals, release-refusals, read-refusals, write-refusals}
-use Rattle.byte_tie.specs.Contracts.{Loan}
+use Rattle.tie.proofs.Tied.{all-tied as storeless}
+use Rattle.byte_tie.specs.Contracts.{Loan, HoldingsSays}
 use Rattle.byte_tie.specs.Ties.{Makes, begin, release, step-tallied, step, read, write, Plays, at-end, at-request}
 use Rattle.byte_tie.specs.Ties.{Claim-setup, Claim-request, Claim-store-stays, Claim-list, Answerable, Claim-any-tally, Claim-set-up}
-use Rattle.byte_tie.specs.Ties.{Claim-point3, Claim-sum, ReadsAt, WritesAt, LastByte, Claim-reads, Tied}
+use Rattle.byte_tie.specs.Ties.{Claim-point3, Claim-sum, ReadsAt, WritesAt, LastByte, Claim-reads, ListsHoldings, Tied}
 use Rattle.byte_tie.proofs.Kept.{unasked, kept}
 
 -- ---- a request that is no step
@@ -245,6 +254,30 @@ reads s t c h store r first rs answers y t′ u m =
     subst (λ (given : List Answer). LastByte rs given store) (sym (list x y t′ u rs answers m .0))
     (last-byte x rs (reads-last x (set-up s t c h store r first) rs))
 
+-- ---- holdings
+
+-- by whether the bytes pass check 8: past that holdings are the pool's, of which crate `tie` says the same
+module _ (b : BufferPool) (c n : ℕ) (rows left : List Row) where
+  abbrev Fills : Type 0
+  Fills = Listing (b .pool) c (take n left) × (drop n left ≡ drop n rows)
+
+  abbrev Leaves : Type 0
+  Leaves = (n ≡ choose (bytesOk (b .pool) (b .memory)) (holdingsRefusal (b .pool) c (length rows)) 8) × (left ≡ rows)
+
+  fills : HoldingsSays b c rows (Done n) left → Fills
+  unfolding holdingsOn refused
+  fills = by-test (λ (l : Listed). listed (Done n) left ≡ l → Fills) (λ _. storeless .holdings .holdings-done (b .pool) c n rows left)
+      (λ _ e. absurd (true≢false (sym (ap (λ (l : Listed). refused (l .answer)) e))))
+
+  leaves : HoldingsSays b c rows (Refused n) left → Leaves
+  unfolding holdingsOn refusalOf
+  leaves = by-test (λ (l : Listed). listed (Refused n) left ≡ l → Leaves)
+      (λ t e. let h = storeless .holdings .holdings-refused (b .pool) c n rows left e in (h .0 ∙ sym (chosen _ _ _ t), h .1))
+      (λ t e. (ap (λ (l : Listed). refusalOf (l .answer)) e ∙ sym (passed _ _ _ t), ap (λ (l : Listed). l .rows) e))
+
+holdings : ListsHoldings
+holdings = record { holdings-on = λ b c rows r l. l .0; holdings-done = fills; holdings-refused = leaves }
+
 pub all-tied : Tied
 all-tied =
     record {
@@ -260,4 +293,5 @@ all-tied =
       point3 = point3;
       sum = sum;
       reads = reads;
+      holdings = holdings;
     }

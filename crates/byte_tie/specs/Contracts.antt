@@ -1,7 +1,7 @@
 -- What the contracts of the calls of a pool that has bytes say. They are named and not restated, as in crate `tie`: of a contract the toolchain makes
 -- `Asked`, what a caller has to show, and `Learnt`, what it learns of the result, also where a store is lent. A contract that says less makes these
--- say less, and the proofs of what `Ties.antt` claims fail. The step over a lent tally is proved by hand, and the toolchain makes no such reading of it:
--- it is written here, and `Kept` claims that it is the contract's own clause. Statements only. Assumes nothing.
+-- say less, and the proofs of what `Ties.antt` claims fail. The step over a lent tally and holdings over a lent list are proved by hand, and the toolchain
+-- makes no such reading of them: it is written here, and `Kept` claims that it is the contract's own clause. Statements only. Assumes nothing.
 use mathlib.Core.Path.{_≡_}
 use mathlib.Core.List.{List}
 use Prim.Native.Nat.{ℕ}
@@ -17,7 +17,12 @@ use borrow.Fn.Kinds.{PK, RK, In, Out}
 use borrow.Fn.World.{World}
 use borrow.Fn.Plain.{Known}
 use borrow.Fn.Run.{Over}
+use Rattle.pool.specs.Holdings.{listed}
 use Rattle.pool.specs.declared.Tally.{Tally}
+use Rattle.pool.specs.declared.Row.{Row}
+use Rattle.pool.specs.declared.Listed.{Listed}
+use Rattle.pool.specs.declared.Answer.{Answer}
+use Rattle.memory.specs.Requests.{holdingsOn}
 use Rattle.memory.specs.declared.BufferPool.{BufferPool}
 use Rattle.memory.specs.declared.Reply.{Reply}
 use Rattle.memory.specs.declared.Tallied.{Tallied}
@@ -42,6 +47,11 @@ use Rattle.byte_calls.proofs.read.Symbol as read-code
 use Rattle.byte_calls.proofs.write.Reads as write
 use Rattle.byte_calls.proofs.write.Kinds as write-kinds
 use Rattle.byte_calls.proofs.write.Symbol as write-code
+use Rattle.byte_holdings.proofs.holdings_on.Reads as holdings-on
+use Rattle.byte_holdings.proofs.holdings_on.Kinds as holdings-on-kinds
+use Rattle.byte_holdings.proofs.holdings_on.Symbol as holdings-on-code
+use Rattle.byte_holdings.proofs.holdings as holdings
+use Rattle.byte_holdings.proofs.holdings.Statement as holdings-stated
 
 -- ---- a store that is lent
 
@@ -84,6 +94,13 @@ abbrev pub WriteSays : Loan → BufferPool → (client page offset byte : ℕ) �
 WriteSays l b c g o v store r =
     write.Learnt (l .lifetimes) (b, (c, (g, (o, (v, (lent l store, tt)))))) r (b, (c, (g, (o, (v, (lent l store, tt))))))
 
+-- holdings by value; and over a lent list, of the list as it was lent, the answer, and the list as it was left
+abbrev pub HoldingsOnSays : BufferPool → (client : ℕ) → List Row → Listed → Type 0
+HoldingsOnSays b c rows r = holdings-on.Learnt tt (b, (c, (rows, tt))) r (b, (c, (rows, tt)))
+
+abbrev pub HoldingsSays : BufferPool → (client : ℕ) → List Row → Answer → List Row → Type 0
+HoldingsSays b c lent a left = listed a left ≡ holdingsOn b c lent
+
 -- ---- no call asks anything of its caller
 
 pub record Unasked : Type 2 where
@@ -97,6 +114,9 @@ pub record Unasked : Type 2 where
   pub read : (l : Loan) (b : BufferPool) (c g o : ℕ) (store : List ℕ) → read.Asked (l .lifetimes) (b, (c, (g, (o, (lent l store, tt)))))
   pub write : (l : Loan) (b : BufferPool) (c g o v : ℕ) (store : List ℕ)
       → write.Asked (l .lifetimes) (b, (c, (g, (o, (v, (lent l store, tt))))))
+  pub holdings-on : (b : BufferPool) (c : ℕ) (rows : List Row) → holdings-on.Asked tt (b, (c, (rows, tt)))
+  pub holdings : (w : World) (κs : Lfts 1) (b : BufferPool) (c : ℕ) (rows : RefT (List Row))
+      → holdings.spec (w .𝓤) (w .H) (w .𝓖 .A) (w .𝓜 .mem) (w .𝓡 .run) κs (b, (c, (rows, tt))) .requires tt ≡ emp (w .𝓤)
 
 -- ---- the code keeps its contracts
 
@@ -120,3 +140,10 @@ pub record Kept : Type 2 where
   pub step : {M : Type 1} → step-stated.statement M
   pub read : Teaches 1 read-kinds.ps read-kinds.r read.Asked read.Learnt read-code.routine
   pub write : Teaches 1 write-kinds.ps write-kinds.r write.Asked write.Learnt write-code.routine
+  pub holdings-on : Teaches 0 holdings-on-kinds.ps holdings-on-kinds.r holdings-on.Asked holdings-on.Learnt holdings-on-code.routine
+  -- of a lent list, as of what a step is lent
+  pub holdings-says : (w : World) (κs : Lfts 1) (b : BufferPool) (c : ℕ) (l : RefT (List Row)) (pool : Both BufferPool BufferPool) (client : Both ℕ ℕ)
+      (rows : Both (RefT (List Row)) (RefT (List Row))) (a : Answer)
+      → holdings.ensures-1 (w .𝓤) (w .H) κs (w .𝓖 .A) (w .𝓜 .mem) (w .𝓡 .run) b c l pool client rows a
+      ≡ fact (w .𝓤) (HoldingsSays b c (now (rows .entry)) a (now (rows .exit)))
+  pub holdings : {M : Type 1} → holdings-stated.statement M

@@ -5,22 +5,29 @@ use mathlib.Core.Path.{_≡_}
 use mathlib.Core.Logic.{_≢_}
 use mathlib.Core.List.{List, [], _∷_, map}
 use Prim.Native.Nat.{ℕ, _+_, _<_}
+use lib.ListN.{length, take, drop}
+use Rattle.pool.specs.Choose.{choose}
 use Rattle.pool.specs.Table.{residents}
+use Rattle.pool.specs.Holdings.{holdingsRefusal}
 use Rattle.pool.specs.Tallies.{zeroTally, tallied}
 use Rattle.pool.specs.declared.Tally.{Tally}
 use Rattle.pool.specs.declared.Call.the-variants.{Begin, Step, Release}
 use Rattle.pool.specs.declared.Answer.{Answer}
-use Rattle.pool.specs.declared.Answer.the-variants.{Done}
+use Rattle.pool.specs.declared.Answer.the-variants.{Done, Refused}
+use Rattle.pool.specs.declared.Row.{Row}
+use Rattle.pool.specs.declared.Listed.{Listed}
 use Rattle.pool.specs.declared.Counted.the-variants.{Nothing}
 use Rattle.guarantee.specs.Runs.{At}
-use Rattle.guarantee.specs.Claims.{BelowLargest}
+use Rattle.guarantee.specs.Claims.{BelowLargest, Listing}
 use Rattle.memory.specs.Memory.{storeByte}
-use Rattle.memory.specs.Requests.{Request, Asks, ReadByte, WriteByte, State, setupOn, callOn, stateOf, bufferPool}
+use Rattle.memory.specs.Requests.{Request, Asks, ReadByte, WriteByte, State, setupOn, bytesOk, callOn, stateOf, bufferPool, holdingsOn}
 use Rattle.memory.specs.Happenings.{Happening, happenings, stateAfter, SetUpOn}
+use Rattle.memory.specs.declared.BufferPool.{BufferPool}
 use Rattle.memory.specs.declared.Reply.{Reply}
 use Rattle.memory.specs.declared.Tallied.{Tallied}
 use Rattle.mixed.specs.Mixed.{tallyOn, Point3On}
-use Rattle.byte_tie.specs.Contracts.{Loan, SetupSays, BeginSays, ReleaseSays, StepTalliedSays, StepSays, ReadSays, WriteSays, Unasked, Kept}
+use Rattle.byte_tie.specs.Contracts.{Loan, SetupSays, BeginSays, ReleaseSays, StepTalliedSays, StepSays, ReadSays, WriteSays}
+use Rattle.byte_tie.specs.Contracts.{HoldingsOnSays, HoldingsSays, Unasked, Kept}
 
 -- ---- what the contracts allow
 
@@ -129,6 +136,18 @@ Claim-reads =
     → (rs : List Request) (answers : List Answer) (y : State) (t u : Tally) → Plays (stateOf (r .pool) store) t rs answers y u
     → LastByte rs answers store
 
+-- ---- the claims: holdings
+
+-- It has no part in a list of requests: it is asked of a pool and changes none. By value it is the definition's, as over a lent list by `HoldingsSays`;
+-- where that is done, with n, the list's first n rows are the client's (GUARANTEE 14), and those after them are as they were lent; where it is refused,
+-- by the first check that turns it down, all rows are.
+pub record ListsHoldings : Type 0 where
+  pub holdings-on : (b : BufferPool) (c : ℕ) (rows : List Row) (r : Listed) → HoldingsOnSays b c rows r → r ≡ holdingsOn b c rows
+  pub holdings-done : (b : BufferPool) (c n : ℕ) (rows left : List Row) → HoldingsSays b c rows (Done n) left
+      → Listing (b .pool) c (take n left) × (drop n left ≡ drop n rows)
+  pub holdings-refused : (b : BufferPool) (c n : ℕ) (rows left : List Row) → HoldingsSays b c rows (Refused n) left
+      → (n ≡ choose (bytesOk (b .pool) (b .memory)) (holdingsRefusal (b .pool) c (length rows)) 8) × (left ≡ rows)
+
 pub record Tied : Type 2 where
   pub unasked : Unasked
   pub kept : Kept
@@ -142,3 +161,4 @@ pub record Tied : Type 2 where
   pub point3 : Claim-point3
   pub sum : Claim-sum
   pub reads : Claim-reads
+  pub holdings : ListsHoldings
