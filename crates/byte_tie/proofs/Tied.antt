@@ -8,12 +8,11 @@ use mathlib.Core.Bool.{Bool, true, false, true≢false}
 use mathlib.Core.List.{List, [], _∷_, map}
 use Prim.Native.Nat.{ℕ, zero, suc}
 use native.Mathlib.Omega.{arith}
-use lib.ListN.{length, take, drop}
 use Rattle.pool.specs.Choose.{choose, either}
 use Rattle.pool.specs.Answers.{refusalOf}
 use Rattle.pool.specs.Calls.{releaseMove, moveOf, finished, callOf}
 use Rattle.pool.specs.Tallies.{zeroTally, tallied}
-use Rattle.pool.specs.Holdings.{holdingsRefusal, listed}
+use Rattle.pool.specs.Holdings.{listed}
 use Rattle.pool.specs.declared.Pool.{Pool}
 use Rattle.pool.specs.declared.Tally.{Tally}
 use Rattle.pool.specs.declared.Move.{Move}
@@ -29,10 +28,9 @@ use Rattle.pool.specs.declared.Listed.{Listed}
 use Rattle.pool.specs.declared.Counted.the-variants.{Nothing}
 use Rattle.laws.specs.Choices.{by-test, chosen, passed}
 use Rattle.guarantee.specs.Runs.{At}
-use Rattle.guarantee.specs.Claims.{Listing}
 use Rattle.memory.specs.Memory.{storeAfter}
 use Rattle.memory.specs.Requests.{Request, Asks, ReadByte, WriteByte, State, Result, setupOn, storeOk, turnedAwayBy, refusalOn, writeOf, actionOn, callOn}
-use Rattle.memory.specs.Requests.{bytesOk, refused, stateOf, bufferPool, reply, tallying, holdingsOn}
+use Rattle.memory.specs.Requests.{refused, stateOf, bufferPool, reply, tallying, holdingsOn}
 use Rattle.memory.specs.Requests.{lent as is-lent}
 use Rattle.memory.specs.Happenings.{Happening, happenings, stateAfter}
 use Rattle.memory.specs.declared.BufferPool.{BufferPool}
@@ -48,7 +46,7 @@ use Rattle.tie.proofs.Tied.{all-tied as storeless}
 use Rattle.byte_tie.specs.Contracts.{Loan, HoldingsSays}
 use Rattle.byte_tie.specs.Ties.{Makes, begin, release, step-tallied, step, read, write, Plays, at-end, at-request}
 use Rattle.byte_tie.specs.Ties.{Claim-setup, Claim-request, Claim-store-stays, Claim-list, Answerable, Claim-any-tally, Claim-set-up}
-use Rattle.byte_tie.specs.Ties.{Claim-point3, Claim-sum, ReadsAt, WritesAt, LastByte, Claim-reads, ListsHoldings, Tied}
+use Rattle.byte_tie.specs.Ties.{Claim-point3, Claim-sum, ReadsAt, WritesAt, LastByte, Claim-reads, Fills, Leaves, ListsHoldings, Tied}
 use Rattle.byte_tie.proofs.Kept.{unasked, kept}
 
 -- ---- a request that is no step
@@ -258,20 +256,14 @@ reads s t c h store r first rs answers y t′ u m =
 
 -- by whether the bytes pass check 8: past that holdings are the pool's, of which crate `tie` says the same
 module _ (b : BufferPool) (c n : ℕ) (rows left : List Row) where
-  abbrev Fills : Type 0
-  Fills = Listing (b .pool) c (take n left) × (drop n left ≡ drop n rows)
-
-  abbrev Leaves : Type 0
-  Leaves = (n ≡ choose (bytesOk (b .pool) (b .memory)) (holdingsRefusal (b .pool) c (length rows)) 8) × (left ≡ rows)
-
-  fills : HoldingsSays b c rows (Done n) left → Fills
+  fills : HoldingsSays b c rows (Done n) left → Fills b c n rows left
   unfolding holdingsOn refused
-  fills = by-test (λ (l : Listed). listed (Done n) left ≡ l → Fills) (λ _. storeless .holdings .holdings-done (b .pool) c n rows left)
+  fills = by-test (λ (l : Listed). listed (Done n) left ≡ l → Fills b c n rows left) (λ _. storeless .holdings .holdings-done (b .pool) c n rows left)
       (λ _ e. absurd (true≢false (sym (ap (λ (l : Listed). refused (l .answer)) e))))
 
-  leaves : HoldingsSays b c rows (Refused n) left → Leaves
+  leaves : HoldingsSays b c rows (Refused n) left → Leaves b c n rows left
   unfolding holdingsOn refusalOf
-  leaves = by-test (λ (l : Listed). listed (Refused n) left ≡ l → Leaves)
+  leaves = by-test (λ (l : Listed). listed (Refused n) left ≡ l → Leaves b c n rows left)
       (λ t e. let h = storeless .holdings .holdings-refused (b .pool) c n rows left e in (h .0 ∙ sym (chosen _ _ _ t), h .1))
       (λ t e. (ap (λ (l : Listed). refusalOf (l .answer)) e ∙ sym (passed _ _ _ t), ap (λ (l : Listed). l .rows) e))
 

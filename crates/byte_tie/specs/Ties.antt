@@ -138,15 +138,20 @@ Claim-reads =
 
 -- ---- the claims: holdings
 
--- It has no part in a list of requests: it is asked of a pool and changes none. By value it is the definition's, as over a lent list by `HoldingsSays`;
--- where that is done, with n, the list's first n rows are the client's (GUARANTEE 14), and those after them are as they were lent; where it is refused,
--- by the first check that turns it down, all rows are.
+module _ (b : BufferPool) (c n : ℕ) (rows left : List Row) where
+  -- done with n: the list's first n rows are the client's (GUARANTEE 14), and those after them are as they were lent
+  abbrev pub Fills : Type 0
+  Fills = Listing (b .pool) c (take n left) × (drop n left ≡ drop n rows)
+
+  -- refused with n, by the first check that turns it down: all rows are as they were lent
+  abbrev pub Leaves : Type 0
+  Leaves = (n ≡ choose (bytesOk (b .pool) (b .memory)) (holdingsRefusal (b .pool) c (length rows)) 8) × (left ≡ rows)
+
+-- It has no part in a list of requests: it is asked of a pool and changes none. By value it is the definition's, as over a lent list by `HoldingsSays`.
 pub record ListsHoldings : Type 0 where
   pub holdings-on : (b : BufferPool) (c : ℕ) (rows : List Row) (r : Listed) → HoldingsOnSays b c rows r → r ≡ holdingsOn b c rows
-  pub holdings-done : (b : BufferPool) (c n : ℕ) (rows left : List Row) → HoldingsSays b c rows (Done n) left
-      → Listing (b .pool) c (take n left) × (drop n left ≡ drop n rows)
-  pub holdings-refused : (b : BufferPool) (c n : ℕ) (rows left : List Row) → HoldingsSays b c rows (Refused n) left
-      → (n ≡ choose (bytesOk (b .pool) (b .memory)) (holdingsRefusal (b .pool) c (length rows)) 8) × (left ≡ rows)
+  pub holdings-done : (b : BufferPool) (c n : ℕ) (rows left : List Row) → HoldingsSays b c rows (Done n) left → Fills b c n rows left
+  pub holdings-refused : (b : BufferPool) (c n : ℕ) (rows left : List Row) → HoldingsSays b c rows (Refused n) left → Leaves b c n rows left
 
 pub record Tied : Type 2 where
   pub unasked : Unasked

@@ -1,5 +1,5 @@
 -- A pool that passes check 8, its own and that of the bytes, is returned, and holdings of a pool that has bytes are then those of the pool. One that
--- does not is turned down by 8 and leaves the list, as the pool that no setup makes. Assumes nothing.
+-- does not is turned down by 8 and leaves the list, as a pool of no frames is and does. Assumes nothing.
 use borrow.Author.Needs.{needs}
 use borrow.Author.Tests.{not-true, not-false}
 use mathlib.Core.Path.{_≡_, refl, sym, ap, _∙_}
@@ -7,7 +7,7 @@ use mathlib.Core.Bool.{Bool, true, false, true≢false}
 use mathlib.Core.List.{List}
 use Prim.Native.Nat.{ℕ}
 use Rattle.pool.specs.Choose.{choose, both}
-use Rattle.pool.specs.Calls.{noPool}
+use Rattle.pool.specs.Calls.{fresh}
 use Rattle.pool.specs.Holdings.{holdingsRefusal, listed, holdingsOf}
 use Rattle.pool.specs.Valid.{numbersOk, valid}
 use Rattle.pool.specs.declared.Answer.the-variants.{Refused}
@@ -34,9 +34,10 @@ by-own : (p : Pool) (c : ℕ) (rows : List Row) → valid p ≡ false → holdin
 unfolding holdingsOf holdingsRefusal choose
 by-own p c rows v = rw v refl
 
-never-valid : valid noPool ≡ false
+-- a pool of no frames never passes it
+never-valid : (t c h : ℕ) → valid (fresh 0 t c h) ≡ false
 unfolding valid numbersOk both choose
-never-valid = refl
+never-valid t c h = refl
 
 refused : (b : BufferPool) (c : ℕ) (rows : List Row) → both (valid (b .pool)) (bytesOk (b .pool) (b .memory)) ≡ false
     → listed (Refused 8) rows ≡ holdingsOn b c rows
@@ -52,7 +53,7 @@ refused b c rows e = go (valid (b .pool)) (bytesOk (b .pool) (b .memory)) refl e
 
 returns : tie.Need-returns
 returns c client rows =
-    ap (λ (p : Pool). holdingsOf p client rows) (c .fresh .ensures) ∙ by-own noPool client rows never-valid
+    ap (λ (p : Pool). holdingsOf p client rows) (c .fresh .ensures) ∙ by-own _ client rows (never-valid _ _ _)
     ∙ refused (start (c .before .before) .args .pool) client rows (tested (c .before .before) (not-true _ (c .before .if1 .taken)))
 
 returns-2 : tie.Need-returns-2
