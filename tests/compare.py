@@ -9,10 +9,10 @@ target/bin/test_spaces, on 60 generated schedules: what a run returns, and what 
 leaves of report spaces of many sizes; with target/bin/test_holdings, on 120:
 the holdings after each call, on lists of all lengths; and with
 target/bin/test_bytes and second_store.py, on 300 scripts of generate_bytes.py
-and on second_store.py's examples: the answers of a pool with bytes, its frames
-and its store. It prints what it compared. At the first difference it keeps the
-schedule or script and both outputs in target/compare/, says where they differ,
-and ends with exit status 1.
+and on second_store.py's examples: the answers of a pool with bytes, its frames,
+its store, the tally and the holdings. It prints what it compared. At the first
+difference it keeps the schedule or script and both outputs in target/compare/,
+says where they differ, and ends with exit status 1.
 """
 
 import dataclasses
@@ -158,7 +158,7 @@ def example_scripts():
         yield "example script %d" % number, script.encode("ascii")
 
 
-KINDS = ("setup", "begin", "step", "release", "read", "write", "lend", "dump")
+KINDS = ("setup", "begin", "step", "release", "read", "write", "lend", "dump", "tally")
 
 
 def script_record(name, client=0, page=0, offset=0, byte=0, more=0):
@@ -173,7 +173,7 @@ def script_records(script):
         if name == "setup":
             slots, clients, cap, hand, length = numbers
             found.append(script_record(name, slots, hand, length, clients, cap))
-        elif name == "lend":
+        elif name in ("lend", "tally"):
             found.append(script_record(name, page=numbers[0]))
         else:
             found.append(script_record(name, *numbers))

@@ -6,8 +6,9 @@ usage: python3 generate_bytes.py SEED > script
 The first form prints the script of a seed. The second makes the scripts of
 the seeds from FIRST up to but not with END, plays them with second_store.py
 and prints how often each of PATHS was taken. Its exit status is 1 if one
-never was, or if a read gave another byte than the last one written there
-(than the store's at setup, if none was).
+never was, or if one of FAULTS was met: a read gave another byte than the last
+one written there (than the store's at setup, if none was), or the tally of a
+whole run did not add up to the resident pages.
 
 What kind of script a seed gives goes by a fixed rotation (ROTATION); all
 else is drawn from the seed.
@@ -19,7 +20,7 @@ sys.dont_write_bytecode = True  # leave no compiled files beside the sources
 
 from generate import LARGEST, Dice  # noqa: E402
 from second_store import (MOST_GRANTS, NUMBERS, PAGE, SPACE,  # noqa: E402
-                          Player, place, readScript)
+                          Player, Tally, place, readScript)
 
 MOST_LINES = 400
 BAD_LENGTHS = (63, 65, 1, 16448, 100)  # at setup
@@ -45,6 +46,8 @@ class Script:
                 dice.pick((1, 2, 2, 3)),
                 dice.pick((0, dice.below(9), LARGEST - dice.below(6))),
                 self.length)
+        if dice.chance(1, 5):
+            self.do("tally", LARGEST - dice.below(2))
         self.clients = self.player.pool.clients
         few = min(self.slots, 8) + dice.between(2, 3)
         first = dice.below(max(pages - few, 0) + 1)
@@ -326,12 +329,22 @@ def pool_full(dice):
 
 
 def eight_grants(dice):
-    """The ninth begin is 12 for a page outside too; with 7 it is 16."""
-    script = Script(dice, pages=dice.pick((1, 6)))
-    for _ in range(MOST_GRANTS):
-        script.fix(0, script.pages[0])
+    """The ninth begin is 12 for a page outside too; with 7 it is 16.
+
+    The grants are of one page or, not by rising number, of eight.
+    """
+    if dice.chance(1, 2):
+        script = Script(dice, slots=8, pages=dice.pick((10, 256)))
+        at = dice.between(1, MOST_GRANTS - 1)
+        pages = script.pages[at:MOST_GRANTS] + script.pages[:at]
+    else:
+        script = Script(dice, pages=dice.pick((1, 6)))
+        pages = MOST_GRANTS * script.pages[:1]
+    for page in pages:
+        script.fix(0, page)
     script.do("begin", 0, script.outside[0])
-    script.do("release", 0, script.pages[0])
+    script.look()
+    script.do("release", 0, dice.pick(pages))
     script.do("begin", 0, script.outside[0])
     return script
 
@@ -356,6 +369,9 @@ def script(seed):
 # What scripts take, for --cover.
 
 WRONG_BYTE = "a read gave another byte"
+WRONG_SUM = "the tally does not add up"
+FAULTS = (WRONG_BYTE, WRONG_SUM)
+COUNTS = tuple(vars(Tally(0)))
 PATHS = (
     "read fills", "read finds it filled",
     "write fills", "write finds it filled",
@@ -388,6 +404,14 @@ PATHS = (
     "8 at setup, S, T or C",
     *("setup, length %d" % length for length in (0, 64, 16384)),
     "setup, S 64 and T 16",
+    *("one more: %s" % name for name in COUNTS),
+    *("at the largest count: %s" % name for name in COUNTS),
+    "14 finds it pinned, no drop", "18 finds a frame, nothing admitted",
+    *("%d at step" % number for number in (9, 11)),
+    *("a list of %s" % rows for rows in ("no row", "one row", "2 to 7 rows",
+                                         "8 rows")),
+    "a list with a page held twice", "a list in another order than granted",
+    "a list of a client that works",
 )
 
 
@@ -410,6 +434,20 @@ def faults(pool, client, name, page, offset=0, byte=0):
     return [number for number, wrong in found.items() if wrong]
 
 
+class WatchedTally(Tally):
+    """A tally that tells what it counts."""
+
+    def __init__(self, start, take):
+        super().__init__(start)
+        self.take = take
+
+    def add(self, name):
+        full = getattr(self, name) == LARGEST
+        self.take("at the largest count: %s" if full else "one more: %s",
+                  name)
+        super().add(name)
+
+
 class Watch(Player):
     """A player that gathers the paths its calls take."""
 
@@ -423,6 +461,10 @@ class Watch(Player):
 
     def take(self, path, *parts):
         self.taken.append(path % parts)
+
+    def lendTally(self, start):
+        self.tally = WatchedTally(start, self.take)
+        self.sums = start == 0  # then it is lent throughout
 
     def call(self, name, *numbers):
         watched = {"setup": self.watch_setup, "step": self.watch_step,
@@ -466,13 +508,17 @@ class Watch(Player):
     def watch_step(self, name, number):
         client, cache = self.client(number), self.pool.cache
         if client is None:
-            return self.make(name, number)
+            code, value = self.make(name, number)
+            if code == 109:
+                self.take("9 at step")
+            return code, value
         stage, old = client.stage, client.removed or client.prevEntry
         page = old.key if old else 0
         mapped = old and cache.HASHTBL.get(page) is old
         stored = self.space[place(page)]
         before = [marks(frame) for frame in cache.frames]
         code, value = self.make(name, number)
+        self.watch_tally(stage, code, value)
         if code == 108 and stage in (17, 22) and mapped and old.changed:
             self.take("8 at %d with a changed page", stage)
         elif code == 115 and "a changed" in before:
@@ -498,6 +544,36 @@ class Watch(Player):
         elif stage in (17, 22):
             self.take("%d finds another frame or none", stage)
         return code, value
+
+    def watch_tally(self, stage, code, value):
+        """What was not counted, and the sum of what was."""
+        tally, table = self.tally, self.pool.cache.HASHTBL
+        resident = sum(frame.pinning >= 0 for frame in table.values())
+        if self.sums and (tally.admitted + tally.revived - tally.drops
+                          != resident):
+            self.take(WRONG_SUM)
+        if code == 111:
+            self.take("11 at step")
+        elif (stage, code, value) == (14, 1, 11):
+            self.take("14 finds it pinned, no drop")
+        elif (stage, code, value) == (18, 1, 19):
+            self.take("18 finds a frame, nothing admitted")
+
+    def holdings(self):
+        """The lists of a dump."""
+        for client in self.pool.clients:
+            pages = [page for page, _ in client.grants]
+            rows = list(dict.fromkeys(pages))
+            self.take("a list of %s", {0: "no row", 1: "one row",
+                                       8: "8 rows"}.get(len(rows),
+                                                        "2 to 7 rows"))
+            if len(pages) > len(rows):
+                self.take("a list with a page held twice")
+            if rows != sorted(rows):
+                self.take("a list in another order than granted")
+            if rows and client.request:
+                self.take("a list of a client that works")
+        return super().holdings()
 
     def watch_use(self, name, number, page, *rest):
         """A begin, a read or a write."""
@@ -537,7 +613,7 @@ class Watch(Player):
 
 def cover(first, end):
     """Print how often each path was taken; the exit status."""
-    times = dict.fromkeys(PATHS + (WRONG_BYTE,), 0)
+    times = dict.fromkeys(PATHS + FAULTS, 0)
     scripts = dict(times)
     for seed in range(first, end):
         watch = Watch()
@@ -549,13 +625,13 @@ def cover(first, end):
             times[path] = times.get(path, 0) + 1
         for path in set(watch.taken):
             scripts[path] = scripts.get(path, 0) + 1
-    for path in PATHS + (WRONG_BYTE,):
+    for path in PATHS + FAULTS:
         print("%-44s %5d times %4d scripts"
               % (path, times[path], scripts[path]))
     missing = [path for path in PATHS if times[path] == 0]
     print("never taken: " + "; ".join(missing) if missing
           else "all %d paths taken" % len(PATHS))
-    return 1 if missing or times[WRONG_BYTE] else 0
+    return 1 if missing or any(times[fault] for fault in FAULTS) else 0
 
 
 def main(arguments):

@@ -1,14 +1,15 @@
 """A second player of byte scripts: python3 second_store.py < script
 
-It plays the pool of second.py with a store lent to it and 64 bytes in every
-frame, and exists to be compared with the main program. Like second.py it was
-made from the user's text, and a list of readings where that is open; nothing
-of the main program was looked at.
+It plays the pool of second.py with a store and a tally lent to it and 64 bytes
+in every frame, and exists to be compared with the main program. Like second.py
+it was made from the user's text, and a list of readings where that is open;
+nothing of the main program was looked at.
 
 A script has one call a line, with decimal numbers:
 
     setup S T C HAND LENGTH          the first line, and only that
     lend N
+    tally N
     begin CLIENT PAGE
     step CLIENT
     release CLIENT PAGE
@@ -17,10 +18,21 @@ A script has one call a line, with decimal numbers:
     dump
 
 The store is the front of one space of 16,512 bytes: its first LENGTH bytes at
-setup and until a "lend" says how many. Every call gives one line, code and
-value as in the report of a schedule; "lend" gives none. "dump" gives one line
-a frame (number, filled, changed, bytes), then the space by lines of 64 bytes
-as far as LENGTH goes, one line at least. A refused setup ends the report.
+setup and until a "lend" says how many. One tally is lent to every step, all
+zero at setup; from a "tally" on another, with all six counts N. Every call
+gives one line, code and value as in the report of a schedule; "lend" and
+"tally" give none. "dump" gives
+
+    NUMBER FILLED CHANGED BYTES      for each frame
+    - BYTES                          64 of the space, as far as LENGTH goes,
+                                     one line at least
+    tally HITS JOINS ADMITTED REVIVED DROPS REFUSED
+    holds CLIENT ROOM CODE VALUE ROW ROW ..
+
+The last is a holdings call on ROOM rows and what it leaves of eight rows:
+PAGExTIMES, or "." for a row that is as it was. Each client, and then one that
+is not there, is asked on eight rows, on exactly enough, and on one too few if
+it needs any. A refused setup ends the report.
 
 The exit status is 2 if a line of the script cannot be read.
 "python3 second_store.py --check" plays the EXAMPLES below instead.
@@ -30,13 +42,14 @@ import sys
 
 sys.dont_write_bytecode = True  # leave no compiled files beside the sources
 
-from second import (DONE, MOST_CLIENTS, MOST_COUNT,  # noqa: E402
-                    MOST_GRANTS, MOST_SLOTS, REFUSAL, BufferCache, Frame,
-                    HashTable, Pool, Refused)
+from second import (DONE, GRANTED, MOST_CLIENTS, MOST_COUNT,  # noqa: E402
+                    MOST_GRANTS, MOST_SLOTS, REFUSAL, WORKING, BufferCache,
+                    Frame, HashTable, Pool, Refused)
 
 PAGE = 64  # bytes of a page
 MOST_PAGES = 256  # of a store
 SPACE = 16512  # bytes that stores are cut from
+BYTE, WORD = 255, 2**32 - 1  # the largest of 8 and of 32 bits
 
 
 def place(page):
@@ -92,6 +105,40 @@ class ByteCache(BufferCache):
         self.frames = [ByteFrame(frame.number, cap) for frame in self.frames]
 
 
+# The tally.
+
+
+class Tally:
+    """Six counts that the caller keeps and lends to each step."""
+
+    def __init__(self, start):
+        self.hits = self.joins = self.admitted = start
+        self.revived = self.drops = self.refused = start
+
+    def count(self, stage, answer):
+        """Bring it up to date after a step at the stage.
+
+        Stages 18 and 22 count only where they grant, 14 only where it evicts,
+        which is where it leads to 15.
+        """
+        granted = {3: "hits", 21: "joins", 18: "admitted", 22: "revived"}
+        if answer[0] == GRANTED:
+            self.add(granted[stage])
+        elif stage == 14 and answer == (WORKING, 15):
+            self.add("drops")
+        elif answer[0] == REFUSAL + 15:
+            self.add("refused")
+
+    def add(self, name):
+        """One more; a count stays at the largest value."""
+        setattr(self, name, min(getattr(self, name) + 1, WORD))
+
+    def line(self):
+        return "tally %d %d %d %d %d %d" % (
+            self.hits, self.joins, self.admitted, self.revived, self.drops,
+            self.refused)
+
+
 # The calls.
 
 
@@ -119,10 +166,18 @@ class StorePool(Pool):
             raise Refused(16)
         return super().begin(number, page)
 
-    def step(self, number, store):
+    def step(self, number, tally, store):
+        """As in second.py, and the tally is brought up to date."""
         self.check(store)
         self.cache.HASHTBL.store = store
-        return super().step(number)
+        stage = self.client(number).stage
+        try:
+            answer = super().step(number)
+        except Refused as refused:
+            tally.count(stage, (REFUSAL + refused.number, 0))
+            raise
+        tally.count(stage, answer)
+        return answer
 
     def read(self, number, page, offset, store):
         """The byte at the offset of a page the resting client holds."""
@@ -166,10 +221,10 @@ class Unreadable(Exception):
     """A line of a script that cannot be read."""
 
 
-BYTE, WORD = 255, 2**32 - 1
 NUMBERS = {  # the largest value of each number after the word
     "setup": (BYTE, BYTE, BYTE, WORD, SPACE),
     "lend": (SPACE,),
+    "tally": (WORD,),
     "begin": (BYTE, WORD),
     "step": (BYTE,),
     "release": (BYTE, WORD),
@@ -207,6 +262,19 @@ def readScript(script):
     return calls
 
 
+def listed(pool, number, room):
+    """A holdings call on so many of eight rows: its value and its line."""
+    rows = room * [None]
+    try:
+        code, value = DONE, pool.holdings(number, rows)
+    except Refused as refused:
+        code, value = REFUSAL + refused.number, 0
+    rows += (MOST_GRANTS - room) * [None]
+    return value, "holds %d %d %d %d %s" % (
+        number, room, code, value,
+        " ".join("%dx%d" % row if row else "." for row in rows))
+
+
 class Player:
     """The space, what of it is lent, and the pool once it is set up."""
 
@@ -215,7 +283,11 @@ class Player:
                                for i in range(SPACE))
         self.length = 0  # of the store at setup
         self.lent = 0  # of the store lent now
+        self.lendTally(0)
         self.pool = None
+
+    def lendTally(self, start):
+        self.tally = Tally(start)
 
     def call(self, name, *numbers):
         """Make one call; code and value of its line."""
@@ -225,6 +297,8 @@ class Player:
                 return self.setup(*numbers)
             if name in ("begin", "release"):
                 return getattr(self.pool, name)(*numbers)
+            if name == "step":
+                return self.pool.step(*numbers, self.tally, store)
             return getattr(self.pool, name)(*numbers, store)
         except Refused as refused:
             return REFUSAL + refused.number, 0
@@ -240,6 +314,9 @@ class Player:
         if name == "lend":
             self.lent, = numbers
             return []
+        if name == "tally":
+            self.lendTally(*numbers)
+            return []
         if name == "dump":
             return self.dump()
         return ["%d %d" % self.call(name, *numbers)]
@@ -249,7 +326,19 @@ class Player:
                                  frame.bytes.hex())
                 for frame in self.pool.cache.frames] + [
             "- " + self.space[at:at + PAGE].hex()
-            for at in range(0, max(self.length, PAGE), PAGE)]
+            for at in range(0, max(self.length, PAGE), PAGE)] + [
+            self.tally.line()] + self.holdings()
+
+    def holdings(self):
+        """The lines of all clients, and of one that is not there."""
+        lines = []
+        for number in range(len(self.pool.clients) + 1):
+            needed, line = listed(self.pool, number, MOST_GRANTS)
+            lines.append(line)
+            lines.append(listed(self.pool, number, needed)[1])
+            if needed > 0:
+                lines.append(listed(self.pool, number, needed - 1)[1])
+        return lines
 
 
 def play(script):
@@ -280,6 +369,28 @@ def row(first, **others):
 ZERO = 64 * "00"
 
 
+def zeros(count):
+    """The lines of so many frames that nobody used yet."""
+    return "\n".join("%d 0 0 %s" % (number, ZERO) for number in range(count))
+
+
+def books(tally, *clients):
+    """The end of a dump: the counts, and the rows of each client."""
+    lines, untouched = ["", "tally " + tally], 8 * ["."]
+    for number, rows in enumerate(clients):
+        shown = " ".join((rows + untouched)[:8])
+        for room in (8, len(rows)):
+            lines.append("holds %d %d 0 %d %s"
+                         % (number, room, len(rows), shown))
+        if rows:
+            lines.append("holds %d %d 114 0 %s"
+                         % (number, len(rows) - 1, " ".join(untouched)))
+    for room in (8, 0):
+        lines.append("holds %d %d 109 0 %s"
+                     % (len(clients), room, " ".join(untouched)))
+    return "\n".join(lines)
+
+
 def example(about, *pairs):
     """What it shows, the script and the report.
 
@@ -300,6 +411,8 @@ def example(about, *pairs):
 TO_EMPTY_SLOT = [4, 5, 6, 7, 8, 9, 18]
 TO_17 = [4, 5, 10, 11, 12, 13, 14, 15, 16, 17]
 
+ADMITTED = books("0 0 1 0 0 0", ["0x1"])  # page 0, to the one client
+
 EXAMPLES = [
     example("A read fills, a write marks; refusals 10, 17, 13, 16 and 9.",
             ("setup 1 1 3 0 64", "0 1"),
@@ -307,11 +420,10 @@ EXAMPLES = [
             ("step 0", TO_EMPTY_SLOT),
             ("read 0 0 1", "110 0"),
             ("step 0", "2 0"),
-            ("dump", "0 0 0 " + ZERO + "\n1 0 0 " + ZERO
-             + "\n2 0 0 " + ZERO + "\n- " + row(5)),
+            ("dump", zeros(3) + "\n- " + row(5) + ADMITTED),
             ("read 0 0 1", "0 12"),
             ("dump", "0 1 0 " + row(5) + "\n1 0 0 " + ZERO
-             + "\n2 0 0 " + ZERO + "\n- " + row(5)),
+             + "\n2 0 0 " + ZERO + "\n- " + row(5) + ADMITTED),
             ("write 0 0 1 200", "0 0"),
             ("read 0 0 1", "0 200"),
             ("read 0 0 64", "117 0"),
@@ -319,7 +431,7 @@ EXAMPLES = [
             ("begin 0 1", "116 0"),
             ("read 1 1 64", "109 0"),
             ("dump", "0 1 1 " + row(5, b1=200) + "\n1 0 0 " + ZERO
-             + "\n2 0 0 " + ZERO + "\n- " + row(5))),
+             + "\n2 0 0 " + ZERO + "\n- " + row(5) + ADMITTED)),
     example("A changed page goes to the store at 17, not before, and is read "
             "back; stage 4 takes its old frame and turns the marks off.",
             ("setup 1 1 3 0 128", "0 1"),
@@ -331,11 +443,12 @@ EXAMPLES = [
             ("begin 0 0", "0 0"),
             ("step 0", TO_17),
             ("dump", "0 1 1 " + row(210, b63=9) + "\n1 0 0 " + ZERO
-             + "\n2 0 0 " + ZERO + "\n- " + row(5) + "\n- " + row(210)),
+             + "\n2 0 0 " + ZERO + "\n- " + row(5) + "\n- " + row(210)
+             + books("0 0 1 0 1 0", [])),
             ("step 0", "1 18"),
             ("dump", "0 1 1 " + row(210, b63=9) + "\n1 0 0 " + ZERO
              + "\n2 0 0 " + ZERO + "\n- " + row(5)
-             + "\n- " + row(210, b63=9)),
+             + "\n- " + row(210, b63=9) + books("0 0 1 0 1 0", [])),
             ("step 0", "2 1"),
             ("release 0 0", "0 0"),
             ("begin 0 1", "0 1"),
@@ -347,7 +460,7 @@ EXAMPLES = [
             ("step 0", [4, 5]),
             ("dump", "0 0 0 " + row(210, b63=9) + "\n1 0 0 " + ZERO
              + "\n2 1 0 " + row(210, b63=9) + "\n- " + row(5)
-             + "\n- " + row(210, b63=9))),
+             + "\n- " + row(210, b63=9) + books("0 0 3 0 2 0", []))),
     example("At 22 the new frame gets bytes and marks; the 17 that comes too "
             "late writes nothing.",
             ("setup 2 2 3 0 192", "0 2"),
@@ -371,7 +484,8 @@ EXAMPLES = [
             ("dump", "0 0 0 " + row(5, b0=77) + "\n1 0 0 " + ZERO
              + "\n2 0 0 " + ZERO + "\n3 1 1 " + row(5, b0=77)
              + "\n4 0 0 " + ZERO + "\n5 0 0 " + ZERO
-             + "\n- " + row(5) + "\n- " + row(210) + "\n- " + row(159))),
+             + "\n- " + row(5) + "\n- " + row(210) + "\n- " + row(159)
+             + books("0 0 3 1 2 0", ["2x1"], ["0x1"]))),
     example("Without a store any page may be begun, a held one can be neither "
             "read nor written, and only an empty store may be lent.",
             ("setup 1 1 3 0 0", "0 1"),
@@ -387,8 +501,8 @@ EXAMPLES = [
             ("release 0 4294967295", "0 4294967295"),
             ("lend 0", ""),
             ("step 0", "111 0"),
-            ("dump", "0 0 0 " + ZERO + "\n1 0 0 " + ZERO + "\n2 0 0 " + ZERO
-             + "\n- " + row(5))),
+            ("dump", zeros(3) + "\n- " + row(5)
+             + books("0 0 1 0 0 0", []))),
     example("A store of another length is refused before all else, and the "
             "client stands where it stood.",
             ("setup 1 1 3 0 128", "0 1"),
@@ -404,6 +518,55 @@ EXAMPLES = [
             ("read 7 0 0", "109 0"),
             ("write 0 0 0 1", "110 0"),
             ("step 0", [4, 5])),
+    example("An admission, a join, a hit and a refusal by 15 are counted, and "
+            "rows rise; an eviction is counted at 14, a step refused by 8 is "
+            "not.",
+            ("setup 2 2 3 0 0", "0 2"),
+            ("begin 0 9", "0 9"),
+            ("begin 1 9", "0 9"),
+            ("step 0", TO_EMPTY_SLOT),
+            ("step 1", TO_EMPTY_SLOT),
+            ("step 0", "2 0"),
+            ("step 1", [19, 20, 21]),
+            ("step 1", "2 0"),
+            ("begin 0 9", "0 9"),
+            ("step 0", [2, 3]),
+            ("step 0", "2 0"),
+            ("begin 1 5", "0 5"),
+            ("step 1", [4, 5, 10, 11, 12, 11, 12, 15, 16, 17, 18]),
+            ("step 1", "2 2"),
+            ("begin 0 7", "0 7"),
+            ("step 0", [4, 5, 10, 11, 12, 11, 12]),
+            ("step 0", "115 0"),
+            ("step 0", "111 0"),
+            ("dump", zeros(6) + "\n- " + row(5)
+             + books("1 1 2 0 0 1", ["9x2"], ["5x1", "9x1"])),
+            ("release 1 5", "0 5"),
+            ("begin 1 7", "0 7"),
+            ("step 1", [4, 5, 10, 11, 12, 11, 12, 13, 14]),
+            ("lend 64", ""),
+            ("step 1", "108 0"),
+            ("dump", zeros(6) + "\n- " + row(5)
+             + books("1 1 2 0 0 1", ["9x2"], ["9x1"])),
+            ("lend 0", ""),
+            ("step 1", [15]),
+            ("dump", zeros(6) + "\n- " + row(5)
+             + books("1 1 2 0 1 1", ["9x2"], ["9x1"]))),
+    example("A count stays at its largest value.",
+            ("setup 1 1 3 0 0", "0 1"),
+            ("tally 4294967294", ""),
+            ("begin 0 9", "0 9"),
+            ("step 0", TO_EMPTY_SLOT),
+            ("step 0", "2 0"),
+            ("begin 0 9", "0 9"),
+            ("step 0", [2, 3]),
+            ("step 0", "2 0"),
+            ("begin 0 9", "0 9"),
+            ("step 0", [2, 3]),
+            ("step 0", "2 0"),
+            ("dump", zeros(3) + "\n- " + row(5)
+             + books("4294967295 4294967294 4294967295 4294967294 4294967294 "
+                     "4294967294", ["9x3"]))),
     example("A setup with a store of 257 pages is refused; nothing follows.",
             ("setup 1 1 3 0 16448", "108 0"),
             ("begin 0 0", ""),

@@ -12,26 +12,37 @@
 //     5 write
 //     6 lend      the number of bytes is the page
 //     7 dump
+//     8 tally     the number is the page
 //
-// The store is the front of one space of 16,512 bytes: as long as at setup, until a lend says how long. Every call gives a line, its answer's code and
-// value; a lend gives none; a dump gives one for each frame (its number, whether it is filled, whether it is changed, its bytes), and then the space
-// in lines of 64 bytes, as far as the store went at setup, one line at least. A setup that is refused ends the report.
+// The store is the front of one space of 16,512 bytes: as long as at setup, until a lend says how long. One tally goes through all steps, zero at setup;
+// from a tally on it is another, all of whose counts are that number. Every call gives a line, its answer's code and value; a lend and a tally give
+// none. A dump gives a line for each frame (its number, whether it is filled, whether it is changed, its bytes), then the space in lines of 64 bytes, as
+// far as the store went at setup, one line at least; then the tally, and the clients' holdings (`print_list`). A setup that is refused ends the
+// report.
 use libc::STDIN_FILENO;
 use libc::STDOUT_FILENO;
 use memory::BufferPool;
 use memory::Reply;
 use memory::Tallied;
 use pool::Answer;
+use pool::HELD;
+use pool::Listed;
+use pool::Row;
 use pool::Tally;
 ghost use Prim.Native.Nat.{_+_, _≤_, _<_};
 ghost use lib.ListN.{length};
 
 // ---- what is printed
 
+// A number after a space.
+fn print_next(n: u32) {
+    io::write_all(STDOUT_FILENO, b" ");
+    io::print_decimal(STDOUT_FILENO, n as u64);
+}
+
 fn print_answer(answer: Answer) {
     io::print_decimal(STDOUT_FILENO, answers::code_of(answer) as u64);
-    io::write_all(STDOUT_FILENO, b" ");
-    io::print_decimal(STDOUT_FILENO, answers::value_of(answer) as u64);
+    print_next(answers::value_of(answer));
     io::write_all(STDOUT_FILENO, b"\n");
 }
 
@@ -131,11 +142,101 @@ fn pages_printed(pages: u16) -> usize
     }
 }
 
-fn dump(pool: BufferPool, space: &[u8]) {
+fn print_tally(tally: Tally) {
+    io::write_all(STDOUT_FILENO, b"tally");
+    print_next(tally.hits);
+    print_next(tally.joins);
+    print_next(tally.admitted);
+    print_next(tally.revived);
+    print_next(tally.drops);
+    print_next(tally.refused);
+    io::write_all(STDOUT_FILENO, b"\n");
+}
+
+// A row that no client has: nothing is held 77 times.
+fn unused() -> Row {
+    Row {
+        page: 77,
+        times: 77,
+    }
+}
+
+// A page and how often it is held, or a point for a row that is as it was.
+fn print_held(row: Row) {
+    if row.page == 77 && row.times == 77 {
+        io::write_all(STDOUT_FILENO, b" .");
+    } else {
+        print_next(row.page);
+        io::write_all(STDOUT_FILENO, b"x");
+        io::print_decimal(STDOUT_FILENO, row.times as u64);
+    }
+}
+
+fn print_rows(rows: [Row; HELD]) {
+    for i in 0..8 {
+        print_held(rows[i]);
+    }
+}
+
+// Whom it is about, on how many rows it was asked, the answer, and what it leaves of eight rows.
+fn print_list(client: u8, room: u32, listed: Listed) {
+    let answer = listed.answer;
+    let rows = listed.rows;
+    io::write_all(STDOUT_FILENO, b"holds");
+    print_next(client as u32);
+    print_next(room);
+    print_next(answers::code_of(answer));
+    print_next(answers::value_of(answer));
+    print_rows(rows);
+    io::write_all(STDOUT_FILENO, b"\n");
+}
+
+// The client's holdings on so many rows, if there are so many: a call of a pool without bytes, since one with bytes is lent no fewer than eight.
+fn print_on_first(pool: BufferPool, client: u8, room: u32) {
+    let books = pool.pool;
+    if room <= 8 {
+        let listed = holdings::on_first(books, client, [unused(); 8], room as usize);
+        print_list(client, room, listed);
+    }
+}
+
+// The client's holdings on eight rows, on exactly enough, and on one too few if it needs any.
+fn print_client(pool: BufferPool, client: u8) {
+    let listed = byte_holdings::holdings_on(pool, client, [unused(); 8]);
+    print_list(client, 8, listed);
+    let answer = listed.answer;
+    let needed = answers::value_of(answer);
+    print_on_first(pool, client, needed);
+    if needed > 0 {
+        print_on_first(pool, client, needed - 1);
+    }
+}
+
+// Of so many clients.
+fn print_holdings(pool: BufferPool, clients: u8) {
+    for client in 0..clients {
+        print_client(pool, client);
+    }
+}
+
+// The clients' holdings, and those of the client that is one too many.
+fn print_books(state: Tallied) {
+    let pool = state.pool;
+    let tally = state.tally;
+    let books = pool.pool;
+    let clients = books.client_count;
+    print_tally(tally);
+    print_holdings(pool, clients);
+    print_client(pool, clients);
+}
+
+fn dump(state: Tallied, space: &[u8]) {
+    let pool = state.pool;
     let books = pool.pool;
     let memory = pool.memory;
     print_frames(pool, books.size as usize + 2 * books.client_count as usize);
     print_space(space, pages_printed(memory.pages));
+    print_books(state);
 }
 
 // ---- the script
@@ -218,14 +319,35 @@ fn after(state: Tallied, line: Line, store: &mut [u8]) -> Tallied {
     )
 }
 
-// A line after the setup: a dump, or a call that is lent the first bytes of the space.
+// With another tally, all of whose counts are n.
+fn with_tally(state: Tallied, n: u32) -> Tallied {
+    let answer = state.answer;
+    let pool = state.pool;
+    let tally = Tally {
+        hits: n,
+        joins: n,
+        admitted: n,
+        revived: n,
+        drops: n,
+        refused: n,
+    };
+    Tallied {
+        answer,
+        tally,
+        pool,
+    }
+}
+
+// A line after the setup: another tally, a dump, or a call that is lent the first bytes of the space.
 fn play_line(state: Tallied, line: Line, space: &mut [u8], lent: usize) -> Tallied {
     if line.kind == 6 {
         return state;
     }
+    if line.kind == 8 {
+        return with_tally(state, line.page);
+    }
     if line.kind == 7 {
-        let pool = state.pool;
-        dump(pool, space);
+        dump(state, space);
         return state;
     }
     if lent > space.len() {

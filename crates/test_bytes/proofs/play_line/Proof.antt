@@ -1,8 +1,8 @@
--- The part of the space that is lent is as long as said. Assumes nothing.
+-- `test_bytes::play_line` meets its contract: what is lent of the space is as long as it says.
 use mathlib.Core.Path.{sym}
 use native.Mathlib.Omega.{arith}
-use borrow.Author.Needs.{needs}
 use lib.Seq.{length-take-le}
+use borrow.Author.Needs.{needs}
 use Rattle.test_bytes.proofs.play_line.Statement.{statement}
 use Rattle.test_bytes.proofs.play_line.Tie as tie
 
@@ -10,5 +10,19 @@ slice-aggregate-after : tie.Need-slice-aggregate-after
 slice-aggregate-after c = sym (length-take-le _ _ (omega arith))
 
 pub play-line-spec : {M : Type 1} → statement M
-play-line-spec = tie.close (tie.spec (λ c. search needs) (λ c κs. search needs) (λ c. search needs) (λ c. search needs) (λ c. search needs)
-    (λ c. search needs) slice-aggregate-after (λ c κs. search needs) (λ c κs. search needs) (λ c. search needs) (λ c. search needs))
+play-line-spec =
+    tie.close
+    (tie.spec
+    (λ c. search needs)
+    (λ c κs. search needs)
+    (λ c. search needs)
+    (λ c κs. search needs)
+    (λ c. search needs)
+    (λ c. search needs)
+    (λ c. search needs)
+    (λ c. search needs)
+    slice-aggregate-after
+    (λ c κs. search needs)
+    (λ c κs. search needs)
+    (λ c. search needs)
+    (λ c. search needs))
