@@ -5,12 +5,15 @@
 // is kept short. The second clause of each public promise lists by which refusals the call can be refused; 0 is no refusal.
 ghost use mathlib.Core.Path.{_≡_};
 ghost use mathlib.Core.List.{List};
-ghost use Prim.Native.Nat.{ℕ};
+ghost use Prim.Native.Nat.{ℕ, _≤_};
+ghost use lib.ListN.{take};
+ghost use Rattle.pool.specs.Limits.{maxHeld};
 ghost use Rattle.pool.specs.Answers.{refusalOf};
 ghost use Rattle.pool.specs.Holdings.{listed, holdingsOf};
 ghost use Rattle.pool.specs.declared.Row.{Row};
 ghost use Rattle.answers.specs.Among.{Among};
 ghost use Rattle.answers.specs.Refusals.{byHoldings};
+ghost use Rattle.holdings.specs.First.{onFirst};
 ghost use Rattle.memory.specs.Requests.{holdingsOn};
 use memory::BufferPool;
 use pool::Answer;
@@ -49,4 +52,12 @@ pub fn holdings_on(pool: BufferPool, client: u8, start: [Row; HELD]) -> Listed
     ensures { λ r. ⌜ Among byHoldings (refusalOf (r .answer)) ⌝ }
 {
     holdings::holdings_on(books(pool), client, start)
+}
+
+// Holdings over the first `room` rows of a list that is handed over and back, as `holdings::on_first`: for programs that lend nothing. Internal.
+pub fn on_first(pool: BufferPool, client: u8, start: [Row; HELD], room: usize) -> Listed
+    requires { ⌜ room ≤ maxHeld ⌝ }
+    ensures { λ r. ⌜ r ≡ onFirst room start (holdingsOn pool client (take room start)) ⌝ }
+{
+    holdings::on_first(books(pool), client, start, room)
 }

@@ -191,11 +191,10 @@ fn print_list(client: u8, room: u32, listed: Listed) {
     io::write_all(STDOUT_FILENO, b"\n");
 }
 
-// The client's holdings on so many rows, if there are so many: a call of a pool without bytes, since one with bytes is lent no fewer than eight.
+// The client's holdings on so many rows, if there are so many.
 fn print_on_first(pool: BufferPool, client: u8, room: u32) {
-    let books = pool.pool;
     if room <= 8 {
-        let listed = holdings::on_first(books, client, [unused(); 8], room as usize);
+        let listed = byte_holdings::on_first(pool, client, [unused(); 8], room as usize);
         print_list(client, room, listed);
     }
 }
