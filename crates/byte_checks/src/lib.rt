@@ -1,6 +1,6 @@
 // Check 8 of a pool that has bytes (SPECIFICATION 13.11): its own check 8 (crate `validity`), that every page number of it is inside the store, and that
-// a pool without a store has no marks. A caller whose pool stands somewhere lends its parts; the loops over frames and entries go on to the end, since
-// a loop without a way out is turned into vector instructions. Internal.
+// a pool without a store has no marks. A caller whose pool stands somewhere lends its parts; the loops over frames' and entries' pages go on to the end,
+// since a loop without a way out is turned into vector instructions. Internal.
 ghost use mathlib.Core.Path.{_≡_};
 ghost use Prim.Native.Nat.{ℕ, _<_, _≤_};
 ghost use Rattle.pool.specs.Limits.{maxSize, maxClients, maxHeld, maxFrames};

@@ -2,8 +2,6 @@
 // and its promise says what it answers and what it leaves, whole. Crate `byte_lent` has the form that is lent the tally, too. Public, through crate
 // `foqheran`.
 ghost use mathlib.Core.Path.{_≡_};
-ghost use mathlib.Core.List.{List};
-ghost use Prim.Native.Nat.{ℕ};
 ghost use Rattle.pool.specs.Answers.{refusalOf};
 ghost use Rattle.pool.specs.declared.Call.the-variants.{Step};
 ghost use Rattle.answers.specs.Among.{Among};

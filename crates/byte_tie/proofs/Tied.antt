@@ -42,11 +42,12 @@ use Rattle.mixed.specs.Mixed.{tallyOn}
 use Rattle.mixed.proofs.Calls.{by-call}
 use Rattle.mixed.proofs.Guaranteed.{guarantee-on}
 use Rattle.buffered.specs.Refusals.{setup-refusals, begin-refusals, step-refusals, release-refusals, read-refusals, write-refusals}
+use Rattle.tie.specs.Ties.{Fills, Leaves}
 use Rattle.tie.proofs.Tied.{all-tied as storeless}
 use Rattle.byte_tie.specs.Contracts.{Loan, HoldingsSays}
 use Rattle.byte_tie.specs.Ties.{Makes, begin, release, step-tallied, step, read, write, Plays, at-end, at-request}
 use Rattle.byte_tie.specs.Ties.{Claim-setup, Claim-request, Claim-store-stays, Claim-list, Answerable, Claim-any-tally, Claim-set-up}
-use Rattle.byte_tie.specs.Ties.{Claim-point3, Claim-sum, ReadsAt, WritesAt, LastByte, Claim-reads, Fills, Leaves, ListsHoldings, Tied}
+use Rattle.byte_tie.specs.Ties.{Claim-point3, Claim-sum, ReadsAt, WritesAt, LastByte, Claim-reads, holdingsRefusalOn, ListsHoldings, Tied}
 use Rattle.byte_tie.proofs.Kept.{unasked, kept}
 
 -- ---- a request that is no step
@@ -256,16 +257,26 @@ reads s t c h store r first rs answers y t′ u m =
 
 -- by whether the bytes pass check 8: past that holdings are the pool's, of which crate `tie` says the same
 module _ (b : BufferPool) (c n : ℕ) (rows left : List Row) where
-  fills : HoldingsSays b c rows (Done n) left → Fills b c n rows left
+  abbrev Filled : Type 0
+  Filled = Fills (b .pool) c n (holdingsRefusalOn b c rows) rows left
+
+  abbrev Kept-rows : Type 0
+  Kept-rows = Leaves (b .pool) c n (holdingsRefusalOn b c rows) rows left
+
+  fills : HoldingsSays b c rows (Done n) left → Filled
   unfolding holdingsOn refused
-  fills = by-test (λ (l : Listed). listed (Done n) left ≡ l → Fills b c n rows left) (λ _. storeless .holdings .holdings-done (b .pool) c n rows left)
+  fills = by-test (λ (l : Listed). listed (Done n) left ≡ l → Filled)
+      (λ t e. let h = storeless .holdings .holdings-done (b .pool) c n rows left e in (chosen _ _ _ t ∙ h .0, h .1, h .2, h .3))
       (λ _ e. absurd (true≢false (sym (ap (λ (l : Listed). refused (l .answer)) e))))
 
-  leaves : HoldingsSays b c rows (Refused n) left → Leaves b c n rows left
+  leaves : HoldingsSays b c rows (Refused n) left → Kept-rows
   unfolding holdingsOn refusalOf
-  leaves = by-test (λ (l : Listed). listed (Refused n) left ≡ l → Leaves b c n rows left)
-      (λ t e. let h = storeless .holdings .holdings-refused (b .pool) c n rows left e in (h .0 ∙ sym (chosen _ _ _ t), h .1))
-      (λ t e. (ap (λ (l : Listed). refusalOf (l .answer)) e ∙ sym (passed _ _ _ t), ap (λ (l : Listed). l .rows) e))
+  leaves = by-test (λ (l : Listed). listed (Refused n) left ≡ l → Kept-rows)
+      (λ t e. let h = storeless .holdings .holdings-refused (b .pool) c n rows left e in
+      let k = chosen _ _ _ t in
+      ((λ z. h .0 (sym k ∙ z)), h .1 ∙ sym k, h .2))
+      (λ t e. let k = passed _ _ _ t in
+      ((λ z. let y : _≡_ {A = ℕ} 8 0 = sym k ∙ z in omega arith), ap (λ (l : Listed). refusalOf (l .answer)) e ∙ sym k, ap (λ (l : Listed). l .rows) e))
 
 holdings : ListsHoldings
 holdings = record { holdings-on = λ b c rows r l. l .0; holdings-done = fills; holdings-refused = leaves }

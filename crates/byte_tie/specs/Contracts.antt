@@ -99,7 +99,7 @@ abbrev pub HoldingsOnSays : BufferPool → (client : ℕ) → List Row → Liste
 HoldingsOnSays b c rows r = holdings-on.Learnt tt (b, (c, (rows, tt))) r (b, (c, (rows, tt)))
 
 abbrev pub HoldingsSays : BufferPool → (client : ℕ) → List Row → Answer → List Row → Type 0
-HoldingsSays b c lent a left = listed a left ≡ holdingsOn b c lent
+HoldingsSays b c rows a left = listed a left ≡ holdingsOn b c rows
 
 -- ---- no call asks anything of its caller
 

@@ -5,7 +5,7 @@ use mathlib.Core.Path.{_≡_}
 use mathlib.Core.Logic.{_≢_}
 use mathlib.Core.List.{List, [], _∷_, map}
 use Prim.Native.Nat.{ℕ, _+_, _<_}
-use lib.ListN.{length, take, drop}
+use lib.ListN.{length}
 use Rattle.pool.specs.Choose.{choose}
 use Rattle.pool.specs.Table.{residents}
 use Rattle.pool.specs.Holdings.{holdingsRefusal}
@@ -18,7 +18,7 @@ use Rattle.pool.specs.declared.Row.{Row}
 use Rattle.pool.specs.declared.Listed.{Listed}
 use Rattle.pool.specs.declared.Counted.the-variants.{Nothing}
 use Rattle.guarantee.specs.Runs.{At}
-use Rattle.guarantee.specs.Claims.{BelowLargest, Listing}
+use Rattle.guarantee.specs.Claims.{BelowLargest}
 use Rattle.memory.specs.Memory.{storeByte}
 use Rattle.memory.specs.Requests.{Request, Asks, ReadByte, WriteByte, State, setupOn, bytesOk, callOn, stateOf, bufferPool, holdingsOn}
 use Rattle.memory.specs.Happenings.{Happening, happenings, stateAfter, SetUpOn}
@@ -26,6 +26,7 @@ use Rattle.memory.specs.declared.BufferPool.{BufferPool}
 use Rattle.memory.specs.declared.Reply.{Reply}
 use Rattle.memory.specs.declared.Tallied.{Tallied}
 use Rattle.mixed.specs.Mixed.{tallyOn, Point3On}
+use Rattle.tie.specs.Ties.{Fills, Leaves}
 use Rattle.byte_tie.specs.Contracts.{Loan, SetupSays, BeginSays, ReleaseSays, StepTalliedSays, StepSays, ReadSays, WriteSays}
 use Rattle.byte_tie.specs.Contracts.{HoldingsOnSays, HoldingsSays, Unasked, Kept}
 
@@ -138,20 +139,17 @@ Claim-reads =
 
 -- ---- the claims: holdings
 
-module _ (b : BufferPool) (c n : ℕ) (rows left : List Row) where
-  -- done with n: the list's first n rows are the client's (GUARANTEE 14), and those after them are as they were lent
-  abbrev pub Fills : Type 0
-  Fills = Listing (b .pool) c (take n left) × (drop n left ≡ drop n rows)
-
-  -- refused with n, by the first check that turns it down: all rows are as they were lent
-  abbrev pub Leaves : Type 0
-  Leaves = (n ≡ choose (bytesOk (b .pool) (b .memory)) (holdingsRefusal (b .pool) c (length rows)) 8) × (left ≡ rows)
+-- the number of the first check that turns it down, 0 if none does
+abbrev pub holdingsRefusalOn : BufferPool → ℕ → List Row → ℕ
+holdingsRefusalOn b c rows = choose (bytesOk (b .pool) (b .memory)) (holdingsRefusal (b .pool) c (length rows)) 8
 
 -- It has no part in a list of requests: it is asked of a pool and changes none. By value it is the definition's, as over a lent list by `HoldingsSays`.
 pub record ListsHoldings : Type 0 where
   pub holdings-on : (b : BufferPool) (c : ℕ) (rows : List Row) (r : Listed) → HoldingsOnSays b c rows r → r ≡ holdingsOn b c rows
-  pub holdings-done : (b : BufferPool) (c n : ℕ) (rows left : List Row) → HoldingsSays b c rows (Done n) left → Fills b c n rows left
-  pub holdings-refused : (b : BufferPool) (c n : ℕ) (rows left : List Row) → HoldingsSays b c rows (Refused n) left → Leaves b c n rows left
+  pub holdings-done : (b : BufferPool) (c n : ℕ) (rows left : List Row) → HoldingsSays b c rows (Done n) left
+      → Fills (b .pool) c n (holdingsRefusalOn b c rows) rows left
+  pub holdings-refused : (b : BufferPool) (c n : ℕ) (rows left : List Row) → HoldingsSays b c rows (Refused n) left
+      → Leaves (b .pool) c n (holdingsRefusalOn b c rows) rows left
 
 pub record Tied : Type 2 where
   pub unasked : Unasked

@@ -2,7 +2,7 @@
 // promised and proved in the crate that it comes from.
 //
 // A pool keeps what it lends: its frames hold pages' bytes, and a store has those that are in no frame. A pool that is set up with an empty store has
-// none. For pools that never need one, crate `storeless` has the same calls on the books alone, as small and fast as they were.
+// none. For pools that never need one, crate `storeless` has the same calls on the books alone, smaller and faster.
 
 // ---- the calls, in the order of a pool's life; each takes any input whatever
 pub use buffered::begin;

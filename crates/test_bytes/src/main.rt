@@ -1,4 +1,4 @@
-// Plays the script on standard input on a pool that has bytes, through its public calls, and prints the report. A test program: `tests/compare.py`
+// Plays the script on standard input on a pool that has bytes, through its calls by value, and prints the report. A test program: `tests/compare.py`
 // translates scripts to what this reads, and compares the reports with the second program's, `tests/second_store.py`.
 //
 // A script is records of 12 bytes, 682 at most: a kind, a client, a byte, one byte more, then two numbers of four bytes, lowest byte first, a page

@@ -1,11 +1,13 @@
 -- Each contract says that the call is the definition's, and a begin or a release counts nothing, so that leaving the tally alone is tallying it. A
 -- list is a recursion over that, and what the guarantee claims of the definition's pools and events it claims of the code's. Assumes nothing.
+use mathlib.Core.Logic.{_≢_}
 use mathlib.Core.Path.{_≡_, refl, sym, ap, _∙_}
 use mathlib.Core.List.{List, [], _∷_, _++_}
 use native.Mathlib.Omega.{arith}
 use Prim.Native.Nat.{ℕ}
-use lib.ListN.{length, take, drop}
+use lib.ListN.{length, drop}
 use lib.Seq.{take-append-seam, drop-append-seam}
+use borrow.Author.Tests.{eqb-true, eqb-false}
 use Rattle.pool.specs.Calls.{setupOf, moveOf, releaseMove, finished, callOf, poolAfter}
 use Rattle.pool.specs.Tallies.{zeroTally, tallied}
 use Rattle.pool.specs.Holdings.{rowsOf, holdingsRefusal, listed, holdingsOf}
@@ -24,12 +26,12 @@ use Rattle.laws.specs.Choices.{by-test}
 use Rattle.calls.specs.Refusals.{setup-refusals, begin-refusals, step-refusals, release-refusals}
 use Rattle.calls.specs.Tallied.{steppedOf}
 use Rattle.guarantee.specs.Runs.{events}
-use Rattle.guarantee.specs.Claims.{tallyOf, Listing}
+use Rattle.guarantee.specs.Claims.{tallyOf}
 use Rattle.guarantee.proofs.Guaranteed.{guarantee}
 use Rattle.tie.specs.Contracts.{HoldingsSays}
-use Rattle.tie.specs.Ties.{Makes, begin, release, step-tallied, step-of, step, Plays, at-end, at-call, Accepted}
+use Rattle.tie.specs.Ties.{Makes, begin, release, step-tallied, step-of, step, Plays, at-end, at-call}
 use Rattle.tie.specs.Ties.{Claim-setup, Claim-call, Claim-list, Answerable, Claim-any-tally, Claim-set-up, Claim-point3, Claim-sum}
-use Rattle.tie.specs.Ties.{ListsHoldings, Tied}
+use Rattle.tie.specs.Ties.{Fills, Leaves, ListsHoldings, Tied}
 use Rattle.tie.proofs.Kept.{unasked, kept}
 
 -- ---- a call
@@ -111,24 +113,24 @@ sum s t c h r first calls answers q u m =
 -- the definition's two ways out: done, and refused
 module _ (p : Pool) (c : ℕ) (rows left : List Row) (a : Answer) where
   data Out : Type 0 where
-    is-done : a ≡ Done (length (rowsOf p c)) → left ≡ rowsOf p c ++ drop (length (rowsOf p c)) rows → Out
-    is-refused : a ≡ Refused (holdingsRefusal p c (length rows)) → left ≡ rows → Out
+    is-done : holdingsRefusal p c (length rows) ≡ 0 → a ≡ Done (length (rowsOf p c)) → left ≡ rowsOf p c ++ drop (length (rowsOf p c)) rows → Out
+    is-refused : holdingsRefusal p c (length rows) ≢ 0 → a ≡ Refused (holdingsRefusal p c (length rows)) → left ≡ rows → Out
 
   out : HoldingsSays p c rows a left → Out
   unfolding holdingsOf
   out =
-      by-test (λ (r : Listed). listed a left ≡ r → Out) (λ _ e. is-done (ap (λ (r : Listed). r .answer) e) (ap (λ (r : Listed). r .rows) e))
-      (λ _ e. is-refused (ap (λ (r : Listed). r .answer) e) (ap (λ (r : Listed). r .rows) e))
+      by-test (λ (r : Listed). listed a left ≡ r → Out) (λ t e. is-done (eqb-true _ _ t) (ap (λ (r : Listed). r .answer) e) (ap (λ (r : Listed). r .rows) e))
+      (λ t e. is-refused (eqb-false _ _ t) (ap (λ (r : Listed). r .answer) e) (ap (λ (r : Listed). r .rows) e))
 
-filled : (p : Pool) (c n : ℕ) (rows left : List Row) → Out p c rows left (Done n) → Listing p c (take n left) × (drop n left ≡ drop n rows)
-filled p c n rows left (is-done answer is) =
+filled : (p : Pool) (c n : ℕ) (rows left : List Row) → Out p c rows left (Done n) → Fills p c n (holdingsRefusal p c (length rows)) rows left
+filled p c n rows left (is-done none answer is) =
     let long : n ≡ length (rowsOf p c) = cc in
-    rw (is, long, take-append-seam (rowsOf p c), drop-append-seam (rowsOf p c)) (guarantee .holdings p c (rowsOf p c) .1 refl, refl)
-filled p c n rows left (is-refused answer is) = let z : _≡_ {A = ℕ} 0 1 = cc in let never : ⊥ = omega arith in absurd never
+    rw (is, long, take-append-seam (rowsOf p c), drop-append-seam (rowsOf p c)) (none, refl, guarantee .holdings p c (rowsOf p c) .1 refl, refl)
+filled p c n rows left (is-refused some answer is) = let z : _≡_ {A = ℕ} 0 1 = cc in let never : ⊥ = omega arith in absurd never
 
-kept-rows : (p : Pool) (c n : ℕ) (rows left : List Row) → Out p c rows left (Refused n) → (n ≡ holdingsRefusal p c (length rows)) × (left ≡ rows)
-kept-rows p c n rows left (is-done answer is) = let z : _≡_ {A = ℕ} 0 1 = cc in let never : ⊥ = omega arith in absurd never
-kept-rows p c n rows left (is-refused answer is) = (cc, is)
+kept-rows : (p : Pool) (c n : ℕ) (rows left : List Row) → Out p c rows left (Refused n) → Leaves p c n (holdingsRefusal p c (length rows)) rows left
+kept-rows p c n rows left (is-done none answer is) = let z : _≡_ {A = ℕ} 0 1 = cc in let never : ⊥ = omega arith in absurd never
+kept-rows p c n rows left (is-refused some answer is) = (some, cc, is)
 
 holdings : ListsHoldings
 holdings = record {

@@ -2,6 +2,7 @@
 -- guarantee speaks of. Each call is handed the pool that the one before it left, as in a run (SPECIFICATION 3.8), and whichever tally its caller has.
 -- Statements only. Assumes nothing.
 use mathlib.Core.Path.{_≡_}
+use mathlib.Core.Logic.{_≢_}
 use mathlib.Core.List.{List, [], _∷_, map}
 use Prim.Native.Nat.{ℕ, _+_}
 use lib.ListN.{length, take, drop}
@@ -90,16 +91,24 @@ Claim-sum =
     → (calls : List Call) (answers : List Answer) (q : Pool) (u : Tally) → Plays (r .pool) zeroTally calls answers q u
     → BelowLargest u → residents q + u .drops ≡ u .admitted + u .revived
 
--- Holdings has no part in a list of calls: it is asked of a pool and changes none. By value it is the definition's, as over a lent list by
--- `HoldingsSays`; where that is done, with n, the list's first n rows are the client's, and those after them are as they were lent; where it is
--- refused, by the first check that turns it down, all rows are.
+-- Holdings is answered with n on these rows and leaves those. k is the number of the first check that turns it down, 0 if none does.
+module _ (p : Pool) (c n k : ℕ) (rows left : List Row) where
+  -- it is done: the list's first n rows are the client's (GUARANTEE 14), and those after them are as they were lent
+  abbrev pub Fills : Type 0
+  Fills = (k ≡ 0) × (length (take n left) ≡ n) × Listing p c (take n left) × (drop n left ≡ drop n rows)
+
+  -- it is refused: all rows are as they were lent
+  abbrev pub Leaves : Type 0
+  Leaves = (k ≢ 0) × (n ≡ k) × (left ≡ rows)
+
+-- It has no part in a list of calls: it is asked of a pool and changes none. By value it is the definition's, as over a lent list by `HoldingsSays`.
 pub record ListsHoldings : Type 0 where
   pub holdings-on : (p : Pool) (c : ℕ) (rows : List Row) (r : Listed) → HoldingsOnSays p c rows r → r ≡ holdingsOf p c rows
   pub holdings-of : (p : Pool) (c : ℕ) (r : Listed) → HoldingsOfSays p c r → r ≡ holdingsOf p c blank
   pub holdings-done : (p : Pool) (c n : ℕ) (rows left : List Row) → HoldingsSays p c rows (Done n) left
-      → Listing p c (take n left) × (drop n left ≡ drop n rows)
+      → Fills p c n (holdingsRefusal p c (length rows)) rows left
   pub holdings-refused : (p : Pool) (c n : ℕ) (rows left : List Row) → HoldingsSays p c rows (Refused n) left
-      → (n ≡ holdingsRefusal p c (length rows)) × (left ≡ rows)
+      → Leaves p c n (holdingsRefusal p c (length rows)) rows left
 
 pub record Tied : Type 2 where
   pub unasked : Unasked

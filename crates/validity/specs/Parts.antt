@@ -1,4 +1,4 @@
--- The parts of check 8, each over the lists and numbers that it looks at, for the functions that are lent one array or two. Each is pool's
+-- The parts of check 8, each over the lists and numbers that it looks at, for the functions that are lent arrays. Each is pool's
 -- definition by computation: `in-parts`. Assumes nothing.
 use mathlib.Core.Path.{_≡_, refl}
 use mathlib.Core.Bool.{Bool}

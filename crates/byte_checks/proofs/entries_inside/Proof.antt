@@ -5,7 +5,7 @@ use Prim.Native.Nat.{_-_}
 use Rattle.pool.specs.State.{none}
 use Rattle.laws.specs.Loops.{Tested, untested, tests-next, tested-all}
 use Rattle.laws.specs.Elements.{element}
-use Rattle.byte_checks.specs.Parts.{entryInsideIn, entryInsideAt, entriesInside}
+use Rattle.byte_checks.specs.Parts.{entryInsideAt, entriesInside}
 use Rattle.byte_checks.proofs.entries_inside.Statement.{statement}
 use Rattle.byte_checks.proofs.entries_inside.Tie as tie
 
@@ -40,4 +40,5 @@ pub entries-inside-spec : {M : Type 1} → statement M
 entries-inside-spec =
     tie.close
     (tie.spec
-    Inv-loop μ-loop (λ c. untested _ _) (λ c. search needs) (λ c. search needs) (λ c. search needs) (λ c κs. search needs) (λ c κs. search needs) (λ c. search needs) (λ c. search needs) loop-again returns)
+    Inv-loop μ-loop (λ c. untested _ _) (λ c. search needs) (λ c. search needs) (λ c. search needs) (λ c κs. search needs) (λ c κs. search needs)
+    (λ c. search needs) (λ c. search needs) loop-again returns)

@@ -38,4 +38,5 @@ pub frames-inside-spec : {M : Type 1} → statement M
 frames-inside-spec =
     tie.close
     (tie.spec
-    Inv-loop μ-loop (λ c. untested _ _) (λ c. search needs) (λ c. search needs) (λ c κs. search needs) (λ c κs. search needs) (λ c. search needs) (λ c. search needs) loop-again returns)
+    Inv-loop μ-loop (λ c. untested _ _) (λ c. search needs) (λ c. search needs) (λ c κs. search needs) (λ c κs. search needs) (λ c. search needs)
+    (λ c. search needs) loop-again returns)

@@ -2,12 +2,10 @@
 -- since the pool passed its own. Assumes nothing.
 use borrow.Author.Needs.{needs}
 use borrow.Author.Tests.{not-false}
-use mathlib.Core.Path.{_≡_, sym, _∙_}
-use mathlib.Core.Bool.{true}
+use mathlib.Core.Path.{sym, _∙_}
 use Prim.Native.Nat.{ℕ, _≤_, _<_}
 use Rattle.pool.specs.Limits.{maxHeld}
 use Rattle.pool.specs.State.{clientCount, client}
-use Rattle.pool.specs.Valid.{valid}
 use Rattle.pool.specs.declared.Pool.{Pool}
 use Rattle.laws.specs.Elements.{clientIn}
 use Rattle.laws.specs.Loops.{stops, goes}

@@ -5,7 +5,7 @@ use borrow.Author.Tests.{eqb-true, eqb-false, not-true, not-false}
 use native.Mathlib.Omega.{arith}
 use mathlib.Core.Path.{_≡_, sym, ap, _∙_}
 use mathlib.Core.Logic.{_≢_, ⊎-elim}
-use mathlib.Core.Bool.{Bool, true}
+use mathlib.Core.Bool.{Bool}
 use Rattle.pool.specs.Answers.{refusalOf}
 use Rattle.pool.specs.Valid.{valid}
 use Rattle.validity.specs.Parts.{of-parts}

@@ -1,4 +1,4 @@
--- `test_bytes::print_holdings` meets its contract: the client is at most the number of clients, and what is left to it falls.
+-- The client is at most the number of clients, and what is left to it falls. Assumes nothing.
 use Prim.Native.Nat.{_≤_, _-_}
 use borrow.Author.Needs.{needs}
 use Rattle.test_bytes.proofs.print_holdings.Statement.{statement}
@@ -14,11 +14,4 @@ pub print-holdings-spec : {M : Type 1} → statement M
 print-holdings-spec =
     tie.close
     (tie.spec
-    Inv-loop
-    μ-loop
-    (λ c. search needs)
-    (λ c κs. search needs)
-    (λ c. search needs)
-    (λ c. search needs)
-    (λ c. search needs)
-    (λ c. search needs))
+    Inv-loop μ-loop (λ c. search needs) (λ c κs. search needs) (λ c. search needs) (λ c. search needs) (λ c. search needs) (λ c. search needs))

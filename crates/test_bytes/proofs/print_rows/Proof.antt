@@ -1,4 +1,4 @@
--- `test_bytes::print_rows` meets its contract: i is at most 8, and 8 less i falls.
+-- i is at most 8, and 8 less i falls. Assumes nothing.
 use Prim.Native.Nat.{_≤_, _-_}
 use borrow.Author.Needs.{needs}
 use Rattle.test_bytes.proofs.print_rows.Statement.{statement}
@@ -14,13 +14,5 @@ pub print-rows-spec : {M : Type 1} → statement M
 print-rows-spec =
     tie.close
     (tie.spec
-    Inv-loop
-    μ-loop
-    (λ c. search needs)
-    (λ c. search needs)
-    (λ c. search needs)
-    (λ c κs. search needs)
-    (λ c. search needs)
-    (λ c. search needs)
-    (λ c. search needs)
-    (λ c. search needs))
+    Inv-loop μ-loop (λ c. search needs) (λ c. search needs) (λ c. search needs) (λ c κs. search needs) (λ c. search needs) (λ c. search needs)
+    (λ c. search needs) (λ c. search needs))
