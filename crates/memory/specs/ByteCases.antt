@@ -4,7 +4,7 @@ use mathlib.Core.Path.{_≡_}
 use mathlib.Core.Bool.{Bool, true, false, not}
 use mathlib.Core.List.{List, [], _∷_, _++_, map}
 use Prim.Native.Nat.{ℕ, zero, suc, _+_, _*_}
-use lib.ListN.{replicate, set}
+use lib.ListN.{getD, replicate, set}
 use Rattle.pool.specs.Choose.{choose}
 use Rattle.pool.specs.State.{none, evicted, pinned, resting}
 use Rattle.pool.specs.Table.{lookup}
@@ -70,8 +70,12 @@ stateWith p m store = record { pool = p; memory = m; store = store }
 abbrev pub handedWith : ℕ → Pool → State
 handedWith n p = stateWith p (blank n) (counting n)
 
--- frame f's marks, filled and changed
-abbrev pub marking : Memory → ℕ → Bool → Bool → Memory
+-- a mark's byte, off or on
+abbrev pub markByte : Bool → ℕ
+markByte on = choose on 1 0
+
+-- frame f's marks, filled and changed, as bytes
+abbrev pub marking : Memory → ℕ → ℕ → ℕ → Memory
 marking m f a b = record { pages = m .pages; bytes = m .bytes; filled = set (m .filled) f a; changed = set (m .changed) f b }
 
 -- bytes of frame 0, at its offsets 5 and 63, that no page of the store has there
@@ -80,7 +84,7 @@ with-bytes m = record { pages = m .pages; bytes = set (set (m .bytes) 5 99) 63 9
 
 -- a handed pool with three pages and these bytes, and the marks of frames 0 and 1
 abbrev pub marked : Pool → Bool → Bool → Bool → Bool → State
-marked p a b c d = stateWith p (marking (marking (with-bytes (blank 3)) 0 a b) 1 c d) (counting 3)
+marked p a b c d = stateWith p (marking (marking (with-bytes (blank 3)) 0 (markByte a) (markByte b)) 1 (markByte c) (markByte d)) (counting 3)
 
 -- ---- calls
 
@@ -204,6 +208,13 @@ abbrev pub revivalElsewhere : Case
 revivalElsewhere =
     marked revives true true false false after [] shows
     step 0 gets Granted 1 ∷ inFrame 0 at 5 is 99 ∷ inFrame 0 at 63 is 98 ∷ inStore 1 at 5 is 69 ∷ []
+
+-- Frame 0's marks are other bytes than 1, and on: frame 1 gets them as they are.
+abbrev pub otherBytes : Case
+otherBytes =
+    stateWith revives (marking (with-bytes (blank 3)) 0 2 255) (counting 3) after [] shows
+    marks at 0 is bothMarks ∷ step 0 gets Granted 1 ∷ marks at 0 is noMarks ∷ marks at 1 is bothMarks
+    ∷ (λ x. getD (x .memory .filled) 1 0) is 2 ∷ (λ x. getD (x .memory .changed) 1 0) is 255 ∷ []
 
 -- The client's own frame is the one that it found: 22 leaves its bytes and marks.
 abbrev pub revivedInPlace : Case
@@ -400,7 +411,7 @@ unseen =
 
 -- a mark of frame f, filled or changed, without a store; the pool has frames 0 to 3
 abbrev pub markedBare : ℕ → Bool → Bool → State
-markedBare f a b = stateWith (holder (9 ∷ [])) (marking (blank 0) f a b) []
+markedBare f a b = stateWith (holder (9 ∷ [])) (marking (blank 0) f (markByte a) (markByte b)) []
 
 -- each range at its limit, and one past it
 abbrev pub atLimit : Range → State
@@ -447,7 +458,7 @@ pub record Proved : Type 0 where
       × Holds (removalOf false true justChanged 0 99 98) × Holds (removalOf true true bothMarks 0 99 98) × Holds removalElsewhere
   pub revivals :
       Holds (revivalOf false false noMarks) × Holds (revivalOf true false justFilled) × Holds (revivalOf false true justChanged)
-      × Holds (revivalOf true true bothMarks) × Holds revivalElsewhere × Holds revivedInPlace × Holds revivalRefused
+      × Holds (revivalOf true true bothMarks) × Holds revivalElsewhere × Holds otherBytes × Holds revivedInPlace × Holds revivalRefused
   -- what is counted is what the pool counts
   pub counts : Counts (eviction .first) Drop × Counts (revivedInPlace .first) Revived
   pub takings : Holds (takingOf false false) × Holds (takingOf true false) × Holds (takingOf false true) × Holds (takingOf true true)

@@ -1,4 +1,5 @@
 pub mod Memory
+pub mod Marks
 pub mod Copying
 pub mod Requests
 pub mod Happenings

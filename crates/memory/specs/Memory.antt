@@ -1,6 +1,6 @@
 -- The frames' bytes and marks and the store, and what an action does to them: SPECIFICATION, section 13. Each accessor, and each change, is of the
 -- frames that the largest pool has and of the pages that the store has; past them there are no marks, and a change does nothing. Assumes nothing.
-use mathlib.Core.Bool.{Bool, true, false, not}
+use mathlib.Core.Bool.{Bool, false, not}
 use mathlib.Core.List.{List}
 use Prim.Native.Nat.{ℕ, zero, suc, _+_, _*_}
 use lib.Dec.{eqb, ltb}
@@ -31,15 +31,19 @@ isFrame f = ltb f maxFrames
 
 -- ---- reading
 
--- SPECIFICATION 13.2: frame f's byte at an offset, and its marks
+-- SPECIFICATION 13.2: frame f's byte at an offset
 unfoldable pub byte : Memory → ℕ → ℕ → ℕ
 byte m f o = choose (isFrame f) (getD (m .bytes) (start f + o) 0) 0
 
+-- SPECIFICATION 13.2: whether frame f has a mark, in a list of them. A mark is a byte, and on unless that is 0: what is handed may hold any.
+unfoldable pub mark : List ℕ → ℕ → Bool
+mark l f = choose (isFrame f) (not (eqb (getD l f 0) 0)) false
+
 unfoldable pub isFilled : Memory → ℕ → Bool
-isFilled m f = choose (isFrame f) (getD (m .filled) f false) false
+isFilled m f = mark (m .filled) f
 
 unfoldable pub isChanged : Memory → ℕ → Bool
-isChanged m f = choose (isFrame f) (getD (m .changed) f false) false
+isChanged m f = mark (m .changed) f
 
 -- SPECIFICATION 13.1: page g's byte at an offset
 unfoldable pub storeByte : List ℕ → ℕ → ℕ → ℕ
@@ -47,7 +51,7 @@ storeByte s g o = getD s (start g + o) 0
 
 -- SPECIFICATION 13.3: a pool that is set up with a store of n pages has this memory
 abbrev pub blank : ℕ → Memory
-blank n = record { pages = n; bytes = replicate (pageBytes * maxFrames) 0; filled = replicate maxFrames false; changed = replicate maxFrames false }
+blank n = record { pages = n; bytes = replicate (pageBytes * maxFrames) 0; filled = replicate maxFrames 0; changed = replicate maxFrames 0 }
 
 -- ---- copying
 
@@ -65,7 +69,7 @@ copiedPage to i from j = copied pageBytes to (start i) from (start j)
 -- SPECIFICATION 13.6, stage 4: a frame that is taken has no marks; its bytes are left over
 unfoldable pub unmarked : Memory → ℕ → Memory
 unmarked m f =
-    choose (isFrame f) (record { pages = m .pages; bytes = m .bytes; filled = set (m .filled) f false; changed = set (m .changed) f false }) m
+    choose (isFrame f) (record { pages = m .pages; bytes = m .bytes; filled = set (m .filled) f 0; changed = set (m .changed) f 0 }) m
 
 -- SPECIFICATION 13.8, stage 22: frame e has no marks then, and frame f gets its bytes and the marks that it had
 unfoldable pub moved : Memory → ℕ → ℕ → Memory
@@ -74,8 +78,8 @@ moved m e f =
     (record {
       pages = m .pages;
       bytes = copiedPage (m .bytes) f (m .bytes) e;
-      filled = set (set (m .filled) e false) f (isFilled m e);
-      changed = set (set (m .changed) e false) f (isChanged m e);
+      filled = set (set (m .filled) e 0) f (getD (m .filled) e 0);
+      changed = set (set (m .changed) e 0) f (getD (m .changed) e 0);
     })
     m
 
@@ -111,14 +115,14 @@ storeAfter p m s (PutFree x) = s
 unfoldable pub filledFrom : Memory → List ℕ → ℕ → ℕ → Memory
 filledFrom m s f g =
     choose (both (isFrame f) (both (not (isFilled m f)) (ltb g (m .pages))))
-    (record { pages = m .pages; bytes = copiedPage (m .bytes) f s g; filled = set (m .filled) f true; changed = m .changed })
+    (record { pages = m .pages; bytes = copiedPage (m .bytes) f s g; filled = set (m .filled) f 1; changed = m .changed })
     m
 
 -- SPECIFICATION 13.9: byte v written at an offset of frame f
 unfoldable pub written : Memory → ℕ → ℕ → ℕ → Memory
 written m f o v =
     choose (both (isFrame f) (ltb o pageBytes))
-    (record { pages = m .pages; bytes = set (m .bytes) (start f + o) v; filled = m .filled; changed = set (m .changed) f true })
+    (record { pages = m .pages; bytes = set (m .bytes) (start f + o) v; filled = m .filled; changed = set (m .changed) f 1 })
     m
 
 -- ---- what a page holds

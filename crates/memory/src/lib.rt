@@ -22,9 +22,10 @@ pub struct Memory {
     pub pages: u16,
     // Frame f's bytes, at 64 f, 64 f + 1 and on.
     pub bytes: [u8; BYTES],
-    // Whether a frame has its page's bytes, and whether they were written since.
-    pub filled: [bool; FRAMES],
-    pub changed: [bool; FRAMES],
+    // The marks: whether a frame has its page's bytes, and whether they were written since. A mark is a byte, 0 for off and anything else for on: memory
+    // that a C program lends may hold any byte here, and a Rust bool that is neither 0 nor 1 is undefined behaviour.
+    pub filled: [u8; FRAMES],
+    pub changed: [u8; FRAMES],
 }
 
 // A pool and what its frames hold: SPECIFICATION 13.2.
