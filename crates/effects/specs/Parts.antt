@@ -14,7 +14,7 @@ use Rattle.pool.specs.declared.Pool.{Pool}
 use Rattle.pool.specs.declared.Write.{Write}
 use Rattle.pool.specs.declared.Write.the-variants.{Keep, PutSlot, PutPins, PutCount, TakeFrame, PutEntry, PutHand, PutFree}
 use Rattle.laws.specs.Choices.{by-test}
-use Rattle.memory.specs.Memory.{isFrame, isFilled, isChanged, copiedPage, unmarked, moved, memoryAfter, writtenBack, storeAfter}
+use Rattle.memory.specs.Memory.{isFrame, mark, isChanged, copiedPage, unmarked, moved, memoryAfter, writtenBack, storeAfter}
 use Rattle.memory.specs.declared.Memory.{Memory}
 
 -- the frame of the entry that a write replaces, of n places of the table; none where it replaces none
@@ -30,22 +30,18 @@ replacedIn frames n (PutFree x) = none
 
 -- ---- marks
 
--- whether frame f has the mark
-unfoldable pub markOf : List Bool → ℕ → Bool
-markOf l f = choose (isFrame f) (getD l f false) false
-
-pub frame-marked : (l : List Bool) (f : ℕ) → markOf l f ≡ true → f < maxFrames
-unfolding markOf isFrame
+pub frame-marked : (l : List ℕ) (f : ℕ) → mark l f ≡ true → f < maxFrames
+unfolding mark isFrame
 frame-marked l f = by-test (λ (b : Bool). b ≡ true → f < maxFrames) (λ low _. ltb-true _ _ low) (λ _ e. absurd (true≢false (sym e)))
 
-unfoldable pub cleared : List Bool → ℕ → List Bool
-cleared l f = choose (isFrame f) (set l f false) l
+unfoldable pub cleared : List ℕ → ℕ → List ℕ
+cleared l f = choose (isFrame f) (set l f 0) l
 
-unfoldable pub marksMoved : List Bool → ℕ → ℕ → List Bool
-marksMoved l e f = choose (both (isFrame e) (isFrame f)) (set (set l e false) f (markOf l e)) l
+unfoldable pub marksMoved : List ℕ → ℕ → ℕ → List ℕ
+marksMoved l e f = choose (both (isFrame e) (isFrame f)) (set (set l e 0) f (getD l e 0)) l
 
 -- where the entry that is replaced has frame e
-unfoldable pub marksAfter : List Bool → ℕ → Write → List Bool
+unfoldable pub marksAfter : List ℕ → ℕ → Write → List ℕ
 marksAfter l e Keep = l
 marksAfter l e (PutSlot i f) = l
 marksAfter l e (PutPins f x) = l
@@ -72,9 +68,9 @@ bytesAfter l e (PutFree x) = l
 
 -- ---- the store, of n pages
 
-module _ (n : ℕ) (bytes : List ℕ) (changed : List Bool) (s : List ℕ) where
+module _ (n : ℕ) (bytes changed s : List ℕ) where
   unfoldable pub savedIn : ℕ → ℕ → ℕ → List ℕ
-  savedIn g e f = choose (both (eqb f none) (both (markOf changed e) (ltb g n))) (copiedPage s g bytes e) s
+  savedIn g e f = choose (both (eqb f none) (both (mark changed e) (ltb g n))) (copiedPage s g bytes e) s
 
   unfoldable pub storeIn : ℕ → Write → List ℕ
   storeIn e Keep = s
@@ -110,19 +106,19 @@ off m f = by (isFrame f)
     by : (t : Bool) → record {
       pages = m .pages;
       bytes = m .bytes;
-      filled = choose t (set (m .filled) f false) (m .filled);
-      changed = choose t (set (m .changed) f false) (m .changed);
-    } ≡ choose t (record { pages = m .pages; bytes = m .bytes; filled = set (m .filled) f false; changed = set (m .changed) f false }) m
+      filled = choose t (set (m .filled) f 0) (m .filled);
+      changed = choose t (set (m .changed) f 0) (m .changed);
+    } ≡ choose t (record { pages = m .pages; bytes = m .bytes; filled = set (m .filled) f 0; changed = set (m .changed) f 0 }) m
     by true = refl
     by false = refl
 
 move : (m : Memory) (e f : ℕ)
     → record { pages = m .pages; bytes = bytesMoved (m .bytes) e f; filled = marksMoved (m .filled) e f; changed = marksMoved (m .changed) e f }
     ≡ moved m e f
-unfolding moved bytesMoved marksMoved markOf isFilled isChanged choose
+unfolding moved bytesMoved marksMoved choose
 move m e f = by (both (isFrame e) (isFrame f)) _ _ _
   where
-    by : (t : Bool) (bytes : List ℕ) (filled changed : List Bool) → record {
+    by : (t : Bool) (bytes filled changed : List ℕ) → record {
       pages = m .pages;
       bytes = choose t bytes (m .bytes);
       filled = choose t filled (m .filled);
@@ -143,7 +139,7 @@ memory-in-parts p m (PutHand h) = refl
 memory-in-parts p m (PutFree x) = refl
 
 pub store-in-parts : (p : Pool) (m : Memory) (s : List ℕ) (w : Write) → storeIn (m .pages) (m .bytes) (m .changed) s (replacedOf p w) w ≡ storeAfter p m s w
-unfolding storeAfter storeIn savedIn writtenBack markOf isChanged replacedIn entryFrame
+unfolding storeAfter storeIn savedIn writtenBack isChanged replacedIn entryFrame
 store-in-parts p m s Keep = refl
 store-in-parts p m s (PutSlot i f) = refl
 store-in-parts p m s (PutPins f x) = refl

@@ -7,8 +7,8 @@ ghost use mathlib.Core.Bool.{Bool};
 ghost use Prim.Native.Nat.{_*_, _≤_, _<_};
 ghost use lib.ListN.{length};
 ghost use Rattle.pool.specs.Limits.{maxFrames};
-ghost use Rattle.memory.specs.Memory.{pageBytes};
-ghost use Rattle.effects.specs.Parts.{replacedIn, markOf, cleared, marksMoved, marksAfter, bytesMoved, bytesAfter, savedIn, storeIn};
+ghost use Rattle.memory.specs.Memory.{pageBytes, mark};
+ghost use Rattle.effects.specs.Parts.{replacedIn, cleared, marksMoved, marksAfter, bytesMoved, bytesAfter, savedIn, storeIn};
 use memory::BYTES;
 use memory::PAGE;
 use pool::FRAMES;
@@ -28,16 +28,16 @@ pub fn replaced(frames: &[u8; FRAMES], total: u8, w: Write) -> u8
 
 // ---- marks: `filled` and `changed` go the same ways
 
-fn clear_mark(marks: &mut [bool; FRAMES], f: u8)
+fn clear_mark(marks: &mut [u8; FRAMES], f: u8)
     ensures { λ _. ⌜ now (marks .exit) ≡ cleared (now (marks .entry)) f ⌝ }
 {
     let at = f as usize;
     if at < FRAMES {
-        marks[at] = false;
+        marks[at] = 0;
     }
 }
 
-fn move_mark(marks: &mut [bool; FRAMES], from: u8, to: u8)
+fn move_mark(marks: &mut [u8; FRAMES], from: u8, to: u8)
     ensures { λ _. ⌜ now (marks .exit) ≡ marksMoved (now (marks .entry)) from to ⌝ }
 {
     let source = from as usize;
@@ -45,13 +45,13 @@ fn move_mark(marks: &mut [bool; FRAMES], from: u8, to: u8)
     if source < FRAMES {
         if target < FRAMES {
             let mark = marks[source];
-            marks[source] = false;
+            marks[source] = 0;
             marks[target] = mark;
         }
     }
 }
 
-pub fn put_marks(marks: &mut [bool; FRAMES], entry: u8, w: Write)
+pub fn put_marks(marks: &mut [u8; FRAMES], entry: u8, w: Write)
     ensures { λ _. ⌜ now (marks .exit) ≡ marksAfter (now (marks .entry)) entry w ⌝ }
 {
     match w {
@@ -91,11 +91,11 @@ pub fn put_bytes(bytes: &mut [u8; BYTES], entry: u8, w: Write)
 // ---- the store
 
 // Whether a frame has the mark.
-pub fn marked(marks: &[bool; FRAMES], f: u8) -> bool
-    ensures { λ r. ⌜ r ≡ markOf (now (marks .entry)) f ⌝ }
+pub fn marked(marks: &[u8; FRAMES], f: u8) -> bool
+    ensures { λ r. ⌜ r ≡ mark (now (marks .entry)) f ⌝ }
 {
     let at = f as usize;
-    if at < FRAMES { marks[at] } else { false }
+    if at < FRAMES { marks[at] != 0 } else { false }
 }
 
 // Page `page`, of a store of so many, gets the bytes of the frame in whose entry NONE is put, if that is changed.
@@ -103,7 +103,7 @@ fn save<'a>(
     store: &mut [u8],
     pages: u16,
     bytes: &'a [u8; BYTES],
-    changed: &'a [bool; FRAMES],
+    changed: &'a [u8; FRAMES],
     page: u32,
     from: u8,
     to: u8,
@@ -125,7 +125,7 @@ pub fn put_store<'a>(
     store: &mut [u8],
     pages: u16,
     bytes: &'a [u8; BYTES],
-    changed: &'a [bool; FRAMES],
+    changed: &'a [u8; FRAMES],
     entry: u8,
     w: Write,
 )

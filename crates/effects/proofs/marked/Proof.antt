@@ -1,18 +1,17 @@
--- The code and `markOf` make one choice, by whether there is such a frame. Assumes nothing.
+-- The code and `mark` make one choice, by whether there is such a frame. Assumes nothing.
 use borrow.Author.Needs.{needs}
 use Rattle.pool.specs.Choose.{choose}
 use Rattle.laws.specs.Choices.{tests}
-use Rattle.memory.specs.Memory.{isFrame}
-use Rattle.effects.specs.Parts.{markOf}
+use Rattle.memory.specs.Memory.{isFrame, mark}
 use Rattle.effects.proofs.marked.Statement.{statement}
 use Rattle.effects.proofs.marked.Tie as tie
 
 returns : tie.Need-returns
-unfolding markOf isFrame choose
+unfolding mark isFrame choose
 returns c = search tests
 
 returns-2 : tie.Need-returns-2
-unfolding markOf isFrame choose
+unfolding mark isFrame choose
 returns-2 c = search tests
 
 pub marked-spec : {M : Type 1} → statement M

@@ -3,12 +3,12 @@ use borrow.Author.Needs.{needs}
 use borrow.Author.Tests.{lt-ltb, le-ltb}
 use Rattle.pool.specs.Choose.{choose, both}
 use Rattle.memory.specs.Memory.{isFrame}
-use Rattle.effects.specs.Parts.{markOf, marksMoved}
+use Rattle.effects.specs.Parts.{marksMoved}
 use Rattle.effects.proofs.move_mark.Statement.{statement}
 use Rattle.effects.proofs.move_mark.Tie as tie
 
 returns : tie.Need-returns
-unfolding marksMoved markOf isFrame both choose
+unfolding marksMoved isFrame both choose
 returns c = simp (lt-ltb _ _ (c .before .before .if1 .taken), lt-ltb _ _ (c .before .if2 .taken))
 
 returns-2 : tie.Need-returns-2
