@@ -12,7 +12,7 @@ use pool::FRAMES;
 // Frame f, unless it is filled, gets page `page` of a store of so many.
 pub fn fill(
     bytes: &mut [u8; BYTES],
-    filled: &mut [bool; FRAMES],
+    filled: &mut [u8; FRAMES],
     store: &[u8],
     pages: u16,
     f: u8,
@@ -24,11 +24,10 @@ pub fn fill(
 {
     let at = f as usize;
     if at < FRAMES {
-        let full = filled[at];
-        if !full {
+        if filled[at] == 0 {
             if page < pages as u32 {
                 carrying::copy_page(bytes, PAGE * at, store, PAGE * page as usize);
-                filled[at] = true;
+                filled[at] = 1;
             }
         }
     }
@@ -48,7 +47,7 @@ pub fn byte_of(bytes: &[u8; BYTES], f: u8, offset: u32) -> u8
 }
 
 // Frame f gets a byte at an offset, and is changed.
-pub fn put_byte(bytes: &mut [u8; BYTES], changed: &mut [bool; FRAMES], f: u8, offset: u32, byte: u8)
+pub fn put_byte(bytes: &mut [u8; BYTES], changed: &mut [u8; FRAMES], f: u8, offset: u32, byte: u8)
     ensures { λ _. ⌜ (now (bytes .exit) ≡ bytesWritten (now (bytes .entry)) f offset byte)
         × (now (changed .exit) ≡ marksWritten (now (changed .entry)) f offset) ⌝ }
 {
@@ -56,7 +55,7 @@ pub fn put_byte(bytes: &mut [u8; BYTES], changed: &mut [bool; FRAMES], f: u8, of
     if at < FRAMES {
         if offset < PAGE as u32 {
             bytes[PAGE * at + offset as usize] = byte;
-            changed[at] = true;
+            changed[at] = 1;
         }
     }
 }

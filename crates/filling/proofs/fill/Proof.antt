@@ -1,6 +1,5 @@
 -- The code makes the definition's three tests, one after the other. Assumes nothing.
 use borrow.Author.Needs.{needs}
-use borrow.Author.Tests.{not-true, not-false}
 use mathlib.Core.Path.{sym, _∙_}
 use Rattle.laws.specs.Choices.{chosen, passed}
 use Rattle.filling.specs.Parts.{bytesFilled, marksFilled, no-frame, is-full, no-page, is-wanted}
@@ -11,19 +10,19 @@ returns : tie.Need-returns
 unfolding bytesFilled marksFilled
 returns c =
     let t = c .before .before in
-    let now = is-wanted _ _ _ _ (t .before .before .before .if1 .taken) (not-true _ (t .before .if2 .taken)) (t .if3 .taken) in
+    let now = is-wanted _ _ _ _ (t .before .before .before .if1 .taken) (t .before .if2 .taken) (t .if3 .taken) in
     (c .copy-page .ensures ∙ sym (chosen _ _ _ now), sym (chosen _ _ _ now))
 
 returns-2 : tie.Need-returns-2
 unfolding bytesFilled marksFilled
 returns-2 c =
-    let not-now = no-page _ _ _ _ (c .before .before .before .if1 .taken) (not-true _ (c .before .if2 .taken)) (c .if3 .left) in
+    let not-now = no-page _ _ _ _ (c .before .before .before .if1 .taken) (c .before .if2 .taken) (c .if3 .left) in
     (sym (passed _ _ _ not-now), sym (passed _ _ _ not-now))
 
 returns-3 : tie.Need-returns-3
 unfolding bytesFilled marksFilled
 returns-3 c =
-    let not-now = is-full _ _ _ _ (c .before .before .if1 .taken) (not-false _ (c .if2 .left)) in
+    let not-now = is-full _ _ _ _ (c .before .before .if1 .taken) (c .if2 .left) in
     (sym (passed _ _ _ not-now), sym (passed _ _ _ not-now))
 
 returns-4 : tie.Need-returns-4
