@@ -7,7 +7,7 @@ use Prim.Native.Nat.{ℕ, _≤_, _<_}
 use native.Mathlib.Omega.{arith}
 use lib.Dec.{eqb}
 use lib.ListN.{getD}
-use borrow.Author.Tests.{eq-eqb, ne-eqb, le-leb, lt-leb, lt-ltb}
+use borrow.Author.Tests.{eq-eqb, ne-eqb, le-leb, lt-leb}
 use Rattle.pool.specs.Limits.{maxFrames}
 use Rattle.pool.specs.Choose.{choose, both, either, every}
 use Rattle.pool.specs.State.{none, total, clientCount, within, ofClient, page, entryPage, entryFrame, client, grantPage}
@@ -18,7 +18,8 @@ use Rattle.laws.specs.Choices.{both-are}
 use Rattle.laws.specs.Elements.{clientIn}
 use Rattle.laws.specs.Scans.{both-yes, every-yes}
 use Rattle.validity.specs.Parts.{validIn, of-parts}
-use Rattle.memory.specs.Memory.{maxPages, isFrame, isFilled, isChanged}
+use Rattle.memory.specs.Memory.{maxPages, mark, isFilled, isChanged}
+use Rattle.memory.specs.Marks.{mark-on, mark-off}
 use Rattle.memory.specs.Requests.{inside, entryInside, clientInside, pagesInside, unmarkedAt, marksOk, bytesOk}
 use Rattle.memory.specs.declared.Memory.{Memory}
 
@@ -56,26 +57,25 @@ unfoldable pub clientsInside : List Client → ℕ → List ℕ → ℕ → Bool
 clientsInside clients count pages store = every (clientInsideAt clients count pages store) count
 
 -- frame f has neither mark
-unfoldable pub unmarkedAtIn : List Bool → List Bool → ℕ → Bool
-unmarkedAtIn filled changed f =
-    both (not (choose (isFrame f) (getD filled f false) false)) (not (choose (isFrame f) (getD changed f false) false))
+unfoldable pub unmarkedAtIn : List ℕ → List ℕ → ℕ → Bool
+unmarkedAtIn filled changed f = both (not (mark filled f)) (not (mark changed f))
 
 -- as the code finds it
-module _ (filled changed : List Bool) (f : ℕ) (h : f < maxFrames) where
-  pub is-filled : getD filled f false ≡ true → false ≡ unmarkedAtIn filled changed f
-  unfolding unmarkedAtIn isFrame both choose
-  is-filled e = rw (lt-ltb _ _ h, e)
+module _ (filled changed : List ℕ) (f : ℕ) (h : f < maxFrames) where
+  pub is-filled : getD filled f 0 ≢ 0 → false ≡ unmarkedAtIn filled changed f
+  unfolding unmarkedAtIn both choose
+  is-filled z = rw (mark-on filled f h z)
 
-  module _ (e : getD filled f false ≡ false) where
-    pub is-changed : getD changed f false ≡ true → false ≡ unmarkedAtIn filled changed f
-    unfolding unmarkedAtIn isFrame both choose
-    is-changed g = rw (lt-ltb _ _ h, e, g)
+  module _ (e : getD filled f 0 ≡ 0) where
+    pub is-changed : getD changed f 0 ≢ 0 → false ≡ unmarkedAtIn filled changed f
+    unfolding unmarkedAtIn both choose
+    is-changed z = rw (mark-off filled f h e, mark-on changed f h z)
 
-    pub has-none : getD changed f false ≡ false → true ≡ unmarkedAtIn filled changed f
-    unfolding unmarkedAtIn isFrame both choose
-    has-none g = rw (lt-ltb _ _ h, e, g)
+    pub has-none : getD changed f 0 ≡ 0 → true ≡ unmarkedAtIn filled changed f
+    unfolding unmarkedAtIn both choose
+    has-none g = rw (mark-off filled f h e, mark-off changed f h g)
 
-unfoldable pub unmarkedIn : List Bool → List Bool → ℕ → Bool
+unfoldable pub unmarkedIn : List ℕ → List ℕ → ℕ → Bool
 unmarkedIn filled changed n = every (unmarkedAtIn filled changed) n
 
 -- ---- together
@@ -166,16 +166,16 @@ booksOf size count pages tablePages tableFrames clients grantPages =
       «grant_frames» = [];
     }
 
-abbrev pub marksOf : ℕ → List Bool → List Bool → Memory
+abbrev pub marksOf : ℕ → List ℕ → List ℕ → Memory
 marksOf pages filled changed = record { pages = pages; bytes = []; filled = filled; changed = changed }
 
-unfoldable pub bytesOkIn : ℕ → ℕ → List ℕ → List ℕ → List ℕ → List Client → List ℕ → ℕ → List Bool → List Bool → Bool
+unfoldable pub bytesOkIn : ℕ → ℕ → List ℕ → List ℕ → List ℕ → List Client → List ℕ → ℕ → List ℕ → List ℕ → Bool
 bytesOkIn size count framePages tablePages tableFrames clients grantPages pages filled changed =
     bytesOk (booksOf size count framePages tablePages tableFrames clients grantPages) (marksOf pages filled changed)
 
 -- check 8 of a pool that has bytes
-abbrev pub soundIn : ℕ → ℕ → ℕ → ℕ → ℕ → List ℕ → List ℕ → List ℕ → List ℕ → List ℕ → List ℕ → List Client → List ℕ → List ℕ → ℕ → List Bool
-    → List Bool → Bool
+abbrev pub soundIn : ℕ → ℕ → ℕ → ℕ → ℕ → List ℕ → List ℕ → List ℕ → List ℕ → List ℕ → List ℕ → List Client → List ℕ → List ℕ → ℕ → List ℕ
+    → List ℕ → Bool
 soundIn size count cap free last slots framePages pins counts tablePages tableFrames clients grantPages grantFrames pages filled changed =
     both (validIn size count cap free last slots pins counts tablePages tableFrames clients grantPages grantFrames)
     (bytesOkIn size count framePages tablePages tableFrames clients grantPages pages filled changed)

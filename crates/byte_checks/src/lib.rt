@@ -129,15 +129,15 @@ fn clients_inside(
 }
 
 // The first n frames have no mark.
-fn unmarked<'a>(filled: &'a [bool; FRAMES], changed: &'a [bool; FRAMES], n: usize) -> bool
+fn unmarked<'a>(filled: &'a [u8; FRAMES], changed: &'a [u8; FRAMES], n: usize) -> bool
     requires { ⌜ n ≤ maxFrames ⌝ }
     ensures { λ r. ⌜ r ≡ unmarkedIn (now (filled .entry)) (now (changed .entry)) n ⌝ }
 {
     for i in 0..n {
-        if filled[i] {
+        if filled[i] != 0 {
             return false;
         }
-        if changed[i] {
+        if changed[i] != 0 {
             return false;
         }
     }
@@ -155,8 +155,8 @@ fn bytes_ok<'a>(
     clients: [Client; CLIENTS],
     grant_pages: &'a [u32; GRANTS],
     pages: u16,
-    filled: &'a [bool; FRAMES],
-    changed: &'a [bool; FRAMES],
+    filled: &'a [u8; FRAMES],
+    changed: &'a [u8; FRAMES],
 ) -> bool
     requires { ⌜ (size ≤ maxSize) × («client_count» ≤ maxClients)
         × ((c : ℕ) → c < «client_count» → clientIn clients «client_count» c .held ≤ maxHeld) ⌝ }
@@ -198,8 +198,8 @@ pub fn parts_sound<'a>(
     grant_pages: &'a [u32; GRANTS],
     grant_frames: &'a [u8; GRANTS],
     pages: u16,
-    filled: &'a [bool; FRAMES],
-    changed: &'a [bool; FRAMES],
+    filled: &'a [u8; FRAMES],
+    changed: &'a [u8; FRAMES],
 ) -> bool
     ensures { λ r. ⌜ r ≡ soundIn size «client_count» cap free last (now (slots .entry)) (now («frame_pages» .entry)) (now (pins .entry))
         (now (counts .entry)) (now («table_pages» .entry)) (now («table_frames» .entry)) clients (now («grant_pages» .entry))
@@ -241,8 +241,8 @@ pub fn parts_sound<'a>(
 pub fn sound<'a>(
     pool: Pool,
     pages: u16,
-    filled: &'a [bool; FRAMES],
-    changed: &'a [bool; FRAMES],
+    filled: &'a [u8; FRAMES],
+    changed: &'a [u8; FRAMES],
 ) -> bool
     ensures { λ r. ⌜ ((m : Memory) → m .pages ≡ pages → m .filled ≡ now (filled .entry) → m .changed ≡ now (changed .entry) →
         r ≡ both (valid pool) (bytesOk pool m)) ⌝ }
