@@ -5,7 +5,7 @@ use mathlib.Core.Bool.{Bool, true, false, not}
 use mathlib.Core.List.{List}
 use Prim.Native.Nat.{ℕ, _+_, _*_, _<_}
 use native.Mathlib.Omega.{arith}
-use lib.Dec.{ltb}
+use lib.Dec.{eqb, ltb}
 use lib.ListN.{length, getD, set, length-set}
 use lib.Seq.{getD-set-same, getD-set-other}
 use borrow.Author.Tests.{lt-ltb, not-true, not-false}
@@ -14,7 +14,7 @@ use Rattle.pool.specs.Choose.{choose, both}
 use Rattle.pool.specs.State.{none}
 use Rattle.laws.specs.Choices.{by-test, chosen, passed}
 use Rattle.laws.specs.Scans.{both-yes}
-use Rattle.memory.specs.Memory.{pageBytes, start, isFrame, byte, isFilled, isChanged, storeByte, copiedPage, unmarked, moved, filledFrom, written, cell}
+use Rattle.memory.specs.Memory.{pageBytes, start, isFrame, byte, mark, isFilled, isChanged, storeByte, copiedPage, unmarked, moved, filledFrom, written, cell}
 use Rattle.memory.specs.declared.Memory.{Memory}
 use Rattle.memory.specs.Copying.{copied-length, page-here, page-else}
 
@@ -43,7 +43,7 @@ off-same e o = record { filled = e .filled ∙ o .filled; changed = e .changed �
 
 -- what is no frame has none
 pub none-off : (m : Memory) → Off m none
-unfolding isFilled isChanged isFrame choose
+unfolding mark isFilled isChanged isFrame choose
 none-off m = record { filled = refl; changed = refl }
 
 -- ---- what a page has in a frame
@@ -72,14 +72,13 @@ pub byte-is : (m : Memory) (f o : ℕ) → f < maxFrames → byte m f o ≡ getD
 unfolding byte
 byte-is m f o low = chosen _ _ _ (frame f low)
 
-abbrev mark : List Bool → ℕ → Bool
-mark l f = choose (isFrame f) (getD l f false) false
+mark-here : (l : List ℕ) (f b : ℕ) → length l ≡ maxFrames → f < maxFrames → mark (set l f b) f ≡ not (eqb b 0)
+unfolding mark
+mark-here l f b e low = chosen _ _ _ (frame f low) ∙ ap (λ (y : ℕ). not (eqb y 0)) (getD-set-same l f b 0 (omega (arith, e)))
 
-mark-here : (l : List Bool) (f : ℕ) (b : Bool) → length l ≡ maxFrames → f < maxFrames → mark (set l f b) f ≡ b
-mark-here l f b e low = chosen _ _ _ (frame f low) ∙ getD-set-same l f b false (omega (arith, e))
-
-mark-else : (l : List Bool) (f : ℕ) (b : Bool) (h : ℕ) → h ≢ f → mark (set l f b) h ≡ mark l h
-mark-else l f b h n = ap (λ (y : Bool). choose (isFrame h) y false) (getD-set-other l f h b false n)
+mark-else : (l : List ℕ) (f b h : ℕ) → h ≢ f → mark (set l f b) h ≡ mark l h
+unfolding mark
+mark-else l f b h n = ap (λ (y : ℕ). choose (isFrame h) (not (eqb y 0)) false) (getD-set-other l f h b 0 n)
 
 -- a frame's byte is the one at its place in the list
 placed : (h : ℕ) {a b : ℕ} → a ≡ b → choose (isFrame h) a 0 ≡ choose (isFrame h) b 0
@@ -115,9 +114,9 @@ module _ (m : Memory) (l : Long m) where
         subst Unmarked (sym (chosen _ _ _ (frame f low)))
         (record {
           pages = refl;
-          long = record { bytes = l .bytes; filled = length-set (m .filled) f false ∙ l .filled; changed = length-set (m .changed) f false ∙ l .changed };
-          here = record { filled = mark-here (m .filled) f false (l .filled) low; changed = mark-here (m .changed) f false (l .changed) low };
-          else = λ h n. record { filled = mark-else (m .filled) f false h n; changed = mark-else (m .changed) f false h n; bytes = λ _ _. refl };
+          long = record { bytes = l .bytes; filled = length-set (m .filled) f 0 ∙ l .filled; changed = length-set (m .changed) f 0 ∙ l .changed };
+          here = record { filled = mark-here (m .filled) f 0 (l .filled) low; changed = mark-here (m .changed) f 0 (l .changed) low };
+          else = λ h n. record { filled = mark-else (m .filled) f 0 h n; changed = mark-else (m .changed) f 0 h n; bytes = λ _ _. refl };
         })
 
   -- ---- bytes and marks moved from frame e to frame f
@@ -131,21 +130,25 @@ module _ (m : Memory) (l : Long m) where
       pub else : (h : ℕ) → h ≢ e → h ≢ f → Same n h m h
 
     -- a list of marks, of which f gets e's
-    module _ (k : List Bool) (b : Bool) (len : length k ≡ maxFrames) where
-      abbrev after : List Bool
-      after = set (set k e false) f b
+    module _ (k : List ℕ) (len : length k ≡ maxFrames) where
+      abbrev off : List ℕ
+      off = set k e 0
+
+      abbrev after : List ℕ
+      after = set off f (getD k e 0)
 
       after-length : length after ≡ maxFrames
-      after-length = length-set (set k e false) f b ∙ length-set k e false ∙ len
+      after-length = length-set off f (getD k e 0) ∙ length-set k e 0 ∙ len
 
-      mark-to : mark after f ≡ b
-      mark-to = mark-here (set k e false) f b (length-set k e false ∙ len) low-f
+      mark-to : mark after f ≡ mark k e
+      unfolding mark
+      mark-to = mark-here off f (getD k e 0) (length-set k e 0 ∙ len) low-f ∙ sym (chosen _ _ _ (frame e low-e))
 
       mark-from : mark after e ≡ false
-      mark-from = mark-else (set k e false) f b e apart ∙ mark-here k e false len low-e
+      mark-from = mark-else off f (getD k e 0) e apart ∙ mark-here k e 0 len low-e
 
       mark-stays : (h : ℕ) → h ≢ e → h ≢ f → mark after h ≡ mark k h
-      mark-stays h ne nf = mark-else (set k e false) f b h nf ∙ mark-else k e false h ne
+      mark-stays h ne nf = mark-else off f (getD k e 0) h nf ∙ mark-else k e 0 h ne
 
     pub moves : Moved (moved m e f)
     unfolding moved isFilled isChanged byte
@@ -155,22 +158,22 @@ module _ (m : Memory) (l : Long m) where
           pages = refl;
           long = record {
             bytes = copied-length (m .bytes) (start f) (m .bytes) (start e) pageBytes ∙ l .bytes;
-            filled = after-length (m .filled) (isFilled m e) (l .filled);
-            changed = after-length (m .changed) (isChanged m e) (l .changed);
+            filled = after-length (m .filled) (l .filled);
+            changed = after-length (m .changed) (l .changed);
           };
           to = record {
-            filled = mark-to (m .filled) (isFilled m e) (l .filled);
-            changed = mark-to (m .changed) (isChanged m e) (l .changed);
+            filled = mark-to (m .filled) (l .filled);
+            changed = mark-to (m .changed) (l .changed);
             bytes = λ o h. chosen _ _ _ (frame f low-f) ∙ page-here (m .bytes) f (m .bytes) e o h (omega (arith, l .bytes)) ∙
                 sym (chosen _ _ _ (frame e low-e));
           };
           from = record {
-            filled = mark-from (m .filled) (isFilled m e) (l .filled);
-            changed = mark-from (m .changed) (isChanged m e) (l .changed);
+            filled = mark-from (m .filled) (l .filled);
+            changed = mark-from (m .changed) (l .changed);
           };
           else = λ h ne nf. record {
-            filled = mark-stays (m .filled) (isFilled m e) (l .filled) h ne nf;
-            changed = mark-stays (m .changed) (isChanged m e) (l .changed) h ne nf;
+            filled = mark-stays (m .filled) (l .filled) h ne nf;
+            changed = mark-stays (m .changed) (l .changed) h ne nf;
             bytes = λ o low. placed h (page-else (m .bytes) f (m .bytes) e o low h nf);
           };
         })
@@ -198,21 +201,21 @@ module _ (m : Memory) (l : Long m) where
         }
 
     is-filled : isFilled m f ≡ false
-        → Filled (record { pages = m .pages; bytes = copiedPage (m .bytes) f s g; filled = set (m .filled) f true; changed = m .changed })
+        → Filled (record { pages = m .pages; bytes = copiedPage (m .bytes) f s g; filled = set (m .filled) f 1; changed = m .changed })
     unfolding isFilled isChanged byte storeByte
     is-filled e =
         record {
           pages = refl;
           long = record {
             bytes = copied-length (m .bytes) (start f) s (start g) pageBytes ∙ l .bytes;
-            filled = length-set (m .filled) f true ∙ l .filled;
+            filled = length-set (m .filled) f 1 ∙ l .filled;
             changed = l .changed;
           };
-          here = mark-here (m .filled) f true (l .filled) low;
+          here = mark-here (m .filled) f 1 (l .filled) low;
           changed = λ _. refl;
           holds = λ o h. chosen _ _ _ (frame f low) ∙ page-here (m .bytes) f s g o h (omega (arith, l .bytes)) ∙ sym (cell-unfilled m s f g o e);
           else = λ h n. record {
-            filled = mark-else (m .filled) f true h n;
+            filled = mark-else (m .filled) f 1 h n;
             changed = refl;
             bytes = λ o a. placed h (page-else (m .bytes) f s g o a h n);
           };
@@ -251,14 +254,14 @@ module _ (m : Memory) (l : Long m) where
         subst Written (sym (chosen _ _ _ (both-yes _ _ (frame f low) (lt-ltb o pageBytes offset))))
         (record {
           pages = refl;
-          long = record { bytes = length-set (m .bytes) (start f + o) v ∙ l .bytes; filled = l .filled; changed = length-set (m .changed) f true ∙ l .changed };
+          long = record { bytes = length-set (m .bytes) (start f + o) v ∙ l .bytes; filled = l .filled; changed = length-set (m .changed) f 1 ∙ l .changed };
           filled = λ _. refl;
-          here = mark-here (m .changed) f true (l .changed) low;
+          here = mark-here (m .changed) f 1 (l .changed) low;
           holds = chosen _ _ _ (frame f low) ∙ getD-set-same (m .bytes) (start f + o) v 0 (omega (arith, l .bytes));
           offsets = λ i n. placed f (getD-set-other (m .bytes) (start f + o) (start f + i) v 0 (λ w. n (omega arith)));
           else = λ h n. record {
             filled = refl;
-            changed = mark-else (m .changed) f true h n;
+            changed = mark-else (m .changed) f 1 h n;
             bytes = λ i b. placed h (getD-set-other (m .bytes) (start f + o) (start h + i) v 0 (λ w. n (omega arith)));
           };
         })

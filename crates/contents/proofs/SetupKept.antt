@@ -2,16 +2,16 @@
 -- a store. Assumes nothing.
 use mathlib.Core.Path.{_≡_, refl, sym, ap, subst, _∙_}
 use mathlib.Core.Logic.{_≢_}
-use mathlib.Core.Bool.{Bool, true, false, true≢false}
+use mathlib.Core.Bool.{Bool, true, false, not, true≢false}
 use mathlib.Core.List.{List}
 use Prim.Native.Nat.{ℕ, _+_, _*_, _/_, _%_, _≤_, _<_}
 use native.Mathlib.Nat.{div-add-mod}
 use native.Mathlib.Omega.{arith}
 use native.Mathlib.Decide.{ℕ-discrete}
-use lib.ListN.{length, getD, replicate, getD-replicate, length-replicate}
+use lib.Dec.{eqb}
+use lib.ListN.{length, replicate, getD-replicate, length-replicate}
 use borrow.Author.Tests.{eqb-true, leb-true, ltb-true}
 use Rattle.pool.specs.Limits.{maxFrames}
-use Rattle.pool.specs.Choose.{choose}
 use Rattle.pool.specs.State.{none, total, page}
 use Rattle.pool.specs.Table.{lookup}
 use Rattle.pool.specs.Valid.{numbersOk}
@@ -26,7 +26,7 @@ use Rattle.invariant.proofs.Reached.{Reached}
 use Rattle.invariant.proofs.After.{few-frames}
 use Rattle.invariant.proofs.Searches.{lookup-found}
 use Rattle.invariant.proofs.Setup.{within-same, entry-none, setup-rests, reached-setup}
-use Rattle.memory.specs.Memory.{pageBytes, maxPages, isFrame, isFilled, isChanged, storeByte, blank}
+use Rattle.memory.specs.Memory.{pageBytes, maxPages, isFrame, mark, isFilled, isChanged, storeByte, blank}
 use Rattle.memory.specs.Requests.{State, Result, lengthOk, setupOn}
 use Rattle.memory.specs.Happenings.{SetUpOn}
 use Rattle.contents.specs.Contents.{contentOf}
@@ -35,11 +35,11 @@ use Rattle.contents.proofs.Kept.{Kept, content-unmapped}
 use Rattle.contents.proofs.Passed.{refused-not-done}
 
 blank-off : (n f : ℕ) → Off (blank n) f
-unfolding isFilled isChanged isFrame
+unfolding mark isFilled isChanged isFrame
 blank-off n f = record { filled = off; changed = off }
   where
-    off : choose (isFrame f) (getD (replicate maxFrames false) f false) false ≡ false
-    off = by-test (λ (b : Bool). b ≡ false) (λ t. getD-replicate maxFrames f false false (ltb-true f maxFrames t)) (λ _. refl)
+    off : mark (replicate maxFrames 0) f ≡ false
+    off = by-test (λ (b : Bool). b ≡ false) (λ t. ap (λ (y : ℕ). not (eqb y 0)) (getD-replicate maxFrames f 0 0 (ltb-true f maxFrames t))) (λ _. refl)
 
 -- a length that is accepted is that of whole pages, and of 256 at most
 lengths : (n : ℕ) → lengthOk n ≡ true → (n ≡ pageBytes * (n / pageBytes)) × (n / pageBytes ≤ maxPages)
@@ -85,7 +85,7 @@ module _ (s t c h : ℕ) (store : List ℕ) (ok : numbersOk s t c ≡ true) (len
           grants = λ d i low. absurd (let w = ap (λ (a : Client). a .held) (setup-rests s t c h ok d) in let y : ⊥ = omega arith in y);
         };
         marks = record {
-          long = record { bytes = length-replicate {A = ℕ} _ 0; filled = length-replicate _ false; changed = length-replicate _ false };
+          long = record { bytes = length-replicate {A = ℕ} _ 0; filled = length-replicate {A = ℕ} _ 0; changed = length-replicate {A = ℕ} _ 0 };
           store-long = l .0;
           no-store = λ _ f. blank-off _ f;
           own-off = λ d. blank-off _ _;

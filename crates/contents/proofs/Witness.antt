@@ -22,7 +22,7 @@ use Rattle.pool.specs.Cases.{admit, swap}
 use Rattle.pool.specs.declared.Call.the-variants.{Begin, Release}
 use Rattle.pool.specs.declared.Answer.the-variants.{Refused}
 use Rattle.guarantee.specs.Runs.{At}
-use Rattle.memory.specs.Memory.{isFrame, byte, isFilled, isChanged, storeByte, copied, unmarked, moved, memoryAfter, writtenBack, storeAfter}
+use Rattle.memory.specs.Memory.{isFrame, byte, mark, isFilled, isChanged, storeByte, copied, unmarked, moved, memoryAfter, writtenBack, storeAfter}
 use Rattle.memory.specs.Memory.{filledFrom, written}
 use Rattle.memory.specs.Requests.{Asks, ReadByte, WriteByte, State, lengthOk, setupOn, inside, entryInside, clientInside, pagesInside, unmarkedAt, marksOk}
 use Rattle.memory.specs.Requests.{bytesOk, lent, storeOk, firstOf, outsideAt, byteRefusal, turnedAwayBy, refusalOn, refused, writeOf, actionOn, callOn}
@@ -38,7 +38,7 @@ unfolding choose both either scan howMany refusalOf within slot page pins count 
     stage13 stage14 stage15 stage16 stage17 stage18 stage19 stage20 stage21 stage22 stage23 stageMove
     numbersOk frameOk usedOk stateOk entryOk grantOk countsOk namesOk clientOk valid
     caller refusalAt refusal releaseMove moveOf finished callOf
-    isFrame byte isFilled isChanged storeByte copied unmarked moved memoryAfter writtenBack storeAfter filledFrom written
+    isFrame byte mark isFilled isChanged storeByte copied unmarked moved memoryAfter writtenBack storeAfter filledFrom written
     lengthOk setupOn inside entryInside clientInside pagesInside unmarkedAt marksOk bytesOk lent storeOk firstOf outsideAt byteRefusal turnedAwayBy
     refusalOn refused writeOf actionOn callOn happenings At
 computing = 0

@@ -2,12 +2,12 @@
 -- lengths of its lists: past a list's end a page number reads 0, which is inside every store, and a client reads as one at rest. Assumes nothing.
 use mathlib.Core.Path.{_≡_, refl, sym, ap, subst, _∙_}
 use mathlib.Core.Logic.{_≢_}
-use mathlib.Core.Bool.{Bool, true, false}
+use mathlib.Core.Bool.{Bool, true, false, not}
 use mathlib.Core.List.{List, [], _∷_}
 use Prim.Native.Nat.{ℕ, zero, suc, _+_, _-_, _*_, _≤_, _<_}
 use native.Mathlib.Omega.{arith}
 use native.Mathlib.Decide.{ℕ-discrete}
-use lib.Dec.{T}
+use lib.Dec.{T, eqb}
 use lib.ListN.{getD, set}
 use borrow.Author.Tests.{lt-ltb, ltb-true}
 use Rattle.pool.specs.Limits.{maxHeld}
@@ -26,13 +26,14 @@ use Rattle.pool.specs.declared.GrantChange.the-variants.{Same, Open, End}
 use Rattle.pool.specs.declared.Write.{Write}
 use Rattle.pool.specs.declared.Write.the-variants.{Keep, PutSlot, PutPins, PutCount, TakeFrame, PutEntry, PutHand, PutFree}
 use Rattle.laws.specs.Choices.{by-test, chosen, passed as past}
+use Rattle.laws.specs.Scans.{both-first}
 use Rattle.laws.specs.Elements.{grant-element}
 use Rattle.ranges.specs.Ranges.{ranged}
 use Rattle.invariant.proofs.After.{EntryPagesStay, EntryFramesStay, entry-in, client-other, entryPage-kept, entryFrame-kept, entryPage-else, entryFrame-else}
 use Rattle.invariant.proofs.Searches.{grantOf-found}
 use Rattle.invariant.proofs.Allowed.{allowed, may-step, may-release}
 use Rattle.guarantee.proofs.TurnedDown.{same-answer, same-pool, turned, one-move, turned-or-move, turned-down-not-15}
-use Rattle.memory.specs.Memory.{isFrame, isFilled, isChanged, unmarked, moved, memoryAfter}
+use Rattle.memory.specs.Memory.{isFrame, mark, isFilled, isChanged, unmarked, moved, memoryAfter}
 use Rattle.memory.specs.Requests.{Request, Asks, ReadByte, WriteByte, State, Result, bytesOk, outsideAt, refusalOn, writeOf, actionOn}
 use Rattle.memory.specs.Requests.{callOn}
 use Rattle.memory.specs.declared.Memory.{Memory}
@@ -271,17 +272,22 @@ brings n p i (Release c g) e o =
 
 -- ---- marks
 
--- one mark in a list of them
-abbrev mark : List Bool → ℕ → Bool
-mark l f = choose (isFrame f) (getD l f false) false
+-- a byte that is no mark
+abbrev NoMark : ℕ → Type 0
+NoMark v = not (eqb v 0) ≡ false
 
-mark-stays : (l : List Bool) (j f : ℕ) (v : Bool) → v ≡ false → mark l f ≡ false → mark (set l j v) f ≡ false
-unfolding choose
+mark-stays : (l : List ℕ) (j f v : ℕ) → NoMark v → mark l f ≡ false → mark (set l j v) f ≡ false
+unfolding mark choose
 mark-stays l j f v new old = go (isFrame f) old
   where
-    go : (t : Bool) → choose t (getD l f false) false ≡ false → choose t (getD (set l j v) f false) false ≡ false
-    go true e = set-keeps (λ b. b ≡ false) l j f v false new e
+    go : (t : Bool) → choose t (not (eqb (getD l f 0) 0)) false ≡ false → choose t (not (eqb (getD (set l j v) f 0) 0)) false ≡ false
+    go true e = set-keeps NoMark l j f v 0 new e
     go false e = refl
+
+-- the byte of frame e, which has no mark, moves to h
+mark-moves : (l : List ℕ) (e h f : ℕ) → isFrame e ≡ true → mark l e ≡ false → mark l f ≡ false → mark (set (set l e 0) h (getD l e 0)) f ≡ false
+unfolding mark
+mark-moves l e h f t from old = mark-stays (set l e 0) h f (getD l e 0) (sym (chosen _ _ _ t) ∙ from) (mark-stays l e f 0 refl old)
 
 module _ (p : Pool) (m : Memory) (ok : valid p ≡ true) (off : (f : ℕ) → f < total p → Off m f) where
   -- the frame that an entry names, if it names one
@@ -296,16 +302,16 @@ module _ (p : Pool) (m : Memory) (ok : valid p ≡ true) (off : (f : ℕ) → f 
   unfolding unmarked isFilled isChanged
   unmarked-off h f o =
       by-test (λ (y : Memory). Off y f)
-      (λ _. record { filled = mark-stays (m .filled) h f false refl (o .filled); changed = mark-stays (m .changed) h f false refl (o .changed) })
+      (λ _. record { filled = mark-stays (m .filled) h f 0 refl (o .filled); changed = mark-stays (m .changed) h f 0 refl (o .changed) })
       (λ _. o)
 
   moved-off : (e h f : ℕ) → Off m e → Off m f → Off (moved m e h) f
   unfolding moved isFilled isChanged
   moved-off e h f from o =
       by-test (λ (y : Memory). Off y f)
-      (λ _. record {
-        filled = mark-stays (set (m .filled) e false) h f (isFilled m e) (from .filled) (mark-stays (m .filled) e f false refl (o .filled));
-        changed = mark-stays (set (m .changed) e false) h f (isChanged m e) (from .changed) (mark-stays (m .changed) e f false refl (o .changed));
+      (λ t. let frame = both-first _ _ t in record {
+        filled = mark-moves (m .filled) e h f frame (from .filled) (o .filled);
+        changed = mark-moves (m .changed) e h f frame (from .changed) (o .changed);
       })
       (λ _. o)
 
