@@ -51,8 +51,8 @@ fn blank(pages: u16) -> Memory
     Memory {
         pages,
         bytes: [0; BYTES],
-        filled: [false; FRAMES],
-        changed: [false; FRAMES],
+        filled: [0; FRAMES],
+        changed: [0; FRAMES],
     }
 }
 

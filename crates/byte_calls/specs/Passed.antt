@@ -1,7 +1,7 @@
 -- What a read or write that is not turned down has passed, and what the code puts together of it. Assumes nothing.
 use mathlib.Core.Path.{_≡_, refl, sym, ap, subst, _∙_}
 use mathlib.Core.Logic.{_≢_}
-use mathlib.Core.Bool.{Bool, true, false}
+use mathlib.Core.Bool.{true, false}
 use mathlib.Core.List.{List}
 use Prim.Native.Nat.{ℕ, _*_, _<_}
 use native.Mathlib.Omega.{arith}
@@ -115,7 +115,7 @@ module _ (b : BufferPool) (s : List ℕ) (c g o : ℕ) {n : ℕ} (e : n ≡ refu
   pub turns-write : (v : ℕ) → n ≢ 0 → turnedReply n b ≡ reply (callOn (stateOf b s) (WriteByte c g o v))
   turns-write v z = sym (ap reply (turned (stateOf b s) (WriteByte c g o v) n (sym (alike (stateOf b s) c g o v) ∙ sym e) z))
 
-  module _ (z : n ≡ 0) {f : ℕ} {bytes : List ℕ} {filled : List Bool} (ef : f ≡ heldFrame (b .pool) c g)
+  module _ (z : n ≡ 0) {f : ℕ} {bytes filled : List ℕ} (ef : f ≡ heldFrame (b .pool) c g)
       (eb : bytes ≡ bytesFilled (b .memory .filled) (b .memory .pages) f g (b .memory .bytes) s)
       (em : filled ≡ marksFilled (b .memory .filled) (b .memory .pages) f g) where
     abbrev p : Pool
@@ -140,7 +140,7 @@ module _ (b : BufferPool) (s : List ℕ) (c g o : ℕ) {n : ℕ} (e : n ≡ refu
         ∙ ap (replyWith p (byte (filledFrom m s (heldFrame p c g) g) (heldFrame p c g) o)) full
         ∙ sym (ap reply (goes-on (stateOf b s) (ReadByte c g o) (sym e ∙ z)))
 
-    pub writes : (v : ℕ) {bytes′ : List ℕ} {changed : List Bool} → bytes′ ≡ bytesWritten bytes f o v → changed ≡ marksWritten (m .changed) f o
+    pub writes : (v : ℕ) {bytes′ changed : List ℕ} → bytes′ ≡ bytesWritten bytes f o v → changed ≡ marksWritten (m .changed) f o
         → replyWith p g (record { pages = m .pages; bytes = bytes′; filled = filled; changed = changed }) ≡ reply (callOn (stateOf b s) (WriteByte c g o v))
     unfolding actionOn
     writes v {bytes′} {changed} x y =

@@ -37,8 +37,8 @@ fn outside(pages: u16, page: u32, offset: u32) -> u8
 fn turned_by<'a>(
     pool: Pool,
     pages: u16,
-    filled: &'a [bool; FRAMES],
-    changed: &'a [bool; FRAMES],
+    filled: &'a [u8; FRAMES],
+    changed: &'a [u8; FRAMES],
     lent: usize,
     client: u8,
     page: u32,

@@ -1,7 +1,7 @@
 -- A step of a pool that has bytes, as the code puts it together. Assumes nothing.
 use mathlib.Core.Path.{_≡_, refl, sym, ap, subst, _∙_}
 use mathlib.Core.Logic.{_≢_}
-use mathlib.Core.Bool.{Bool, true, false}
+use mathlib.Core.Bool.{true, false}
 use mathlib.Core.List.{List}
 use Prim.Native.Nat.{ℕ, _*_}
 use lib.ListN.{length}
@@ -77,7 +77,7 @@ module _ (b : BufferPool) (c : ℕ) (t : Tally) (s : List ℕ) where
       write-is : made .write ≡ writeOf p (Step c)
       write-is = ap (λ (y : Made). y .write) em
 
-      memory-is : {bytes : List ℕ} {filled changed : List Bool} → bytes ≡ bytesAfter (m .bytes) e (made .write)
+      memory-is : {bytes filled changed : List ℕ} → bytes ≡ bytesAfter (m .bytes) e (made .write)
           → filled ≡ marksAfter (m .filled) e (made .write) → changed ≡ marksAfter (m .changed) e (made .write)
           → record { pages = m .pages; bytes = bytes; filled = filled; changed = changed } ≡ memoryAfter p m (writeOf p (Step c))
       memory-is eb ef ec = rw (eb, ef, ec, ee) (memory-in-parts p m (made .write)) ∙ ap (memoryAfter p m) write-is
@@ -85,7 +85,7 @@ module _ (b : BufferPool) (c : ℕ) (t : Tally) (s : List ℕ) where
       store-is : {left : List ℕ} → left ≡ storeIn (m .pages) (m .bytes) (m .changed) s e (made .write) → left ≡ storeAfter p m s (writeOf p (Step c))
       store-is es = es ∙ rw ee (store-in-parts p m s (made .write)) ∙ ap (storeAfter p m s) write-is
 
-      pub steps : {bytes : List ℕ} {filled changed : List Bool} {left : List ℕ} {u : Tally}
+      pub steps : {bytes filled changed left : List ℕ} {u : Tally}
           → bytes ≡ bytesAfter (m .bytes) e (made .write) → filled ≡ marksAfter (m .filled) e (made .write)
           → changed ≡ marksAfter (m .changed) e (made .write) → left ≡ storeIn (m .pages) (m .bytes) (m .changed) s e (made .write)
           → u ≡ tallied (made .counted) t
