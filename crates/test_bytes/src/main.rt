@@ -99,8 +99,8 @@ fn print_frame(pool: BufferPool, f: usize)
     let filled = memory.filled;
     let changed = memory.changed;
     io::print_decimal(STDOUT_FILENO, f as u64);
-    print_mark(filled[f]);
-    print_mark(changed[f]);
+    print_mark(filled[f] != 0);
+    print_mark(changed[f] != 0);
     print_page(&bytes, f);
 }
 
