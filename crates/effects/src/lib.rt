@@ -3,7 +3,6 @@
 //
 // `entry` is the frame of the entry that a write to the table replaces, as it was before, or NONE.
 ghost use mathlib.Core.Path.{_≡_};
-ghost use mathlib.Core.Bool.{Bool};
 ghost use Prim.Native.Nat.{_*_, _≤_, _<_};
 ghost use lib.ListN.{length};
 ghost use Rattle.pool.specs.Limits.{maxFrames};
