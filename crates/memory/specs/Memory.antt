@@ -35,7 +35,7 @@ isFrame f = ltb f maxFrames
 unfoldable pub byte : Memory → ℕ → ℕ → ℕ
 byte m f o = choose (isFrame f) (getD (m .bytes) (start f + o) 0) 0
 
--- SPECIFICATION 13.2: whether frame f has a mark, in a list of them. A mark is a byte, and on unless that is 0: what is handed may hold any.
+-- SPECIFICATION 13.2: whether frame f has a mark, of a list of them and of each of the two lists. A mark is a byte, and on unless that is 0.
 unfoldable pub mark : List ℕ → ℕ → Bool
 mark l f = choose (isFrame f) (not (eqb (getD l f 0) 0)) false
 
