@@ -32,11 +32,12 @@ pub record Asks (p : Pool) (call : Call) (k : Client) (taken : ℕ) (grantPages 
   pub «grant_pages» : p .«grant_pages» ≡ grantPages
   pub «grant_frames» : p .«grant_frames» ≡ grantFrames
 
--- what a valid pool gives: its arrays have what its numbers say, a client's numbers are in range, and a pin more fits
+-- what a valid pool gives: its arrays have what its numbers say, a client's numbers are in range, and a pin more fits the frame that it found, where
+-- alone a stage puts one
 pub record Ready (k : Client) (size total : ℕ) (pins′ : List ℕ) : Type 0 where
   pub some-slot : 0 < size
   pub slots : size ≤ maxSize
   pub frames : total ≤ maxFrames
   pub place : k .place < size
   pub busy : k .busy < size
-  pub pins : (f : ℕ) → within pins′ total evicted f ≤ pinned maxPins
+  pub pins : within pins′ total evicted (k .found) ≤ pinned maxPins

@@ -48,5 +48,5 @@ module _ (p : Pool) (v : valid p ≡ true) where
         frames = omega (arith, slots-fit, clients-fit);
         place = place-in c h;
         busy = busy-in c h;
-        pins = pins-fit;
+        pins = pins-fit (client p c .found);
       }

@@ -15,7 +15,7 @@ module _ (to : List ℕ) (i : ℕ) (from : List ℕ) (j : ℕ) where
   copied-length zero = refl
   copied-length (suc n) = length-set (copied n to i from j) (i + n) _ ∙ copied-length n
 
-  copied-out : (n k : ℕ) → ((l : ℕ) → l < n → k ≢ i + l) → getD (copied n to i from j) k 0 ≡ getD to k 0
+  pub copied-out : (n k : ℕ) → ((l : ℕ) → l < n → k ≢ i + l) → getD (copied n to i from j) k 0 ≡ getD to k 0
   unfolding copied
   copied-out zero k out = refl
   copied-out (suc n) k out =

@@ -19,11 +19,15 @@ use Rattle.dispatch.specs.Lends.{Ready}
 use Rattle.dispatch.specs.Ready.{some-client, clients-fit, grants-fit, ready}
 use Rattle.play.specs.Turn.{clientOrFirst, number-in, Turns}
 
--- client k, the one with number c, of a pool of so many slots and clients, with these pins
-pub record Playable (k : Client) (c size count : ℕ) (pins : List ℕ) : Type 0 where
+-- client k of a pool of so many slots and clients, with these pins: what its turn is decided by can be read
+pub record Decidable (k : Client) (size count : ℕ) (pins : List ℕ) : Type 0 where
   pub ready : Ready k size (size + 2 * count) pins
   pub clients : count ≤ maxClients
   pub held : k .held ≤ maxHeld
+
+-- and it is the one with number c, so that the turn can be put into the pool
+pub record Playable (k : Client) (c size count : ℕ) (pins : List ℕ) : Type 0 where
+  pub decidable : Decidable k size count pins
   pub number : c < maxClients
 
 -- the client as it is read where its record stands
@@ -46,9 +50,11 @@ module _ (p : Pool) (call : Call) (v : valid p ≡ true) {c : ℕ} (e : c ≡ cl
   pub playable : Playable (recordAt p c) c (p .size) (clientCount p) (p .pins)
   playable =
       record {
-        ready = rw (← its-record) (ready p v c number-below);
-        clients = clients-fit p v;
-        held = rw (← its-record) (grants-fit p v c number-below);
+        decidable = record {
+          ready = rw (← its-record) (ready p v c number-below);
+          clients = clients-fit p v;
+          held = rw (← its-record) (grants-fit p v c number-below);
+        };
         number = number-small;
       }
 

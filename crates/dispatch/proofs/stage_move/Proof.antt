@@ -10,10 +10,10 @@ use Rattle.dispatch.proofs.stage_move.Statement.{statement}
 use Rattle.dispatch.proofs.stage_move.Tie as tie
 
 stage2-requires : tie.Need-stage2-requires
-stage2-requires c κs = omega (arith, c .byte-at .ensures, c .before .before .pre .pins (c .before .before .args .client .found))
+stage2-requires c κs = omega (arith, c .byte-at .ensures, c .before .before .pre .pins)
 
 stage19-requires : tie.Need-stage19-requires
-stage19-requires c κs = omega (arith, c .byte-at7 .ensures, c .before .before .pre .pins (c .before .before .args .client .found))
+stage19-requires c κs = omega (arith, c .byte-at7 .ensures, c .before .before .pre .pins)
 
 pub stage-move-spec : {M : Type 1} → statement M
 unfolding lookup
