@@ -106,19 +106,39 @@ module _ (bytes words : List ℕ) (c : ℕ) (k : Client) where
   other d n =
       let b : (o : ℕ) → o < perBytes → getD (bytesWith bytes c k) (perBytes * d + o) 0 ≡ getD bytes (perBytes * d + o) 0 = λ o low. other-byte d o n low in
       let w : (o : ℕ) → o < perWords → getD (wordsWith words c k) (perWords * d + o) 0 ≡ getD words (perWords * d + o) 0 = λ o low. other-word d o n low in
-      rw (b 0 (omega arith), b 1 (omega arith), b 2 (omega arith), b 3 (omega arith), b 4 (omega arith), b 5 (omega arith), b 6 (omega arith),
-      b 7 (omega arith), w 0 (omega arith), w 1 (omega arith))
+      rw (
+        b 0 (omega arith),
+        b 1 (omega arith),
+        b 2 (omega arith),
+        b 3 (omega arith),
+        b 4 (omega arith),
+        b 5 (omega arith),
+        b 6 (omega arith),
+        b 7 (omega arith),
+        w 0 (omega arith),
+        w 1 (omega arith),
+      )
 
   module _ (lb : length bytes ≡ bytesLong) (lw : length words ≡ wordsLong) (h : c < maxClients) where
     here : clientFrom (bytesWith bytes c k) (wordsWith words c k) c ≡ k
     unfolding clientFrom bytesWith wordsWith
     here =
         let b : (o : ℕ) → o < perBytes → getD (copied perBytes bytes (perBytes * c) (clientBytes k) 0) (perBytes * c + o) 0 ≡ getD (clientBytes k) (0 + o) 0
-            = λ o low. copied-in bytes (perBytes * c) (clientBytes k) 0 perBytes o (omega arith) low in
+        = λ o low. copied-in bytes (perBytes * c) (clientBytes k) 0 perBytes o (omega arith) low in
         let w : (o : ℕ) → o < perWords → getD (copied perWords words (perWords * c) (clientWords k) 0) (perWords * c + o) 0 ≡ getD (clientWords k) (0 + o) 0
-            = λ o low. copied-in words (perWords * c) (clientWords k) 0 perWords o (omega arith) low in
-        rw (b 0 (omega arith), b 1 (omega arith), b 2 (omega arith), b 3 (omega arith), b 4 (omega arith), b 5 (omega arith), b 6 (omega arith),
-        b 7 (omega arith), w 0 (omega arith), w 1 (omega arith))
+        = λ o low. copied-in words (perWords * c) (clientWords k) 0 perWords o (omega arith) low in
+        rw (
+          b 0 (omega arith),
+          b 1 (omega arith),
+          b 2 (omega arith),
+          b 3 (omega arith),
+          b 4 (omega arith),
+          b 5 (omega arith),
+          b 6 (omega arith),
+          b 7 (omega arith),
+          w 0 (omega arith),
+          w 1 (omega arith),
+        )
 
     -- THE LAW: a record put there is a client replaced
     pub put-back : clientsFrom (bytesWith bytes c k) (wordsWith words c k) ≡ set (clientsFrom bytes words) c k
@@ -135,3 +155,7 @@ module _ (bytes words : List ℕ) (c : ℕ) (k : Client) where
         at d low (no apart) =
             client-from _ _ d low ∙ other d apart
             ∙ sym (getD-set-other (clientsFrom bytes words) c d k no-client apart ∙ client-from bytes words d low)
+
+    -- the same, where each array is known by an equation
+    pub put-as : {b w : List ℕ} → b ≡ bytesWith bytes c k → w ≡ wordsWith words c k → clientsFrom b w ≡ set (clientsFrom bytes words) c k
+    put-as e f = rw (e, f) put-back

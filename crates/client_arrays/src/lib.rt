@@ -20,8 +20,7 @@ pub const ALL_WORDS: usize = CLIENTS * CLIENT_WORDS;
 // That the arrays are as long as their types say: a proof is told this of an array by value alone. It compiles to nothing.
 pub fn long(bytes: [u8; ALL_BYTES], words: [u32; ALL_WORDS])
     ensures { λ _. ⌜ (length bytes ≡ bytesLong) × (length words ≡ wordsLong) ⌝ }
-{
-}
+{}
 
 // Client c.
 pub fn client_at<'a>(bytes: &'a [u8; ALL_BYTES], words: &'a [u32; ALL_WORDS], c: usize) -> Client
@@ -45,7 +44,12 @@ pub fn client_at<'a>(bytes: &'a [u8; ALL_BYTES], words: &'a [u32; ALL_WORDS], c:
 }
 
 // Client c's record, put back.
-pub fn put_client(bytes: &mut [u8; ALL_BYTES], words: &mut [u32; ALL_WORDS], c: usize, client: Client)
+pub fn put_client(
+    bytes: &mut [u8; ALL_BYTES],
+    words: &mut [u32; ALL_WORDS],
+    c: usize,
+    client: Client,
+)
     requires { ⌜ c < maxClients ⌝ }
     ensures { λ _. ⌜ (now (bytes .exit) ≡ bytesWith (now (bytes .entry)) c client)
         × (now (words .exit) ≡ wordsWith (now (words .entry)) c client) ⌝ }
@@ -65,10 +69,7 @@ pub fn put_client(bytes: &mut [u8; ALL_BYTES], words: &mut [u32; ALL_WORDS], c: 
 }
 
 // All of them, for what looks at every client.
-pub fn all_clients<'a>(
-    bytes: &'a [u8; ALL_BYTES],
-    words: &'a [u32; ALL_WORDS],
-) -> [Client; CLIENTS]
+pub fn all_clients<'a>(bytes: &'a [u8; ALL_BYTES], words: &'a [u32; ALL_WORDS]) -> [Client; CLIENTS]
     ensures { λ r. ⌜ r ≡ clientsFrom (now (bytes .entry)) (now (words .entry)) ⌝ }
 {
     let first = client_at(bytes, words, 0);

@@ -41,7 +41,7 @@ none-or-high p call = by-test NoneOrHigh (λ _. high-at p (client p (caller call
 
 -- ---- a client's record put back as it was, and nothing else
 
-unchanged : (p : Pool) (c n : ℕ) → c < clientCount p → apply p c (still (client p c) n) ≡ p
+pub unchanged : (p : Pool) (c n : ℕ) → c < clientCount p → apply p c (still (client p c) n) ≡ p
 unfolding apply slotsAfter pagesAfter pinsAfter countsAfter entryPagesAfter entryFramesAfter handAfter freeAfter lastAfter grantPagesAfter grantFramesAfter
 unchanged p c n h = rw (client-of-pool p c h, set-getD)
 

@@ -31,6 +31,12 @@ poolOf size count cap hand free last slots pages pins counts tablePages tableFra
       «grant_frames» = grantFrames;
     }
 
+-- with other clients that are the same
+pub same-clients : {size count cap hand free last : ℕ} {slots pages pins counts tablePages tableFrames grantPages grantFrames : List ℕ} {l k : List Client}
+    {q : Pool} → l ≡ k → poolOf size count cap hand free last slots pages pins counts tablePages tableFrames k grantPages grantFrames ≡ q
+    → poolOf size count cap hand free last slots pages pins counts tablePages tableFrames l grantPages grantFrames ≡ q
+same-clients e f = rw e f
+
 -- n is the number of the pool's frames
 pub applied : (p : Pool) (c n : ℕ) (m : Move) →
     {hand free last : ℕ} {slots pages pins counts tablePages tableFrames grantPages grantFrames : List ℕ} →
