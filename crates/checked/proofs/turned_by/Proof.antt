@@ -37,7 +37,7 @@ turned-by-requires : tie.Need-turned-by-requires
 turned-by-requires c κs =
     let n = c .before .before .before .before in
     let s = n .before .before in
-    let ok = playable (s .args .t1) (s .args .call) (s .pre) (number-is n) in
+    let ok = playable (s .args .t1) (s .args .call) (s .pre) (number-is n) .decidable in
     (ok .clients, ok .held)
 
 returns : tie.Need-returns
