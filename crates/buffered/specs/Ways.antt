@@ -4,11 +4,11 @@ use mathlib.Core.Logic.{_≢_}
 use mathlib.Core.Bool.{Bool, true, false, true≢false}
 use mathlib.Core.List.{List}
 use native.Mathlib.Decide.{ℕ-discrete}
-use Prim.Native.Nat.{ℕ, _*_, _/_, _≤_}
+use Prim.Native.Nat.{ℕ, _*_, _/_}
 use native.Mathlib.Omega.{arith}
 use lib.Dec.{eqb}
 use lib.ListN.{length}
-use borrow.Author.Tests.{eq-eqb, ne-eqb, leb-true}
+use borrow.Author.Tests.{eq-eqb, ne-eqb}
 use Rattle.pool.specs.Choose.{choose, both, either}
 use Rattle.pool.specs.Valid.{numbersOk, valid}
 use Rattle.pool.specs.Calls.{fresh, noPool, turnedDown, turnedBy, refusal, releaseMove, moveOf, callOf}
@@ -28,7 +28,7 @@ use Rattle.pool.specs.declared.Answer.the-variants.{Done, Refused}
 use Rattle.memory.specs.declared.BufferPool.{BufferPool}
 use Rattle.memory.specs.declared.Memory.{Memory}
 use Rattle.memory.specs.declared.Reply.{Reply}
-use Rattle.memory.specs.Memory.{pageBytes, maxPages, blank, memoryAfter, storeAfter}
+use Rattle.memory.specs.Memory.{pageBytes, blank, memoryAfter, storeAfter}
 use Rattle.memory.specs.Requests.{Request, Asks, ReadByte, WriteByte, State, Result, turnedBack, bytesOk, storeOk, firstOf, outsideAt, byteRefusal}
 use Rattle.memory.specs.Requests.{lengthOk, setupOn, inside, lent, turnedAwayBy, refusalOn, refused, writeOf, actionOn, callOn, stateOf, reply}
 
@@ -220,8 +220,3 @@ module _ (s t c h : ℕ) (store : List ℕ) where
       → record { answer = Done s; pool = record { pool = p; memory = m } } ≡ reply (setupOn s t c h store)
   unfolding setupOn
   sets-up e a b = simp (a, b) (sym (ap reply (chosen _ _ _ e)))
-
--- a store that fits has few pages
-pub few-pages : (n : ℕ) → lengthOk n ≡ true → n / pageBytes ≤ maxPages
-unfolding lengthOk
-few-pages n e = let l = leb-true n (pageBytes * maxPages) (both-true _ _ e .1) in omega (arith, l)

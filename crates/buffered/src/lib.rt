@@ -12,11 +12,10 @@ ghost use Rattle.pool.specs.declared.Call.the-variants.{Begin, Release};
 ghost use Rattle.answers.specs.Among.{Among};
 ghost use Rattle.answers.specs.Refusals.{bySetup, byBeginOn, byRelease};
 ghost use Rattle.memory.specs.Memory.{blank};
-ghost use Rattle.memory.specs.Requests.{Asks, lengthOk, setupOn, firstOf, callOn, stateOf, reply};
+ghost use Rattle.memory.specs.Requests.{Asks, setupOn, firstOf, callOn, stateOf, reply};
 ghost use Rattle.buffered.specs.Ways.{turnedReply};
 use memory::BYTES;
 use memory::BufferPool;
-use memory::MAX_PAGES;
 use memory::Memory;
 use memory::PAGE;
 use memory::Reply;
@@ -37,13 +36,6 @@ pub fn turned_back(n: u8, pool: BufferPool) -> Reply
 
 // ---- setup
 
-// SPECIFICATION 13.1.
-fn length_ok(n: usize) -> bool
-    ensures { λ r. ⌜ r ≡ lengthOk n ⌝ }
-{
-    range_tests::both(n % PAGE == 0, n <= PAGE * MAX_PAGES as usize)
-}
-
 // SPECIFICATION 13.3.
 fn blank(pages: u16) -> Memory
     ensures { λ r. ⌜ r ≡ blank pages ⌝ }
@@ -63,7 +55,7 @@ pub fn setup(size: u8, client_count: u8, cap: u8, hand: u32, store: &[u8]) -> Re
 {
     let length = store.len();
     let numbers = range_tests::numbers_ok(size, client_count, cap);
-    let ok = range_tests::both(numbers, length_ok(length));
+    let ok = range_tests::both(numbers, filling::length_ok(length));
     if !ok {
         let pool = calls::fresh(0, 0, 0, 0);
         let memory = blank(0);

@@ -20,8 +20,8 @@ use Rattle.pool.specs.declared.Pool.{Pool}
 use Rattle.laws.specs.Choices.{by-test}
 use Rattle.laws.specs.Scans.{both-true}
 use Rattle.play.specs.Turn.{is-client}
-use Rattle.memory.specs.Memory.{pageBytes, byte, filledFrom, written}
-use Rattle.memory.specs.Requests.{ReadByte, WriteByte, State, bytesOk, lent, storeOk, firstOf, byteRefusal, turnedAwayBy, refusalOn, heldFrame, actionOn}
+use Rattle.memory.specs.Memory.{pageBytes}
+use Rattle.memory.specs.Requests.{ReadByte, WriteByte, State, bytesOk, lent, storeOk, firstOf, byteRefusal, turnedAwayBy, refusalOn, heldFrame}
 use Rattle.memory.specs.Requests.{callOn, stateOf, reply}
 use Rattle.memory.specs.declared.BufferPool.{BufferPool}
 use Rattle.memory.specs.declared.Memory.{Memory}
@@ -29,7 +29,8 @@ use Rattle.memory.specs.declared.Reply.{Reply}
 use Rattle.pool.specs.Answers.{refusalOf}
 use Rattle.answers.specs.Among.{Among}
 use Rattle.answers.specs.Refusals.{byByte}
-use Rattle.filling.specs.Parts.{bytesFilled, marksFilled, filled-in-parts, byteIn, byte-in, bytesWritten, marksWritten, written-in-parts}
+use Rattle.filling.specs.Parts.{bytesFilled, marksFilled, byteIn, bytesWritten, marksWritten}
+use Rattle.filling.specs.Acting.{low-offset, reads-as, writes-as}
 use Rattle.buffered.specs.Refusals.{read-refusals, write-refusals}
 use Rattle.buffered.specs.Ways.{turnedReply, turned, goes-on, by-store, by-checks, by-turn, first-of, then-of}
 
@@ -49,13 +50,6 @@ neither : (n k : ℕ) → firstOf n k ≡ 0 → (n ≡ 0) × (k ≡ 0)
 unfolding firstOf
 neither n k = by-test (λ (y : ℕ). y ≡ 0 → (n ≡ 0) × (k ≡ 0)) (λ z e. (eqb-true _ _ z, e)) (λ z e. absurd (eqb-false _ _ z e))
 
-low : (n g o : ℕ) → byteRefusal n g o ≡ 0 → o < pageBytes
-unfolding byteRefusal
-low n g o =
-    by-test (λ (y : ℕ). y ≡ 0 → o < pageBytes)
-    (λ _. by-test (λ (y : ℕ). y ≡ 0 → o < pageBytes) (λ l _. ltb-true _ _ l) (λ _ e. let z : ⊥ = omega arith in absurd z))
-    (λ _ e. let z : ⊥ = omega arith in absurd z)
-
 not-8 : (p : Pool) (call : Call) → refusal p call ≡ 0 → (valid p ≡ true) × (turnedBy p call ≡ 0)
 unfolding refusal
 not-8 p call = by-test (λ (y : ℕ). y ≡ 0 → (valid p ≡ true) × (turnedBy p call ≡ 0)) (λ v e. (v, e)) (λ _ e. let z : ⊥ = omega arith in absurd z)
@@ -73,7 +67,7 @@ passed x c g o = by-test (λ (y : ℕ). y ≡ 0 → Passed x c o) go (λ _ e. le
           valid = own .0;
           client = is-client (x .pool) (Release c g) (own .1);
           long = eqb-true _ _ (both-true _ _ t .1);
-          offset = low _ _ _ (none .1);
+          offset = low-offset _ _ _ (none .1);
         }
 
 -- a write is turned down as a read is
@@ -118,37 +112,18 @@ module _ (b : BufferPool) (s : List ℕ) (c g o : ℕ) {n : ℕ} (e : n ≡ refu
   module _ (z : n ≡ 0) {f : ℕ} {bytes filled : List ℕ} (ef : f ≡ heldFrame (b .pool) c g)
       (eb : bytes ≡ bytesFilled (b .memory .filled) (b .memory .pages) f g (b .memory .bytes) s)
       (em : filled ≡ marksFilled (b .memory .filled) (b .memory .pages) f g) where
-    abbrev p : Pool
-    p = b .pool
+    pub reads : {v : ℕ} → v ≡ byteIn bytes f o
+        → replyWith (b .pool) v (record { pages = b .memory .pages; bytes = bytes; filled = filled; changed = b .memory .changed })
+        ≡ reply (callOn (stateOf b s) (ReadByte c g o))
+    reads ev = ap reply (reads-as (stateOf b s) c g o ef eb em ev ∙ sym (goes-on (stateOf b s) (ReadByte c g o) (sym e ∙ z)))
 
-    abbrev m : Memory
-    m = b .memory
-
-    -- the memory with the frame filled
-    abbrev now : Memory
-    now = record { pages = m .pages; bytes = bytes; filled = filled; changed = m .changed }
-
-    full : now ≡ filledFrom m s (heldFrame p c g) g
-    full = rw (eb, em) (filled-in-parts m s f g) ∙ ap (λ (h : ℕ). filledFrom m s h g) ef
-
-    pub reads : {v : ℕ} → v ≡ byteIn bytes f o → replyWith p v now ≡ reply (callOn (stateOf b s) (ReadByte c g o))
-    unfolding actionOn
-    reads {v} ev =
-        let it : v ≡ byte (filledFrom m s (heldFrame p c g) g) (heldFrame p c g) o =
-        ev ∙ byte-in now f o ∙ ap (λ (k : Memory). byte k f o) full ∙ ap (λ (h : ℕ). byte (filledFrom m s (heldFrame p c g) g) h o) ef in
-        ap (λ (y : ℕ). replyWith p y now) it
-        ∙ ap (replyWith p (byte (filledFrom m s (heldFrame p c g) g) (heldFrame p c g) o)) full
-        ∙ sym (ap reply (goes-on (stateOf b s) (ReadByte c g o) (sym e ∙ z)))
-
-    pub writes : (v : ℕ) {bytes′ changed : List ℕ} → bytes′ ≡ bytesWritten bytes f o v → changed ≡ marksWritten (m .changed) f o
-        → replyWith p g (record { pages = m .pages; bytes = bytes′; filled = filled; changed = changed }) ≡ reply (callOn (stateOf b s) (WriteByte c g o v))
-    unfolding actionOn
-    writes v {bytes′} {changed} x y =
-        let it : record { pages = m .pages; bytes = bytes′; filled = filled; changed = changed } ≡ written now f o v = rw (x, y) (written-in-parts now f o v) in
-        ap (replyWith p g) it
-        ∙ ap (λ (k : Memory). replyWith p g (written k f o v)) full
-        ∙ ap (λ (h : ℕ). replyWith p g (written (filledFrom m s (heldFrame p c g) g) h o v)) ef
-        ∙ sym (ap reply (goes-on (stateOf b s) (WriteByte c g o v) (sym (alike (stateOf b s) c g o v) ∙ sym e ∙ z)))
+    pub writes : (v : ℕ) {bytes′ changed : List ℕ} → bytes′ ≡ bytesWritten bytes f o v → changed ≡ marksWritten (b .memory .changed) f o
+        → replyWith (b .pool) g (record { pages = b .memory .pages; bytes = bytes′; filled = filled; changed = changed })
+        ≡ reply (callOn (stateOf b s) (WriteByte c g o v))
+    writes v x y =
+        ap reply
+        (writes-as (stateOf b s) c g o ef eb em v x y
+        ∙ sym (goes-on (stateOf b s) (WriteByte c g o v) (sym (alike (stateOf b s) c g o v) ∙ sym e ∙ z)))
 
 -- ---- by which numbers they are refused
 

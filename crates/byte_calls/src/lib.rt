@@ -11,7 +11,7 @@ ghost use Rattle.pool.specs.State.{clientCount};
 ghost use Rattle.pool.specs.Valid.{valid};
 ghost use Rattle.answers.specs.Among.{Among};
 ghost use Rattle.answers.specs.Refusals.{byByte};
-ghost use Rattle.memory.specs.Requests.{ReadByte, WriteByte, byteRefusal, refusalOn, heldFrame, callOn, stateOf, reply};
+ghost use Rattle.memory.specs.Requests.{ReadByte, WriteByte, refusalOn, heldFrame, callOn, stateOf, reply};
 ghost use Rattle.memory.specs.declared.Memory.{Memory as MemoryOf};
 ghost use Rattle.byte_calls.specs.Passed.{stateWith};
 use memory::BufferPool;
@@ -22,16 +22,6 @@ use pool::Answer;
 use pool::Call;
 use pool::FRAMES;
 use pool::Pool;
-
-// Refusals 16 and 17.
-fn outside(pages: u16, page: u32, offset: u32) -> u8
-    ensures { λ r. ⌜ r ≡ byteRefusal pages page offset ⌝ }
-{
-    if page >= pages as u32 {
-        return 16;
-    }
-    if offset < PAGE as u32 { 0 } else { 17 }
-}
 
 // By which number a read is turned down, and so a write: of a pool with these marks, lent a store of so many bytes.
 fn turned_by<'a>(
@@ -58,7 +48,7 @@ fn turned_by<'a>(
     if n != 0 {
         return n;
     }
-    outside(pages, page, offset)
+    filling::outside(pages, page, offset)
 }
 
 // The frame of the client's first grant of a page.

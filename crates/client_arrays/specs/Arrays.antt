@@ -12,7 +12,7 @@ use Rattle.pool.specs.Limits.{maxClients}
 use Rattle.pool.specs.State.{no-client}
 use Rattle.pool.specs.declared.Client.{Client}
 use Rattle.memory.specs.Memory.{copied}
-use Rattle.memory.specs.Copying.{copied-in, copied-out}
+use Rattle.memory.specs.Copying.{copied-length, copied-in, copied-out}
 
 -- ---- the numbers of one client
 
@@ -101,7 +101,7 @@ module _ (bytes words : List ℕ) (c : ℕ) (k : Client) where
   unfolding wordsWith
   other-word d o apart low = copied-out words (perWords * c) (clientWords k) 0 perWords (perWords * d + o) (λ l b e. apart (omega arith))
 
-  other : (d : ℕ) → d ≢ c → clientFrom (bytesWith bytes c k) (wordsWith words c k) d ≡ clientFrom bytes words d
+  pub other : (d : ℕ) → d ≢ c → clientFrom (bytesWith bytes c k) (wordsWith words c k) d ≡ clientFrom bytes words d
   unfolding clientFrom
   other d n =
       let b : (o : ℕ) → o < perBytes → getD (bytesWith bytes c k) (perBytes * d + o) 0 ≡ getD bytes (perBytes * d + o) 0 = λ o low. other-byte d o n low in
@@ -119,8 +119,16 @@ module _ (bytes words : List ℕ) (c : ℕ) (k : Client) where
         w 1 (omega arith),
       )
 
+  pub bytes-stay : length (bytesWith bytes c k) ≡ length bytes
+  unfolding bytesWith
+  bytes-stay = copied-length bytes (perBytes * c) (clientBytes k) 0 perBytes
+
+  pub words-stay : length (wordsWith words c k) ≡ length words
+  unfolding wordsWith
+  words-stay = copied-length words (perWords * c) (clientWords k) 0 perWords
+
   module _ (lb : length bytes ≡ bytesLong) (lw : length words ≡ wordsLong) (h : c < maxClients) where
-    here : clientFrom (bytesWith bytes c k) (wordsWith words c k) c ≡ k
+    pub here : clientFrom (bytesWith bytes c k) (wordsWith words c k) c ≡ k
     unfolding clientFrom bytesWith wordsWith
     here =
         let b : (o : ℕ) → o < perBytes → getD (copied perBytes bytes (perBytes * c) (clientBytes k) 0) (perBytes * c + o) 0 ≡ getD (clientBytes k) (0 + o) 0

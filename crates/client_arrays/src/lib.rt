@@ -2,8 +2,9 @@
 // to such a program's calls (SPECIFICATION 14.2). Internal.
 ghost use mathlib.Core.Path.{_≡_};
 ghost use Prim.Native.Nat.{_<_};
-ghost use lib.ListN.{length};
+ghost use lib.ListN.{length, replicate};
 ghost use Rattle.pool.specs.Limits.{maxClients};
+ghost use Rattle.pool.specs.State.{resting};
 ghost use Rattle.client_arrays.specs.Arrays.{bytesLong, wordsLong, clientFrom, clientsFrom, bytesWith, wordsWith};
 use pool::CLIENTS;
 use pool::Client;
@@ -79,4 +80,15 @@ pub fn all_clients<'a>(bytes: &'a [u8; ALL_BYTES], words: &'a [u32; ALL_WORDS]) 
         clients[c] = client;
     }
     clients
+}
+
+// Every client at rest without grants, as a setup leaves them.
+pub fn rest_all(bytes: &mut [u8; ALL_BYTES], words: &mut [u32; ALL_WORDS])
+    ensures { λ _. ⌜ clientsFrom (now (bytes .exit)) (now (words .exit)) ≡ replicate maxClients (resting 0) ⌝ }
+{
+    long(*bytes, *words);
+    let resting = moves::resting(0);
+    for c in 0..CLIENTS {
+        put_client(bytes, words, c, resting);
+    }
 }

@@ -4,6 +4,7 @@ use mathlib.Core.Bool.{Bool, not}
 use mathlib.Core.List.{List}
 use Prim.Native.Nat.{ℕ, _+_, _*_}
 use lib.Dec.{eqb, ltb, leb}
+use lib.ListN.{length}
 use Rattle.pool.specs.Limits.{maxClients, maxHeld, maxPins}
 use Rattle.pool.specs.Choose.{choose, both, either, every}
 use Rattle.pool.specs.State.{none, pinned, clientCount, pins, client}
@@ -13,15 +14,16 @@ use Rattle.pool.specs.Calls.{caller, turnedBy, moveOf}
 use Rattle.pool.specs.declared.Answer.{Answer}
 use Rattle.pool.specs.declared.Answer.the-variants.{Refused}
 use Rattle.pool.specs.declared.Call.{Call}
-use Rattle.pool.specs.declared.Call.the-variants.{Release}
+use Rattle.pool.specs.declared.Call.the-variants.{Step, Release}
 use Rattle.pool.specs.declared.Client.{Client}
 use Rattle.pool.specs.declared.Counted.{Counted}
 use Rattle.pool.specs.declared.Counted.the-variants.{Nothing}
 use Rattle.pool.specs.declared.Pool.{Pool}
 use Rattle.pool.specs.declared.Write.{Write}
 use Rattle.pool.specs.declared.Write.the-variants.{Keep, PutSlot, PutPins, PutCount, TakeFrame, PutEntry, PutHand, PutFree}
-use Rattle.memory.specs.Memory.{isFrame, memoryAfter, storeAfter}
+use Rattle.memory.specs.Memory.{pageBytes, isFrame, memoryAfter, storeAfter}
 use Rattle.memory.specs.Requests.{Request, Asks, ReadByte, WriteByte, State, Result, turnedBack, storeOk, firstOf, outsideAt, byteRefusal, actionOn}
+use Rattle.effects.specs.Parts.{replacedOf}
 use Rattle.play.specs.Parts.{poolOf}
 use Rattle.client_arrays.specs.Arrays.{clientsFrom}
 
@@ -101,22 +103,35 @@ unfoldable pub holderFits : Pool → ℕ → Bool
 holderFits p c = both (leb (clientCount p) maxClients) (leb (client p c .held) maxHeld)
 
 -- SPECIFICATION 14.4, 14.6: by which number a read or write of page g at offset o by client c is turned down; 0 for none
-unfoldable pub byteHeldRefusal : State → Request → ℕ → ℕ → ℕ → ℕ
-byteHeldRefusal x r c g o =
-    choose (both (storeOk x r) (holderFits (x .pool) c)) (firstOf (turnedBy (x .pool) (Release c g)) (byteRefusal (x .memory .pages) g o)) 8
-
-abbrev pub byteHeld : State → Request → ℕ → ℕ → ℕ → Result
-byteHeld x r c g o = let n = byteHeldRefusal x r c g o in let done = actionOn x r in choose (eqb n 0) done (turnedBack n x)
+unfoldable pub byteHeldRefusal : State → ℕ → ℕ → ℕ → ℕ
+byteHeldRefusal x c g o =
+    choose (both (eqb (length (x .store)) (pageBytes * x .memory .pages)) (holderFits (x .pool) c))
+    (firstOf (turnedBy (x .pool) (Release c g)) (byteRefusal (x .memory .pages) g o)) 8
 
 -- what a call leaves of pool, memory and store
 abbrev pub heldState : State → Held → State
 heldState x h =
     record { pool = h .pool; memory = memoryAfter (x .pool) (x .memory) (h .write); store = storeAfter (x .pool) (x .memory) (x .store) (h .write) }
 
+-- a read or write that is turned down by n, or not
+abbrev pub byteHeld : State → Request → ℕ → Result
+byteHeld x r n = let done = actionOn x r in choose (eqb n 0) done (turnedBack n x)
+
 -- SPECIFICATION 14.4 to 14.6: a call in place
 unfoldable pub heldOn : State → Request → Result
 heldOn x (Asks call) =
     let h = heldOf (x .pool) (x .memory .pages) call in
     choose (storeOk x (Asks call)) (record { answer = h .answer; counted = h .counted; state = heldState x h }) (turnedBack 8 x)
-heldOn x (ReadByte c g o) = byteHeld x (ReadByte c g o) c g o
-heldOn x (WriteByte c g o v) = byteHeld x (WriteByte c g o v) c g o
+heldOn x (ReadByte c g o) = byteHeld x (ReadByte c g o) (byteHeldRefusal x c g o)
+heldOn x (WriteByte c g o v) = byteHeld x (WriteByte c g o v) (byteHeldRefusal x c g o)
+
+-- SPECIFICATION 14.7: what a step of client c tells
+unfoldable pub dutyOn : State → ℕ → ℕ
+dutyOn x c =
+    let w = heldOf (x .pool) (x .memory .pages) (Step c) .write in
+    choose (storeOk x (Asks (Step c))) (dutyOf (replacedOf (x .pool) w) w) 0
+
+-- SPECIFICATION 14.1: the state of a pool with these bytes, marks and store
+abbrev pub stateFrom : Pool → ℕ → List ℕ → List ℕ → List ℕ → List ℕ → State
+stateFrom p pages bytes filled changed store =
+    record { pool = p; memory = record { pages = pages; bytes = bytes; filled = filled; changed = changed }; store = store }

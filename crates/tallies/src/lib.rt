@@ -5,7 +5,7 @@ use pool::Counted;
 use pool::Tally;
 
 // SPECIFICATION 7.1. A count that went on past its largest value would start again from 0.
-fn up(n: u32) -> u32
+pub fn up(n: u32) -> u32
     ensures { λ r. ⌜ r ≡ up n ⌝ }
 {
     if n < 4294967295 { n + 1 } else { n }

@@ -11,7 +11,8 @@ use Rattle.pool.specs.Valid.{numbersOk}
 use Rattle.laws.specs.Choices.{both-are}
 use Rattle.laws.specs.Scans.{both-true}
 use Rattle.memory.specs.Requests.{lengthOk, setupOn}
-use Rattle.buffered.specs.Ways.{sets-up, sets-up-not, few-pages}
+use Rattle.filling.specs.Acting.{few-pages}
+use Rattle.buffered.specs.Ways.{sets-up, sets-up-not}
 use Rattle.buffered.specs.Refusals.{setup-refusals, sets}
 use Rattle.buffered.proofs.setup.Statement.{statement}
 use Rattle.buffered.proofs.setup.Tie as tie

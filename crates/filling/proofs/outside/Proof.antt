@@ -4,8 +4,8 @@ use borrow.Author.Tests.{lt-ltb, le-ltb}
 use mathlib.Core.Path.{sym, _∙_}
 use Rattle.laws.specs.Choices.{chosen, passed}
 use Rattle.memory.specs.Requests.{byteRefusal}
-use Rattle.byte_calls.proofs.outside.Statement.{statement}
-use Rattle.byte_calls.proofs.outside.Tie as tie
+use Rattle.filling.proofs.outside.Statement.{statement}
+use Rattle.filling.proofs.outside.Tie as tie
 
 returns : tie.Need-returns
 unfolding byteRefusal
