@@ -67,7 +67,7 @@ move-refusal p (Release c g) = by-test (λ (m : Move). MoveRefusal (refusalOf (m
 -- ---- what the turn of a call wrote
 
 -- a move that is refused writes nothing
-data Wrote (m : Move) : Type 0 where
+pub data Wrote (m : Move) : Type 0 where
   answers : refused (m .answer) ≡ false → Wrote m
   nothing : m .write ≡ Keep → Wrote m
 
@@ -78,7 +78,7 @@ stage-wrote (grants f g e a n) = answers (ap refused a)
 stage-wrote (refuses e) = nothing (ap (λ (m : Move). m .write) e)
 stage-wrote (sticks e) = nothing (ap (λ (m : Move). m .write) e)
 
-move-wrote : (p : Pool) (call : Call) → Wrote (moveOf p call)
+pub move-wrote : (p : Pool) (call : Call) → Wrote (moveOf p call)
 unfolding moveOf releaseMove refused refusalOf
 move-wrote p (Begin c g) = answers refl
 move-wrote p (Step c) = stage-wrote (stage-answer p (client p c))
@@ -89,7 +89,7 @@ unfolding choose
 either-way true = refl
 either-way false = refl
 
-turn-wrote : (p : Pool) (call : Call) → choose (refused (turn p call .answer)) Keep (moveOf p call .write) ≡ turn p call .write
+pub turn-wrote : (p : Pool) (call : Call) → choose (refused (turn p call .answer)) Keep (moveOf p call .write) ≡ turn p call .write
 unfolding refused choose
 turn-wrote p call = go (ℕ-discrete (turnedBy p call) 0)
   where

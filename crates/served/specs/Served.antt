@@ -33,6 +33,8 @@ use Rattle.holding.specs.declared.Holder.{Holder}
 use Rattle.in_place.specs.Held.{Held, heldOf, byteHeldRefusal, byteHeld, heldOn, heldState, dutyOf, dutyOn, stateFrom}
 use Rattle.in_place.specs.Acts.{ActsTo}
 use Rattle.in_place.specs.declared.Acted.{Acted}
+use Rattle.listing.specs.Listed.{HeldRows}
+use Rattle.whole_check.specs.Checked.{checkedOf}
 use Rattle.play.specs.Parts.{poolOf}
 use Rattle.served.specs.Words.{wordOf}
 
@@ -54,6 +56,14 @@ StepsTo c r t u d x y =
 -- a read or write from state x answers r and leaves state y
 abbrev pub BytesTo : Request → ℕ → State → State → Type 0
 BytesTo q r x y = let h = heldOn x q in (r ≡ wordOf (h .answer)) × (y ≡ h .state)
+
+-- holdings answer r and leave the numbers u
+abbrev pub ListsTo : HeldRows → ℕ → List ℕ → Type 0
+ListsTo h r u = (r ≡ wordOf (h .answer)) × (u ≡ h .numbers)
+
+-- the whole check 8 of a state
+abbrev pub checkedState : State → Answer
+checkedState x = checkedOf (x .pool) (x .memory) (x .store)
 
 -- a pool with other clients
 abbrev pub withClients : Pool → List Client → Pool

@@ -5,14 +5,17 @@ ghost use mathlib.Core.Path.{_≡_};
 ghost use mathlib.Core.List.{List};
 ghost use Prim.Native.Nat.{ℕ};
 ghost use lib.ListN.{length};
+ghost use Rattle.pool.specs.State.{clientCount};
 ghost use Rattle.pool.specs.declared.Call.the-variants.{Begin, Release};
 ghost use Rattle.pool.specs.declared.Pool.{Pool};
 ghost use Rattle.memory.specs.Requests.{ReadByte, WriteByte};
 ghost use Rattle.counting.specs.Counts.{tallyFrom};
+ghost use Rattle.client_arrays.specs.Arrays.{clientsFrom};
 ghost use Rattle.holding.specs.Holds.{Keeps};
+ghost use Rattle.listing.specs.Listed.{heldListing};
 ghost use Rattle.in_place.specs.Held.{poolFrom, heldOf, stateFrom};
 ghost use Rattle.served.specs.Words.{wordOf};
-ghost use Rattle.served.specs.Served.{SetsUp, CallsTo, StepsTo, BytesTo};
+ghost use Rattle.served.specs.Served.{SetsUp, CallsTo, StepsTo, BytesTo, ListsTo, checkedState};
 use client_arrays::ALL_BYTES;
 use client_arrays::ALL_WORDS;
 use counting::COUNTS;
@@ -378,4 +381,84 @@ pub extern "C" fn foqheran_parts_write<'a>(
     filling::fill(bytes, filled, store, store_pages, frame, page);
     filling::put_byte(bytes, changed, frame, offset, byte);
     word(Answer::Done(page))
+}
+
+// SPECIFICATION 8.2, 14.6: of every pool whose clients and grants lie there.
+#[no_mangle]
+pub extern "C" fn foqheran_parts_holdings<'a>(
+    client: u8,
+    rows: &mut [u32],
+    client_count: u8,
+    client_bytes: &'a [u8; ALL_BYTES],
+    client_words: &'a [u32; ALL_WORDS],
+    grant_pages: &'a [u32; GRANTS],
+) -> u64
+    ensures { λ r. ⌜ ((p : Pool) →
+        clientCount p ≡ «client_count» → p .clients ≡ clientsFrom (now («client_bytes» .entry)) (now («client_words» .entry)) →
+        p .«grant_pages» ≡ now («grant_pages» .entry) →
+        ListsTo (heldListing p client (now (rows .entry))) r (now (rows .exit))) ⌝ }
+{
+    let answer = listing::holdings(
+        client,
+        rows,
+        client_count,
+        client_bytes,
+        client_words,
+        grant_pages,
+    );
+    word(answer)
+}
+
+// SPECIFICATION 13.11, 14.8: the whole check 8, whatever the hand and the bytes are.
+#[no_mangle]
+pub extern "C" fn foqheran_parts_check<'a>(
+    store: &'a [u8],
+    store_pages: u16,
+    filled: &'a [u8; FRAMES],
+    changed: &'a [u8; FRAMES],
+    size: u8,
+    client_count: u8,
+    cap: u8,
+    free: u8,
+    last: u8,
+    slots: &'a [u8; SLOTS],
+    pages: &'a [u32; FRAMES],
+    pins: &'a [u8; FRAMES],
+    counts: &'a [u8; FRAMES],
+    table_pages: &'a [u32; FRAMES],
+    table_frames: &'a [u8; FRAMES],
+    client_bytes: &'a [u8; ALL_BYTES],
+    client_words: &'a [u32; ALL_WORDS],
+    grant_pages: &'a [u32; GRANTS],
+    grant_frames: &'a [u8; GRANTS],
+) -> u64
+    ensures { λ r. ⌜ ((hand : ℕ) (bytes : List ℕ) → r ≡ wordOf (checkedState
+        (stateFrom
+        (poolFrom size «client_count» cap hand free last (now (slots .entry)) (now (pages .entry)) (now (pins .entry)) (now (counts .entry))
+        (now («table_pages» .entry)) (now («table_frames» .entry)) (now («client_bytes» .entry)) (now («client_words» .entry))
+        (now («grant_pages» .entry)) (now («grant_frames» .entry)))
+        «store_pages» bytes (now (filled .entry)) (now (changed .entry)) (now (store .entry))))) ⌝ }
+{
+    let answer = whole_check::check_in_place(
+        store.len(),
+        store_pages,
+        filled,
+        changed,
+        size,
+        client_count,
+        cap,
+        free,
+        last,
+        slots,
+        pages,
+        pins,
+        counts,
+        table_pages,
+        table_frames,
+        client_bytes,
+        client_words,
+        grant_pages,
+        grant_frames,
+    );
+    word(answer)
 }
