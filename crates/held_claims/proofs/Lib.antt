@@ -1,0 +1,4 @@
+pub mod Same
+pub mod Eight
+pub mod Duty
+pub mod Claimed

@@ -1,0 +1,42 @@
+-- What is claimed of calls in place (SPECIFICATION, section 14), of every state: beside the specification's calls, at refusal 8, and of what a step tells
+-- the owner of larger pages. Statements only. Assumes nothing.
+use mathlib.Core.Path.{_≡_}
+use mathlib.Core.Logic.{_≢_}
+use mathlib.Core.Bool.{true, false}
+use Prim.Native.Nat.{ℕ}
+use Rattle.pool.specs.State.{page, client}
+use Rattle.pool.specs.declared.Answer.the-variants.{Refused}
+use Rattle.pool.specs.declared.Client.{Client}
+use Rattle.pool.specs.declared.Call.the-variants.{Step}
+use Rattle.pool.specs.declared.Counted.the-variants.{Nothing}
+use Rattle.memory.specs.Requests.{Request, Asks, State, refused, callOn}
+use Rattle.mixed.specs.Mixed.{Removes, Remaps}
+use Rattle.in_place.specs.Held.{heldOn, dutyWord, dutyOn}
+
+-- GUARANTEE 20, SPECIFICATION 14.9: wherever the whole check 8, made before and after the action, does not refuse the call, the call in place is the
+-- specification's: answer, count, pool, bytes, marks and store
+abbrev pub Claim-same : Type 0
+Claim-same = (x : State) (r : Request) → callOn x r .answer ≢ Refused 8 → heldOn x r ≡ callOn x r
+
+-- GUARANTEE 21, SPECIFICATION 14.4: refused by 8, a call in place changes nothing and counts nothing
+abbrev pub Claim-eight : Type 0
+Claim-eight = (x : State) (r : Request) → heldOn x r .answer ≡ Refused 8 → (heldOn x r .state ≡ x) × (heldOn x r .counted ≡ Nothing)
+
+-- what a step of client k tells, by its stage
+pub record Tells (x : State) (k : Client) (duty : ℕ) : Type 0 where
+  pub writes-back : Removes x k → duty ≡ dutyWord 1 (k .victim) (page (x .pool) (k .victim))
+  pub moves : Remaps x k → duty ≡ dutyWord 2 (k .found) (k .own)
+  pub nothing : (Removes x k → ⊥) → (Remaps x k → ⊥) → duty ≡ 0
+
+-- GUARANTEE 22, SPECIFICATION 14.7: exactly in the action of a 17 that removes its victim's entry the victim's content goes back, and exactly in that of a 22
+-- that replaces an entry it moves; a step that is refused tells nothing
+abbrev pub Claim-duty : Type 0
+Claim-duty =
+    (x : State) (c : ℕ) → callOn x (Asks (Step c)) .answer ≢ Refused 8
+    → (refused (callOn x (Asks (Step c)) .answer) ≡ false → Tells x (client (x .pool) c) (dutyOn x c))
+    × (refused (callOn x (Asks (Step c)) .answer) ≡ true → dutyOn x c ≡ 0)
+
+pub record HeldClaims : Type 0 where
+  pub same : Claim-same
+  pub eight : Claim-eight
+  pub duty : Claim-duty
