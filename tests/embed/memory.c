@@ -11,7 +11,7 @@
 #include <stdlib.h>
 #include <string.h>
 
-enum { GUARD = 64, STORE_PAGES = 40, ROW_NUMBERS = 2 * FOQHERAN_MOST_GRANTS };
+enum { GUARD = 256, STORE_PAGES = 40, ROW_NUMBERS = 2 * FOQHERAN_MOST_GRANTS };
 
 // Everything that is lent, as X(type, name, how many). Wider types come first, so that there are no gaps.
 #define PARTS(X) \
@@ -91,6 +91,16 @@ static uint32_t mostly_below(uint32_t bound, uint32_t largest)
 }
 
 // ---- memory to be called on
+
+// A guard byte is an empty slot, an evicted frame, a frame without pins, or anything: what a call that goes astray
+// might go on with.
+static void set_guards(void)
+{
+    static const uint8_t tempting[] = {255, 0, 1};
+    for (size_t i = 0; i < sizeof now; i++) {
+        ((uint8_t *)&now)[i] = once_in(4) ? (uint8_t)random_number() : tempting[below(sizeof tempting)];
+    }
+}
 
 static void randomize(void *to, size_t length)
 {
@@ -497,7 +507,7 @@ int main(int argument_count, char **arguments)
     }
     unsigned long calls = strtoul(arguments[1], NULL, 10);
     state = strtoul(arguments[2], NULL, 10) * 2 + 88172645463325253u; // not 0
-    memset(&now, 0x5a, sizeof now);
+    set_guards();
     while (made < calls) {
         start_anew();
         for (uint32_t more = 8 + below(120); more > 0; more--) {

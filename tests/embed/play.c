@@ -24,6 +24,48 @@ static uint32_t number_at(size_t at)
            (uint32_t)file[at + 3] << 24;
 }
 
+// ---- what is tested besides the answers
+
+static void must(int holds, const char *what)
+{
+    if (!holds) {
+        fprintf(stderr, "play: %s\n", what);
+        exit(1);
+    }
+}
+
+// What the table's places tell of a step: an entry that is gone is a page to write back, one with another frame a move.
+static foqheran_duty duty_told(const uint8_t *frames_before)
+{
+    for (size_t i = 0; i < FOQHERAN_MOST_FRAMES; i++) {
+        uint64_t from = frames_before[i], to = pool.table_frames[i];
+        if (from != to && from != 255) {
+            return to == 255 ? (uint64_t)FOQHERAN_WRITE_BACK << 40 | from << 32 | pool.table_pages[i]
+                             : (uint64_t)FOQHERAN_MOVE << 40 | from << 32 | to;
+        }
+    }
+    return FOQHERAN_NOTHING;
+}
+
+static foqheran_answer stepped(uint8_t client, struct foqheran_tally *tally, uint8_t *store, size_t length)
+{
+    uint8_t frames_before[FOQHERAN_MOST_FRAMES];
+    foqheran_duty duty = 1;
+    memcpy(frames_before, pool.table_frames, sizeof frames_before);
+    foqheran_answer answer = foqheran_step(&pool, client, tally, &duty, store, length);
+    must(duty == duty_told(frames_before), "a step tells of another duty than it left");
+    return answer;
+}
+
+// Check 8 passes on every pool of a run, as long as the store is as long as it was.
+static void check(const uint8_t *store, size_t length)
+{
+    foqheran_answer answer = foqheran_check(&pool, store, length);
+    int fits = length == (size_t)FOQHERAN_PAGE_BYTES * pool.store_pages;
+    must(fits ? foqheran_is_done(answer) && foqheran_value(answer) == pool.size : foqheran_refusal(answer) == 8,
+         "the check is answered wrong");
+}
+
 // ---- a schedule
 
 enum { SETUP, BEGIN, STEP, RELEASE };
@@ -59,7 +101,7 @@ static foqheran_answer called(size_t at)
     case BEGIN:
         return foqheran_begin(&pool, client, number_at(at + 4));
     case STEP:
-        return foqheran_step(&pool, client, NULL, NULL, NULL, 0);
+        return stepped(client, NULL, NULL, 0);
     default:
         return foqheran_release(&pool, client, number_at(at + 4));
     }
@@ -80,6 +122,7 @@ static void play_schedule(void)
         if (ends) {
             return;
         }
+        check(NULL, 0);
         at += at == 0 ? 10 : 8;
     }
 }
@@ -129,7 +172,7 @@ static uint32_t print_list(uint8_t client, size_t room)
     return foqheran_value(answer);
 }
 
-// Bytes and marks are told by no call, so a test has to look at the pool's fields.
+// No call tells of bytes and marks as they stand, so a test has to look at the pool's fields.
 static void dump(void)
 {
     for (size_t f = 0; f < foqheran_frames(pool.size, pool.client_count); f++) {
@@ -175,7 +218,7 @@ static void play_line(struct line line)
         print_answer(foqheran_begin(&pool, line.client, line.page));
         break;
     case STEP:
-        print_answer(foqheran_step(&pool, line.client, &tally, NULL, space, lent));
+        print_answer(stepped(line.client, &tally, space, lent));
         break;
     case RELEASE:
         print_answer(foqheran_release(&pool, line.client, line.page));
@@ -190,6 +233,7 @@ static void play_line(struct line line)
         lend(line.page);
         break;
     case DUMP:
+        check(space, lent);
         dump();
         break;
     case TALLY:
@@ -238,6 +282,10 @@ int main(int count, char **words)
     }
     file_length = fread(file, 1, sizeof file, in);
     fclose(in);
+    if (file_length == sizeof file) {
+        fprintf(stderr, "play: the file is too long\n");
+        return 2;
+    }
     memset(&pool, 0xaa, sizeof pool); // the setup has to set every part
     if (schedule) {
         play_schedule();
