@@ -86,8 +86,9 @@ def fetch(compilers):
         return
     print("%s missing; installing gcc, g++, clang and cargo" % ", ".join(missing), file=sys.stderr)
     quiet = dict(os.environ, DEBIAN_FRONTEND="noninteractive")
+    apt = shutil.which("apt-get") or "false"
     for command in (["update", "-qq"], ["install", "-y", "-qq", "gcc", "g++", "clang", "cargo"]):
-        if subprocess.run(["apt-get", *command], env=quiet, stdout=sys.stderr).returncode:
+        if subprocess.run([apt, *command], env=quiet, stdout=sys.stderr).returncode:
             raise Failed("%s could not be installed" % ", ".join(missing))
 
 
