@@ -24,7 +24,6 @@
 #include <sched.h>
 #include <stdio.h>
 #include <stdlib.h>
-#include <string.h>
 #include <unistd.h>
 
 enum { PAGE_BYTES = 4096, ITEMS = PAGE_BYTES / 4 - 2, MOST_PAGES = 1000, CAP = 3, TICKS_A_VISIT = 4, MOST_HELD = 2 };
@@ -34,6 +33,11 @@ struct page {
     uint32_t number;
     uint32_t sum;
     uint32_t counts[ITEMS];
+};
+
+struct buffer {
+    struct page page;
+    int loaded, dirty;
 };
 
 static_assert(sizeof(struct page) == PAGE_BYTES, "a page in a buffer is a page in the file");
@@ -49,10 +53,7 @@ static pthread_mutex_t lock = PTHREAD_MUTEX_INITIALIZER;
 static pthread_cond_t page_loaded = PTHREAD_COND_INITIALIZER;
 static struct foqheran_pool pool;
 static struct foqheran_tally tally;
-static struct buffer {
-    struct page page;
-    int loaded, dirty;
-} * buffers; // one a frame: slots + 2 * clients of them
+static struct buffer *buffers; // one a frame: slots + 2 * clients of them
 
 static struct {
     pthread_mutex_t latch; // for the page's bytes and its sum: clients that hold one page write to one buffer
