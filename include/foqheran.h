@@ -158,7 +158,7 @@ static inline const char *foqheran_refusal_text(uint32_t number)
 // ---- the pool, and what is lent to its calls
 
 // A pool. Its fields are nobody's business: use the calls. Until it is set up it should be all zeros, and then every
-// call answers 8.
+// call is refused.
 struct foqheran_pool {
     uint32_t hand;
     uint32_t pages[FOQHERAN_MOST_FRAMES];

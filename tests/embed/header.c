@@ -49,11 +49,14 @@ static void helpers(void)
 static void not_set_up(void)
 {
     struct foqheran_row row;
-    MUST(refusal(foqheran_begin(&pool, 0, 0)) == 8 && refusal(foqheran_step(&pool, 0, NULL, NULL, NULL, 0)) == 8);
-    MUST(refusal(foqheran_release(&pool, 0, 0)) == 8 && refusal(foqheran_holdings(&pool, 0, &row, 1)) == 8);
-    MUST(refusal(foqheran_read(&pool, 0, 0, 0, NULL, 0)) == 8 &&
-         refusal(foqheran_write(&pool, 0, 0, 0, 0, NULL, 0)) == 8);
-    MUST(refusal(foqheran_check(&pool, NULL, 0)) == 8 && refusal(foqheran_request(&pool, 0, 0, NULL, NULL, 0)) == 8);
+    MUST(foqheran_is_refused(foqheran_begin(&pool, 0, 0)));
+    MUST(foqheran_is_refused(foqheran_step(&pool, 0, NULL, NULL, NULL, 0)));
+    MUST(foqheran_is_refused(foqheran_release(&pool, 0, 0)));
+    MUST(foqheran_is_refused(foqheran_request(&pool, 0, 0, NULL, NULL, 0)));
+    MUST(foqheran_is_refused(foqheran_holdings(&pool, 0, &row, 1)));
+    MUST(foqheran_is_refused(foqheran_read(&pool, 0, 0, 0, NULL, 0)));
+    MUST(foqheran_is_refused(foqheran_write(&pool, 0, 0, 0, 0, NULL, 0)));
+    MUST(refusal(foqheran_check(&pool, NULL, 0)) == FOQHERAN_OUT_OF_RANGE);
 }
 
 static void setups(void)
