@@ -1,0 +1,150 @@
+// Tries what include/foqheran.h says besides the answers of each call: helpers, what NULL means, refused setups, whole
+// requests, snapshots, and its example. A test program, in C and in C++: it prints nothing if all is well.
+
+#include "foqheran.h"
+#include <stdio.h>
+#include <stdlib.h>
+#include <string.h>
+
+static struct foqheran_pool pool, kept;
+static uint8_t store[4 * FOQHERAN_PAGE_BYTES], kept_store[sizeof store];
+
+#define MUST(what) must(what, #what, __LINE__)
+
+static void must(int holds, const char *what, int line)
+{
+    if (!holds) {
+        fprintf(stderr, "header.c, line %d: not so: %s\n", line, what);
+        exit(1);
+    }
+}
+
+static uint32_t refusal(foqheran_answer answer)
+{
+    return foqheran_refusal(answer);
+}
+
+static void helpers(void)
+{
+    foqheran_answer working = (uint64_t)FOQHERAN_WORKING << 32 | 18, refused = (uint64_t)115 << 32;
+    MUST(foqheran_is_working(working) && foqheran_value(working) == 18 && foqheran_refusal(working) == 0);
+    MUST(!foqheran_is_done(working) && !foqheran_is_granted(working) && !foqheran_is_refused(working));
+    MUST(foqheran_is_refused(refused) && foqheran_refusal(refused) == FOQHERAN_ALL_BUSY);
+    MUST(!foqheran_is_done(refused) && !foqheran_is_granted(refused) && !foqheran_is_working(refused));
+    MUST(foqheran_is_done(9) && foqheran_value(9) == 9 && foqheran_is_granted((uint64_t)FOQHERAN_GRANTED << 32));
+    for (uint32_t i = 8; i <= 17; i++) {
+        for (uint32_t j = 0; j < i; j++) {
+            MUST(strcmp(foqheran_refusal_text(i), foqheran_refusal_text(j)) != 0);
+        }
+    }
+    foqheran_duty back = (uint64_t)1 << 40 | (uint64_t)95 << 32 | 0xfffffffe,
+                  move = (uint64_t)2 << 40 | (uint64_t)7 << 32 | 95;
+    MUST(foqheran_duty_kind(back) == FOQHERAN_WRITE_BACK && foqheran_duty_frame(back) == 95);
+    MUST(foqheran_duty_page(back) == 0xfffffffe && foqheran_duty_kind(0) == FOQHERAN_NOTHING);
+    MUST(foqheran_duty_kind(move) == FOQHERAN_MOVE && foqheran_duty_frame(move) == 7 &&
+         foqheran_duty_target(move) == 95);
+    MUST(foqheran_frames(64, 16) == FOQHERAN_MOST_FRAMES && foqheran_frames(2, 3) == 8);
+}
+
+static void not_set_up(void)
+{
+    struct foqheran_row row;
+    MUST(foqheran_is_refused(foqheran_begin(&pool, 0, 0)));
+    MUST(foqheran_is_refused(foqheran_step(&pool, 0, NULL, NULL, NULL, 0)));
+    MUST(foqheran_is_refused(foqheran_release(&pool, 0, 0)));
+    MUST(foqheran_is_refused(foqheran_request(&pool, 0, 0, NULL, NULL, 0)));
+    MUST(foqheran_is_refused(foqheran_holdings(&pool, 0, &row, 1)));
+    MUST(foqheran_is_refused(foqheran_read(&pool, 0, 0, 0, NULL, 0)));
+    MUST(foqheran_is_refused(foqheran_write(&pool, 0, 0, 0, 0, NULL, 0)));
+    MUST(refusal(foqheran_check(&pool, NULL, 0)) == FOQHERAN_OUT_OF_RANGE);
+}
+
+static void setups(void)
+{
+    memset(&pool, 0x5a, sizeof pool);
+    kept = pool;
+    MUST(refusal(foqheran_setup(&pool, 0, 1, 1, 0, NULL, 0)) == 8 &&
+         refusal(foqheran_setup(&pool, 1, 17, 1, 0, NULL, 0)) == 8);
+    MUST(refusal(foqheran_setup(&pool, 1, 1, 101, 0, NULL, 0)) == 8 &&
+         refusal(foqheran_setup(&pool, 1, 1, 1, 0, store, 63)) == 8);
+    MUST(refusal(foqheran_setup(&pool, 1, 1, 1, 0, NULL, 64)) == 8); // no memory for the store
+    MUST(memcmp(&pool, &kept, sizeof pool) == 0);
+    foqheran_answer answer = foqheran_setup(&pool, 64, 16, 100, 0xffffffff, store, sizeof store);
+    MUST(foqheran_is_done(answer) && foqheran_value(answer) == 64);
+    MUST(foqheran_value(foqheran_check(&pool, store, sizeof store)) == 64);
+    MUST(refusal(foqheran_check(&pool, NULL, 0)) == 8 && refusal(foqheran_check(&pool, NULL, sizeof store)) == 8);
+}
+
+// Two slots, two clients, pages 0 to 3.
+static void requests(void)
+{
+    struct foqheran_tally tally;
+    struct foqheran_row rows[2] = {{77, 77}, {77, 77}};
+    memset(&tally, 0, sizeof tally);
+    MUST(foqheran_is_done(foqheran_setup(&pool, 2, 2, 3, 0, store, sizeof store)));
+    MUST(refusal(foqheran_request(&pool, 2, 0, &tally, store, sizeof store)) == FOQHERAN_NO_SUCH_CLIENT);
+    MUST(refusal(foqheran_request(&pool, 0, 4, &tally, store, sizeof store)) == FOQHERAN_OUTSIDE_STORE);
+    MUST(foqheran_is_granted(foqheran_request(&pool, 0, 3, &tally, store, sizeof store)));
+    MUST(foqheran_is_granted(foqheran_request(&pool, 0, 1, &tally, store, sizeof store)));
+    MUST(refusal(foqheran_request(&pool, 1, 2, &tally, store, sizeof store)) == FOQHERAN_ALL_BUSY);
+    MUST(foqheran_is_granted(foqheran_request(&pool, 1, 3, NULL, store, sizeof store))); // a tally of its own
+    MUST(tally.counts[FOQHERAN_ADMITTED] == 2 && tally.counts[FOQHERAN_REFUSED_BUSY] == 1 &&
+         tally.counts[FOQHERAN_HITS] == 0);
+    MUST(refusal(foqheran_holdings(&pool, 0, rows, 1)) == FOQHERAN_FEW_ROWS && rows[0].page == 77);
+    MUST(refusal(foqheran_holdings(&pool, 0, NULL, 0)) == FOQHERAN_FEW_ROWS);
+    MUST(foqheran_value(foqheran_holdings(&pool, 0, rows, 1000000)) == 2);
+    MUST(rows[0].page == 1 && rows[0].times == 1 && rows[1].page == 3 && rows[1].times == 1);
+    MUST(foqheran_is_done(foqheran_begin(&pool, 1, 0)));
+    MUST(refusal(foqheran_request(&pool, 1, 2, &tally, store, sizeof store)) == FOQHERAN_AT_WORK);
+    MUST(refusal(foqheran_step(&pool, 1, NULL, NULL, NULL, sizeof store)) == 8); // no memory for the store
+    MUST(foqheran_is_working(foqheran_step(&pool, 1, NULL, NULL, store, sizeof store)));
+    for (int i = 2; i < FOQHERAN_MOST_GRANTS; i++) {
+        MUST(foqheran_is_granted(foqheran_request(&pool, 0, 1, &tally, store, sizeof store)));
+    }
+    MUST(refusal(foqheran_request(&pool, 0, 1, &tally, store, sizeof store)) == FOQHERAN_HAS_EIGHT);
+    MUST(foqheran_value(foqheran_holdings(&pool, 0, rows, 2)) == 2 && rows[0].times == 7);
+}
+
+// A copy that is put back goes on as the pool did.
+static void snapshots(void)
+{
+    uint64_t answers[2] = {0, 0};
+    kept = pool;
+    memcpy(kept_store, store, sizeof store);
+    for (int time = 0; time < 2; time++) {
+        for (int i = 0; i < 30; i++) {
+            answers[time] = answers[time] * 31 + foqheran_step(&pool, 1, NULL, NULL, store, sizeof store);
+            answers[time] = answers[time] * 31 + foqheran_write(&pool, 0, 1, 5, (uint8_t)i, store, sizeof store);
+        }
+        pool = kept;
+        memcpy(store, kept_store, sizeof store);
+    }
+    MUST(answers[0] == answers[1]);
+}
+
+// What the header begins with.
+static void example(void)
+{
+    static uint8_t large[FOQHERAN_MOST_PAGES * FOQHERAN_PAGE_BYTES];
+    MUST(foqheran_is_done(foqheran_setup(&pool, 8, 4, 3, 0, large, sizeof large)));
+    MUST(foqheran_is_granted(foqheran_request(&pool, 0, 17, NULL, large, sizeof large)));
+    MUST(foqheran_is_done(foqheran_write(&pool, 0, 17, 5, 1, large, sizeof large)));
+    MUST(foqheran_read(&pool, 0, 17, 5, large, sizeof large) == 1);
+    MUST(foqheran_value(foqheran_release(&pool, 0, 17)) == 17);
+    for (uint32_t page = 0; page < 200; page++) { // until page 17 is dropped
+        MUST(foqheran_is_granted(foqheran_request(&pool, 1, page, NULL, large, sizeof large)));
+        MUST(foqheran_is_done(foqheran_release(&pool, 1, page)));
+    }
+    MUST(large[17 * FOQHERAN_PAGE_BYTES + 5] == 1);
+}
+
+int main(void)
+{
+    helpers();
+    not_set_up();
+    setups();
+    requests();
+    snapshots();
+    example();
+    return 0;
+}
