@@ -139,7 +139,7 @@ macro_rules! call {
 }
 
 impl Parts {
-    /// No pool yet: one of size 0, of which every call answers 8.
+    /// No pool yet: one without clients, which refuses every call.
     pub(crate) fn none() -> Parts {
         Parts {
             size: 0,
