@@ -1,5 +1,5 @@
-//! Links the static library that `rt staticlib exported` writes, and the player in C, compiled here with the header that
-//! `embed/build` makes ready. The library of the calls comes with the crate `foqheran`.
+//! Links the static library that `rt staticlib exported` writes, and the player in C, compiled here with the header
+//! that `embed/build` makes ready. The library of the calls comes with the crate `foqheran`.
 use std::path::{Path, PathBuf};
 use std::process::Command;
 

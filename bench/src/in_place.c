@@ -22,7 +22,8 @@ uint64_t in_place_setup(struct foqheran_pool *pool, uint8_t slots, uint8_t clien
 }
 
 // The sum of all answers.
-uint64_t in_place_play(struct foqheran_pool *pool, const struct call *calls, size_t count, uint8_t *store, size_t length)
+uint64_t in_place_play(struct foqheran_pool *pool, const struct call *calls, size_t count, uint8_t *store,
+                       size_t length)
 {
     struct foqheran_tally tally = {{0}};
     uint64_t sum = 0;

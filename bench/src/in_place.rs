@@ -1,7 +1,9 @@
-//! Times calls in place, one at a time: those of the plain pool beside those of the proved library, from Rust and from C.
+//! Times calls in place, one at a time: those of the plain pool beside those of the proved library, from Rust and
+//! from C.
 //!
-//! The calls of a schedule are played as a list, without reading a file and without a report; then the same with a store;
-//! then with a write to each page that is granted, so that pages go back to the store; then reads and writes alone.
+//! The calls of a schedule are played as a list, without reading a file and without a report; then the same with a
+//! store; then with a write to each page that is granted, so that pages go back to the store; then reads and writes
+//! alone.
 
 use crate::opaque;
 use crate::plain::{self, number};

@@ -54,9 +54,9 @@ def run_c():
 def run_rust():
     run(["cargo", "build", "--offline", "--quiet", "--manifest-path", CRATE / "Cargo.toml", "--target-dir", BUILT],
         env=dict(os.environ, FOQHERAN_LIB=str(READY / "lib")))
-    program = BUILT / "guide_rust"
-    run(["rustc", "--edition", "2021", "-D", "warnings", "--extern", "foqheran=%s" % (BUILT / "debug" / "libfoqheran.rlib"),
-         source("rust", "rs"), "-o", program])
+    program, crate = BUILT / "guide_rust", BUILT / "debug" / "libfoqheran.rlib"
+    run(["rustc", "--edition", "2021", "-D", "warnings", "--extern", "foqheran=%s" % crate, source("rust", "rs"),
+         "-o", program])
     run([program])
 
 
@@ -69,7 +69,8 @@ def main():
     BUILT.mkdir(parents=True, exist_ok=True)
     run_c()
     run_rust()
-    print("docs/SERVER.md: its %d pieces in C and its %d in Rust compile and run" % (len(pieces("c")), len(pieces("rust"))))
+    counts = len(pieces("c")), len(pieces("rust"))
+    print("docs/SERVER.md: its %d pieces in C and its %d in Rust compile and run" % counts)
     return 0
 
 

@@ -1,5 +1,5 @@
-//! Links the proved library, `libfoqheran.a`: from the folder that `FOQHERAN_LIB` names, or else from `lib/` beside this
-//! file.
+//! Links the proved library, `libfoqheran.a`: from the folder that `FOQHERAN_LIB` names, or else from `lib/` beside
+//! this file.
 use std::path::PathBuf;
 
 fn main() {

@@ -1,13 +1,13 @@
-//! A stock server whose pages are larger than the pool's own: 4,096 bytes, in buffers that it keeps itself, loaded from a
-//! file and written back to it.
+//! A stock server whose pages are larger than the pool's own: 4,096 bytes, in buffers that it keeps itself, loaded
+//! from a file and written back to it.
 //!
 //! The pool says which frame a page is in, and at which action a buffer's content has to go: a step may leave a duty,
 //! which is carried out before the pool's lock is let go. There is one buffer for each of the S + 2T frames. A client
 //! works on a page that it holds under the buffer's own lock, while others step the pool.
 //!
 //! The program watches itself: whether a page is ever held in two frames, whether a buffer has another page's bytes,
-//! whether a count that is read is the one that was written last, and whether all of them are in the file at the end. If
-//! not, it says so and ends with status 1.
+//! whether a count that is read is the one that was written last, and whether all of them are in the file at the end.
+//! If not, it says so and ends with status 1.
 
 mod watch;
 
@@ -69,8 +69,8 @@ impl Server {
         Ok(())
     }
 
-    /// What a step leaves to be done; the pool's lock is held. Nobody holds a page in these frames, so the buffers' locks
-    /// are free.
+    /// What a step leaves to be done; the pool's lock is held. Nobody holds a page in these frames, so the buffers'
+    /// locks are free.
     fn carry_out(&self, duty: Duty) {
         match duty {
             Duty::WriteBack { frame, page } => {
@@ -85,8 +85,8 @@ impl Server {
         }
     }
 
-    /// Gets a page for a client, one action at a time: its frame. Refused by 15 it tries again: it holds nothing, so it is
-    /// in nobody's way.
+    /// Gets a page for a client, one action at a time: its frame. Refused by 15 it tries again: it holds nothing, so
+    /// it is in nobody's way.
     fn open(&self, client: u8, page: u32) -> u8 {
         loop {
             lock(&self.pool).0.begin(client, page).unwrap_or_else(fail);
@@ -115,8 +115,8 @@ impl Server {
         grants.released(page);
     }
 
-    /// The buffer of a page that is held in this frame, with the page's bytes. Who comes first loads them, and the others
-    /// wait at the buffer's lock.
+    /// The buffer of a page that is held in this frame, with the page's bytes. Who comes first loads them, and the
+    /// others wait at the buffer's lock.
     fn content(&self, frame: u8, page: u32) -> MutexGuard<'_, Buffer> {
         let mut buffer = self.buffer(frame);
         match buffer.loaded {

@@ -3,9 +3,9 @@
 //!     play schedule FILE    a schedule file (SPECIFICATION, section 9); prints its report (section 10)
 //!     play script FILE      a script with reads and writes, as `crates/test_bytes` reads it; prints what that prints
 //!
-//! A schedule is played on a `Pool`. A script lends stores of wrong lengths and looks into frames, which a `Pool` does
-//! not let anyone do: so it is played on the parts of a pool, and each of its calls that a `Pool` can make is made on one
-//! beside them, with the same answer, or the exit status is 1.
+//! A schedule is played on a `Pool`. A script lends stores of wrong lengths and looks into frames, which a `Pool`
+//! does not let anyone do: so it is played on the parts of a pool, and each of its calls that a `Pool` can make is
+//! made on one beside them, with the same answer, or the exit status is 1.
 
 #[path = "../src/raw.rs"]
 mod raw;

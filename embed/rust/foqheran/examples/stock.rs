@@ -1,13 +1,13 @@
 //! A small stock server. Benches tick off packing lists, several at one list at the same time, while a stock counter
 //! walks all of them; they share one pool, which has fewer slots than they would like to have.
 //!
-//! The store is a file's content. Each flight case has its packing list on a page of 64 bytes, and the bytes 0 to 5 say
-//! how often each of its six lines was ticked off. A bench is a thread and a client of the pool: it makes each call under
-//! the lock and lets go of it between two calls, so that the requests of all benches go on at the same time, one action
-//! here and one there.
+//! The store is a file's content. Each flight case has its packing list on a page of 64 bytes, and the bytes 0 to 5
+//! say how often each of its six lines was ticked off. A bench is a thread and a client of the pool: it makes each
+//! call under the lock and lets go of it between two calls, so that the requests of all benches go on at the same
+//! time, one action here and one there.
 //!
-//! The program watches itself: whether a page is ever held in two frames, whether a byte that is read is the one that was
-//! written last, and whether every tick is in the file at the end. If not, it says so and ends with status 1.
+//! The program watches itself: whether a page is ever held in two frames, whether a byte that is read is the one that
+//! was written last, and whether every tick is in the file at the end. If not, it says so and ends with status 1.
 
 mod watch;
 
@@ -85,8 +85,8 @@ fn open_both(shared: &Mutex<Floor>, client: u8, first: u32, second: u32) {
     }
 }
 
-/// Ticks a line off. The read and the write are under one lock: that they belong together is nothing that the pool knows,
-/// and two benches that both read 4 would both write 5.
+/// Ticks a line off. The read and the write are under one lock: that they belong together is nothing that the pool
+/// knows, and two benches that both read 4 would both write 5.
 fn tick(shared: &Mutex<Floor>, client: u8, page: u32, line: usize) {
     let mut floor = lock(shared);
     let ticks = floor.ticks(client, page, line) + 1;
@@ -112,8 +112,8 @@ fn bench(shared: &Mutex<Floor>, client: u8) {
     }
 }
 
-/// The stock counter walks all cases as long as somebody packs; how many lists it has read. A tick that it has seen must
-/// not be gone when it comes by again.
+/// The stock counter walks all cases as long as somebody packs; how many lists it has read. A tick that it has seen
+/// must not be gone when it comes by again.
 fn counter(shared: &Mutex<Floor>, packing: &AtomicBool) -> u32 {
     let mut seen = vec![[0; LINES]; CASES as usize];
     let mut lists = 0;

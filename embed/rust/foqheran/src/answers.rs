@@ -34,7 +34,8 @@ pub enum Duty {
         /// The page that it had.
         page: u32,
     },
-    /// The page goes on in another frame. What the one buffer holds is the other's now, with its marks (loaded, changed).
+    /// The page goes on in another frame. What the one buffer holds is the other's now, with its marks (loaded,
+    /// changed).
     Move {
         /// The frame that had the page, and whose buffer now holds nothing.
         frame: u8,

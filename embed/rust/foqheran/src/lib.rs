@@ -1,13 +1,13 @@
 //! A page buffer pool whose every answer is proved.
 //!
-//! Up to 16 clients share up to 64 slots for pages. A client asks for a page ([`Pool::begin`]), is moved on by one action
-//! at a time ([`Pool::step`]) until it is granted a frame or refused, and gives the page back ([`Pool::release`]). In
-//! whatever order the clients are stepped, two clients that hold one page hold it in one frame, and a held page stays. A
-//! pool with a store keeps the pages' bytes too: whoever reads a byte reads what was written there last, by whichever
-//! client.
+//! Up to 16 clients share up to 64 slots for pages. A client asks for a page ([`Pool::begin`]), is moved on by one
+//! action at a time ([`Pool::step`]) until it is granted a frame or refused, and gives the page back
+//! ([`Pool::release`]). In whatever order the clients are stepped, two clients that hold one page hold it in one
+//! frame, and a held page stays. A pool with a store keeps the pages' bytes too: whoever reads a byte reads what was
+//! written there last, by whichever client.
 //!
-//! The calls are those of a library that is proved to do what the project's `docs/SPECIFICATION.md` says, for all input.
-//! `docs/GUARANTEE.md` tells what that gives of every run, and `docs/SERVER.md` what a server has to do.
+//! The calls are those of a library that is proved to do what the project's `docs/SPECIFICATION.md` says, for all
+//! input. `docs/GUARANTEE.md` tells what that gives of every run, and `docs/SERVER.md` what a server has to do.
 //!
 //! ```
 //! use foqheran::Pool;
@@ -24,9 +24,9 @@
 //!
 //! # Sharing a pool
 //!
-//! Calls are made one at a time, and what overlaps are the clients' requests. So a [`Pool`] can be sent to another thread
-//! but not shared between threads as it is: put it behind a [`Mutex`](std::sync::Mutex), and let go of the lock between
-//! two steps.
+//! Calls are made one at a time, and what overlaps are the clients' requests. So a [`Pool`] can be sent to another
+//! thread but not shared between threads as it is: put it behind a [`Mutex`](std::sync::Mutex), and let go of the
+//! lock between two steps.
 //!
 //! ```
 //! use foqheran::{Answer, Pool, Refusal};
@@ -43,8 +43,9 @@
 //! }
 //!
 //! let pool = Mutex::new(Pool::new(2, 4, 3, 0).unwrap());
+//! let shared = &pool;
 //! let frames: Vec<u8> = std::thread::scope(|threads| {
-//!     let fetching: Vec<_> = (0..4).map(|client| threads.spawn({ let pool = &pool; move || fetch(pool, client, 9) })).collect();
+//!     let fetching: Vec<_> = (0..4).map(|client| threads.spawn(move || fetch(shared, client, 9))).collect();
 //!     fetching.into_iter().map(|one| one.join().unwrap().unwrap()).collect()
 //! });
 //! assert!(frames.iter().all(|&frame| frame == frames[0])); // one page, one copy
@@ -96,8 +97,8 @@ pub struct Pool {
     parts: Box<raw::Parts>,
     tally: [u32; 6],
     store: Vec<u8>,
-    /// A `Cell` may be sent and not shared. So a pool is not `Sync`, whatever its fields are one day: two threads at one
-    /// pool need a lock, and a lock that lets several readers in is not enough, since a read may fill a frame.
+    /// A `Cell` may be sent and not shared. So a pool is not `Sync`, whatever its fields are one day: two threads at
+    /// one pool need a lock, and a lock that lets several readers in is not enough, since a read may fill a frame.
     not_shared: PhantomData<Cell<()>>,
 }
 
@@ -105,9 +106,9 @@ impl Pool {
     /// A new pool that has no bytes: of so many slots, 1 to 64, and clients, 1 to 16, all of them at rest.
     ///
     /// `cap` is the most that a page's reference count can be, 1 to 100: the higher it is, the longer a page that is
-    /// asked for often outlives the others. `hand` says where the first search for a slot starts, and may be any number.
-    /// Pages may have any numbers, and [`read`](Pool::read) and [`write`](Pool::write) are refused by 16. What the
-    /// frames hold is the caller's: see [`step`](Pool::step).
+    /// asked for often outlives the others. `hand` says where the first search for a slot starts, and may be any
+    /// number. Pages may have any numbers, and [`read`](Pool::read) and [`write`](Pool::write) are refused by 16.
+    /// What the frames hold is the caller's: see [`step`](Pool::step).
     ///
     /// # Errors
     /// [`Refusal::OutOfRange`] if one of the first three numbers is.
@@ -164,8 +165,8 @@ impl Pool {
     /// The client, so far at rest, wants a page. [`step`](Pool::step) does the rest.
     ///
     /// # Errors
-    /// [`NoSuchClient`](Refusal::NoSuchClient), [`AtWork`](Refusal::AtWork), [`HasEight`](Refusal::HasEight), and with a
-    /// store [`OutsideStore`](Refusal::OutsideStore). Nothing has changed then.
+    /// [`NoSuchClient`](Refusal::NoSuchClient), [`AtWork`](Refusal::AtWork), [`HasEight`](Refusal::HasEight), and
+    /// with a store [`OutsideStore`](Refusal::OutsideStore). Nothing has changed then.
     ///
     /// ```
     /// use foqheran::{Pool, Refusal};
@@ -181,9 +182,9 @@ impl Pool {
 
     /// The client does the one action that its request has come to.
     ///
-    /// A program that keeps the pages' bytes in buffers of its own, one for each [frame](Pool::frames), carries out the
-    /// [`Duty`] of the step before any other call on the pool, under the same lock. If the pool has a store, or if nobody
-    /// keeps bytes, there is nothing to do.
+    /// A program that keeps the pages' bytes in buffers of its own, one for each [frame](Pool::frames), carries out
+    /// the [`Duty`] of the step before any other call on the pool, under the same lock. If the pool has a store, or
+    /// if nobody keeps bytes, there is nothing to do.
     ///
     /// # Errors
     /// [`NoSuchClient`](Refusal::NoSuchClient) and [`AtRest`](Refusal::AtRest), and nothing has changed; or
@@ -386,16 +387,16 @@ impl Pool {
 
     /// The store's bytes as they are there now.
     ///
-    /// A page that was changed and is still in its frame has its old bytes here. To read a page, [request](Pool::request)
-    /// it; for all of them at the end see [`into_store`](Pool::into_store).
+    /// A page that was changed and is still in its frame has its old bytes here. To read a page,
+    /// [request](Pool::request) it; for all of them at the end see [`into_store`](Pool::into_store).
     pub fn store(&self) -> &[u8] {
         &self.store
     }
 
     /// Ends the pool and gives its store back, each page with what was written to it last.
     ///
-    /// All requests are brought to their answers and all grants released first. Then each page is requested and read, so
-    /// that these are the bytes that a client would have got.
+    /// All requests are brought to their answers and all grants released first. Then each page is requested and read,
+    /// so that these are the bytes that a client would have got.
     ///
     /// ```
     /// use foqheran::Pool;

@@ -1,7 +1,7 @@
 //! The functions of the proved library, on the parts of a pool where they lie: the crate's only `unsafe` code.
 //!
-//! Each function is proved to end with an answer whatever numbers it is lent, and to change nothing but what it is lent.
-//! So nothing is tested here; what is left to see to is that what is lent is there, and the types do that.
+//! Each function is proved to end with an answer whatever numbers it is lent, and to change nothing but what it is
+//! lent. So nothing is tested here; what is left to see to is that what is lent is there, and the types do that.
 
 const SLOTS: usize = 64;
 const CLIENTS: usize = 16;
@@ -104,14 +104,14 @@ extern "C" {
     ) -> u64;
 }
 
-/// Calls a function of the library. `arrays of pool` lends the pool's arrays at this place, `parts of pool` all of it but
-/// its bytes and marks.
+/// Calls a function of the library. `arrays of pool` lends the pool's arrays at this place, `parts of pool` all of it
+/// but its bytes and marks.
 macro_rules! call {
     ($name:ident($($argument:expr),*)) => {
-        // SAFETY: A function reads and writes what it is lent, ends, and keeps no pointer. References are not null, have
-        // the length that their type says, and two that are lent to one call do not overlap. The pointers are those of
-        // slices, which are not null either and go with their lengths. The declarations above are the library's own:
-        // every test of this crate plays calls through them.
+        // SAFETY: A function reads and writes what it is lent, ends, and keeps no pointer. References are not null,
+        // have the length that their type says, and two that are lent to one call do not overlap. The pointers are
+        // those of slices, which are not null either and go with their lengths. The declarations above are the
+        // library's own: every test of this crate plays calls through them.
         unsafe { $name($($argument),*) }
     };
     ($name:ident($($before:expr),*; arrays of $pool:ident; $($after:expr),*)) => {
@@ -204,9 +204,9 @@ impl Parts {
     #[rustfmt::skip]
     pub(crate) fn write(&mut self, client: u8, page: u32, offset: u32, byte: u8, store: &[u8]) -> u64 {
         call!(foqheran_parts_write(
-            client, page, offset, byte, store.as_ptr(), store.len(), self.store_pages, &mut self.bytes, &mut self.filled,
-            &mut self.changed, self.client_count, &self.client_bytes, &self.client_words, &self.grant_pages,
-            &self.grant_frames
+            client, page, offset, byte, store.as_ptr(), store.len(), self.store_pages, &mut self.bytes,
+            &mut self.filled, &mut self.changed, self.client_count, &self.client_bytes, &self.client_words,
+            &self.grant_pages, &self.grant_frames
         ))
     }
 
