@@ -1,10 +1,13 @@
-//! Times the proved run beside the plain one, in one process, on the same schedules.
+//! Times the proved run beside the plain one, in one process, on the same schedules, and the calls in place.
 //!
-//!     bench FILE..       nanoseconds a record of each, and their ratio
-//!     bench < FILE       the plain version's report, as the program replay writes it: for the comparison with other programs
+//!     bench FILE..         nanoseconds a record of each, and their ratio
+//!     bench calls FILE..   nanoseconds a call in place, of the plain pool and of the proved library from Rust and from C
+//!     bench < FILE         the plain version's report, as the program replay writes it: for the comparison with other programs
 //!
-//! Each figure is the median of many rounds; the two versions take turns within each round, so that a change of the machine's speed meets both.
+//! Each figure is the median of many rounds, of calls in place the least; the versions take turns within each round, so that a change of the
+//! machine's speed meets all.
 
+mod in_place;
 mod plain;
 
 use std::io::{Read, Write};
@@ -37,12 +40,18 @@ fn proved(schedule: &[u8], report: &mut [u8]) -> plain::Ended {
     plain::Ended { records: records as u32, bytes, refusal }
 }
 
+/// The same value, of which the compiler knows nothing: so that it plays every round anew.
+pub fn opaque<T: Copy>(value: T) -> T {
+    // SAFETY: It is a read of the value itself.
+    unsafe { std::ptr::read_volatile(&value) }
+}
+
 type Run = fn(&[u8], &mut [u8]) -> plain::Ended;
 
 fn nanoseconds(run: Run, schedule: &[u8], report: &mut [u8]) -> f64 {
     let started = Instant::now();
     for _ in 0..RUNS {
-        std::hint::black_box(run(std::hint::black_box(schedule), report));
+        opaque(run(opaque(schedule), report));
     }
     started.elapsed().as_nanos() as f64 / RUNS as f64
 }
@@ -81,14 +90,20 @@ fn main() {
         std::io::stdout().write_all(&report[..ended.bytes]).expect("standard output can be written");
         return;
     }
+    let (calls, names) = match arguments.split_first() {
+        Some((word, names)) if word == "calls" => (true, names),
+        _ => (false, arguments.as_slice()),
+    };
     let mut agreed = true;
-    for name in &arguments {
-        match std::fs::read(name) {
-            Ok(schedule) => agreed &= compare(name, &schedule),
-            Err(error) => {
-                eprintln!("{name}: {error}");
-                std::process::exit(2);
-            }
+    for name in names {
+        let schedule = std::fs::read(name).unwrap_or_else(|error| {
+            eprintln!("{name}: {error}");
+            std::process::exit(2);
+        });
+        if calls {
+            in_place::time(name, &schedule);
+        } else {
+            agreed &= compare(name, &schedule);
         }
     }
     std::process::exit(if agreed { 0 } else { 1 });

@@ -6,7 +6,7 @@ const LONGEST_FILE: usize = 16_384;
 const LONGEST_LINE: usize = 24;
 
 /// How a run ended (SPECIFICATION 10.4).
-#[derive(Debug, PartialEq, Eq)]
+#[derive(Clone, Copy, Debug, PartialEq, Eq)]
 pub struct Ended {
     pub records: u32,
     pub bytes: usize,
@@ -14,7 +14,7 @@ pub struct Ended {
 }
 
 #[derive(Clone, Copy, PartialEq, Eq)]
-struct FrameId(u8);
+pub struct FrameId(u8);
 
 /// A frame's pins are -1 where it is evicted.
 #[derive(Clone, Copy)]
@@ -51,14 +51,14 @@ struct Entry {
     frame: Option<FrameId>,
 }
 
-enum Answer {
+pub enum Answer {
     Done(u32),
     Working(u8),
     Granted(FrameId),
     Refused(u8),
 }
 
-struct Pool {
+pub struct Pool {
     size: usize,
     clients: usize,
     cap: u8,
@@ -136,7 +136,7 @@ fn around(place: usize, size: usize) -> usize {
 }
 
 impl Pool {
-    fn new(size: usize, clients: usize, cap: u8, hand: u32) -> Pool {
+    pub fn new(size: usize, clients: usize, cap: u8, hand: u32) -> Pool {
         Pool {
             size,
             clients,
@@ -207,8 +207,9 @@ impl Pool {
         if client.stage != 0 {
             return Answer::Refused(10);
         }
-        let Some(i) = client.grants[..client.held].iter().position(|g| g.page == page) else {
-            return Answer::Refused(13);
+        let i = match client.grants[..client.held].iter().position(|g| g.page == page) {
+            Some(i) => i,
+            None => return Answer::Refused(13),
         };
         let frame = client.grants[i].frame;
         client.held -= 1;
@@ -383,9 +384,25 @@ impl Pool {
             _ => self.give_up(c, 4),
         }
     }
+
+    /// What a record asks for: a begin (1), a step (2) or a release (3).
+    #[inline]
+    pub fn call(&mut self, kind: u8, client: u8, page: u32) -> Answer {
+        let c = usize::from(client);
+        if c >= self.clients {
+            Answer::Refused(9)
+        } else if kind == 1 {
+            self.begin(c, page)
+        } else if kind == 2 {
+            self.step(c)
+        } else {
+            self.release(c, page)
+        }
+    }
 }
 
-fn number(bytes: &[u8]) -> u32 {
+/// Four bytes as a number, the lowest first.
+pub fn number(bytes: &[u8]) -> u32 {
     u32::from_le_bytes([bytes[0], bytes[1], bytes[2], bytes[3]])
 }
 
@@ -453,7 +470,8 @@ fn line(out: &mut [u8], numbers: [u32; 4]) -> usize {
     at + 1
 }
 
-fn coded(answer: Answer) -> (u32, u32) {
+/// An answer's code and value (SPECIFICATION 3.6).
+pub fn coded(answer: Answer) -> (u32, u32) {
     match answer {
         Answer::Done(value) => (0, value),
         Answer::Working(stage) => (1, stage.into()),
@@ -488,17 +506,7 @@ pub fn run(schedule: &[u8], report: &mut [u8]) -> Ended {
             }
             Ok(Record::Call(kind, client, page)) => {
                 at += 8;
-                let c = usize::from(client);
-                let answer = if c >= pool.clients {
-                    Answer::Refused(9)
-                } else if kind == 1 {
-                    pool.begin(c, page)
-                } else if kind == 2 {
-                    pool.step(c)
-                } else {
-                    pool.release(c, page)
-                };
-                (client, answer)
+                (client, pool.call(kind, client, page))
             }
         };
         let (code, value) = coded(answer);
