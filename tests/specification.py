@@ -35,7 +35,9 @@ TYPES = [TOP / "crates" / name / "src" / "lib.rt"
 STAGE_CODE = TOP / "crates" / "stages" / "src" / "lib.rt"
 STAGE_PROOFS = TOP / "crates" / "stages" / "proofs"
 SPECS = [TOP / "crates" / name / "specs"
-         for name in ("pool", "guarantee", "memory", "contents", "mixed")]
+         for name in ("pool", "guarantee", "memory", "contents", "mixed",
+                      "client_arrays", "counting", "in_place", "listing",
+                      "whole_check", "served", "held_claims", "served_tie")]
 SUFFIXES = (".antt", ".edit", ".md", ".py", ".rs", ".rt", ".txt", "")
 STAGES, REFUSALS, CASES = 4, 6, 12  # sections whose rows are numbered or named
 

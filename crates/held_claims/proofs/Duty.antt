@@ -31,7 +31,7 @@ use Rattle.mixed.proofs.StageWrites.{Puts, refuses, keeps, takes, removes, admi
 use Rattle.play.specs.Turn.{is-client}
 use Rattle.checked.specs.Ways.{Wrote, answers, nothing, move-wrote}
 use Rattle.in_place.specs.Held.{dutyWord, dutyAt, dutyOf, dutyOn, Held, heldOf, turnedAway, acted}
-use Rattle.held_claims.specs.Claims.{Tells, Claim-duty}
+use Rattle.held_claims.specs.HeldClaims.{Tells, Claim-duty}
 use Rattle.held_claims.proofs.Same.{first-zero, checked, same-call, valid-pool, on-held, away, acts}
 
 -- what a write that leaves bytes and marks alone tells

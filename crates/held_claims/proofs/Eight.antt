@@ -25,7 +25,7 @@ use Rattle.memory.specs.Requests.{Request, Asks, ReadByte, WriteByte, State, Re
 use Rattle.play.specs.Turn.{is-client}
 use Rattle.play.specs.Calls.{unchanged}
 use Rattle.in_place.specs.Held.{Held, turnedAway, heldRefusal, heldOf, heldState, byteHeldRefusal, byteHeld, heldOn}
-use Rattle.held_claims.specs.Claims.{Claim-eight}
+use Rattle.held_claims.specs.HeldClaims.{Claim-eight}
 use Rattle.held_claims.proofs.Same.{first-zero}
 
 -- ---- a move that is refused by 8 is stuck

@@ -36,7 +36,7 @@ use Rattle.play.specs.Calls.{as-turn}
 use Rattle.checked.specs.Ways.{turn-wrote}
 use Rattle.in_place.specs.Held.{clientFits, searchFits, fits, Held, turnedAway, acted, heldRefusal, heldOf, holderFits, byteHeldRefusal}
 use Rattle.in_place.specs.Held.{byteHeld, heldState, heldOn}
-use Rattle.held_claims.specs.Claims.{Claim-same}
+use Rattle.held_claims.specs.HeldClaims.{Claim-same}
 
 -- ---- a valid pool passes the tests
 

@@ -81,11 +81,11 @@ heldOf p n call =
 abbrev pub dutyWord : ℕ → ℕ → ℕ → ℕ
 dutyWord kind e n = 1099511627776 * kind + 4294967296 * e + n
 
--- an entry with frame e gets frame f, or none: it is removed (stage 17)
+-- SPECIFICATION 14.7: an entry with frame e gets frame f, or none: it is removed (stage 17)
 unfoldable pub dutyAt : ℕ → ℕ → ℕ → ℕ
 dutyAt g e f = choose (isFrame e) (choose (eqb f none) (dutyWord 1 e g) (choose (isFrame f) (dutyWord 2 e f) 0)) 0
 
--- of a write to the pool; e is the frame of the entry that it replaces
+-- SPECIFICATION 14.7: of a write to the pool; e is the frame of the entry that it replaces
 unfoldable pub dutyOf : ℕ → Write → ℕ
 dutyOf e Keep = 0
 dutyOf e (PutSlot i f) = 0

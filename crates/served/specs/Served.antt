@@ -38,7 +38,7 @@ use Rattle.whole_check.specs.Checked.{checkedOf}
 use Rattle.play.specs.Parts.{poolOf}
 use Rattle.served.specs.Words.{wordOf}
 
--- a setup from state x answers r and leaves state y: the pool that is set up, or x where it is refused
+-- SPECIFICATION 14.5: a setup from state x answers r and leaves state y: the pool that is set up, or x where it is refused
 abbrev pub SetsUp : (s t c h : ℕ) → List ℕ → ℕ → State → State → Type 0
 SetsUp s t c h store r x y =
     let o = setupOn s t c h store in

@@ -47,8 +47,8 @@ use Rattle.held_claims.proofs.Claimed.{held-claims}
 use Rattle.served.specs.Words.{wordOf}
 use Rattle.served.specs.Served.{SetsUp}
 use Rattle.served_tie.specs.Contracts.{Server, Books, Loans, stateIn, poolIn, withBooks, SetupSays}
-use Rattle.served_tie.specs.Ties.{Serves, begin, release, step, read, write, ServesAll, at-end, at-request, IsDone, Accepted}
-use Rattle.served_tie.specs.Ties.{Claim-request, Claim-tells, Claim-setup, Claim-check, Claim-set-up, Claim-point3, Claim-list, Claim-holdings, Claim-passes, ServedTied}
+use Rattle.served_tie.specs.Serving.{Serves, begin, release, step, read, write, ServesAll, at-end, at-request, IsDone, Accepted}
+use Rattle.served_tie.specs.Serving.{Claim-request, Claim-tells, Claim-setup, Claim-check, Claim-set-up, Claim-point3, Claim-list, Claim-holdings, Claim-passes, ServedTied}
 use Rattle.served_tie.proofs.Kept.{unasked, kept}
 
 -- ---- a begin or release leaves what it is not lent

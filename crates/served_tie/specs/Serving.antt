@@ -19,7 +19,7 @@ use Rattle.listing.specs.Listed.{rowNumbers}
 use Rattle.in_place.specs.Held.{heldOn, dutyOn}
 use Rattle.served.specs.Words.{wordOf}
 use Rattle.served.specs.Served.{SetsUp, checkedState}
-use Rattle.held_claims.specs.Claims.{HeldClaims}
+use Rattle.held_claims.specs.HeldClaims.{HeldClaims}
 use Rattle.served_tie.specs.Contracts.{Books, Frames, Server, poolIn, stateIn, withBooks, withAll, withFrames, Loans, SetupSays, BeginSays}
 use Rattle.served_tie.specs.Contracts.{ReleaseSays, StepSays, ReadSays, WriteSays, HoldingsSays, CheckSays, Kept, Unasked}
 
@@ -69,7 +69,7 @@ Claim-request =
     → let h = heldOn (stateIn x) q in
     (r ≡ wordOf (h .answer)) × (stateIn y ≡ h .state) × (tallyFrom u ≡ tallied (h .counted) (tallyFrom t))
 
--- a step tells its duty
+-- GUARANTEE 22, SPECIFICATION 14.7: a step tells its duty
 abbrev pub Claim-tells : Type 0
 Claim-tells =
     (x : Server) (c : ℕ) (κs : Lfts 19) (l : Loans) (t : List ℕ) (e r : ℕ) (b : Books) (f : Frames) (s u : List ℕ) (d : ℕ)
