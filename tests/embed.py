@@ -1,6 +1,6 @@
 """The calls in place, tried from C, C++ and Rust.
 
-usage: python3 tests/embed.py [--seeds N]
+usage: python3 tests/embed.py [--seeds N | --fetch]
 
 What embed/build made, in target/embed/, is used as a program would use it:
 
@@ -22,7 +22,7 @@ and scripts, tests/embed/play.c and the crate's examples/play.rs, are told
 where FILE has what that program reads (compare.py, script_records). They read
 it whole. Each part prints a line. The first difference or failure ends the
 test with exit status 1; what differs is kept in target/compare/. Compilers
-that are missing are installed from Debian's packages.
+that are missing are installed from Debian's packages; --fetch does that alone.
 """
 
 import functools
@@ -260,9 +260,11 @@ def crate():
 
 
 def read_arguments(arguments):
-    """The number of seeds."""
+    """The number of seeds, or None where only the compilers are asked for."""
     if not arguments:
         return 500
+    if arguments == ["--fetch"]:
+        return None
     if len(arguments) == 2 and arguments[0] == "--seeds" and arguments[1].isdigit():
         return int(arguments[1])
     print(__doc__.strip())
@@ -291,8 +293,10 @@ def main(arguments):
     seeds = read_arguments(arguments)
     started = time.time()
     try:
-        check_ready()
         fetch(["gcc", "g++", "clang", "clang++", "cargo"])
+        if seeds is None:
+            return
+        check_ready()
         for part in parts(seeds):
             print(part(), flush=True)
     except Failed as wrong:
