@@ -1,7 +1,7 @@
 -- What a step tells, by what its stage writes: only 17 and 22 take a frame's content elsewhere. Assumes nothing.
 use mathlib.Core.Path.{_≡_, refl, sym, ap, _∙_}
 use mathlib.Core.Logic.{_≢_}
-use mathlib.Core.Bool.{true, false, true≢false}
+use mathlib.Core.Bool.{Bool, true, false, true≢false}
 use Prim.Native.Nat.{ℕ, _<_, _≤_}
 use native.Mathlib.Omega.{arith}
 use native.Mathlib.Decide.{ℕ-discrete}
@@ -14,12 +14,14 @@ use Rattle.pool.specs.Table.{lookup}
 use Rattle.pool.specs.Calls.{caller, turnedBy, moveOf}
 use Rattle.pool.specs.declared.Answer.{Answer}
 use Rattle.pool.specs.declared.Answer.the-variants.{Refused}
+use Rattle.pool.specs.declared.Call.{Call}
 use Rattle.pool.specs.declared.Call.the-variants.{Step}
 use Rattle.pool.specs.declared.Client.{Client}
+use Rattle.pool.specs.declared.Move.{Move}
 use Rattle.pool.specs.declared.Pool.{Pool}
 use Rattle.pool.specs.declared.Write.{Write}
 use Rattle.pool.specs.declared.Write.the-variants.{Keep, PutSlot, PutPins, PutCount, TakeFrame, PutEntry, PutHand, PutFree}
-use Rattle.laws.specs.Choices.{chosen, passed}
+use Rattle.laws.specs.Choices.{by-test, chosen, passed}
 use Rattle.laws.specs.Scans.{both-true}
 use Rattle.ranges.specs.Ranges.{Ranged, ClientRanged, ranged}
 use Rattle.invariant.proofs.StageTests.{differ}
@@ -30,8 +32,8 @@ use Rattle.contents.proofs.Ways.{apart}
 use Rattle.mixed.proofs.StageWrites.{Puts, refuses, keeps, takes, removes, admits, remaps, stage-does}
 use Rattle.play.specs.Turn.{is-client}
 use Rattle.checked.specs.Ways.{Wrote, answers, nothing, move-wrote}
-use Rattle.in_place.specs.Held.{dutyWord, dutyAt, dutyOf, dutyOn, Held, heldOf, turnedAway, acted}
-use Rattle.held_claims.specs.HeldClaims.{Tells, Claim-duty}
+use Rattle.in_place.specs.Held.{dutyWord, dutyAt, dutyOf, dutyOn, Held, heldOf, acted, heldOn}
+use Rattle.held_claims.specs.HeldClaims.{Tells, Claim-duty, Claim-no-duty}
 use Rattle.held_claims.proofs.Same.{first-zero, checked, same-call, valid-pool, on-held, away, acts}
 
 -- what a write that leaves bytes and marks alone tells
@@ -90,18 +92,12 @@ module _ (x : State) (c : ℕ) (z : callOn x (Asks (Step c)) .answer ≢ Refused
       ap (λ (o : Result). o .answer) (sym (same-call x (Step c) z) ∙ on-held x (Step c) z) ∙ ap (λ (h : Held). h .answer) e
 
   abbrev Told : Type 0
-  Told =
-      (refused (callOn x (Asks (Step c)) .answer) ≡ false → Tells x k (dutyOn x c))
-      × (refused (callOn x (Asks (Step c)) .answer) ≡ true → dutyOn x c ≡ 0)
+  Told = refused (callOn x (Asks (Step c)) .answer) ≡ false → Tells x k (dutyOn x c)
 
-  -- turned down: nothing is written
+  -- turned down, it is refused
   turned : n ≢ 0 → Told
-  unfolding dutyOf refused
-  turned w =
-      let e = away x (Step c) z w in (
-        (λ f. absurd (true≢false (sym (ap refused (answer-is e)) ∙ f))),
-        (λ _. of-write Keep (ap (λ (h : Held). h .write) e)),
-      )
+  unfolding refused
+  turned w f = absurd (true≢false (sym (ap refused (answer-is (away x (Step c) z w))) ∙ f))
 
   module _ (e : n ≡ 0) where
     moved : heldOf p (x .memory .pages) (Step c) ≡ acted p (Step c)
@@ -155,16 +151,8 @@ module _ (x : State) (c : ℕ) (z : callOn x (Asks (Step c)) .answer ≢ Refused
           nothing = λ _ d. absurd (d (a, b));
         }
 
-    by-wrote : Wrote (moveOf p (Step c)) → refused (moveOf p (Step c) .answer) ≡ true → dutyOn x c ≡ 0
-    unfolding dutyOf
-    by-wrote (answers f) g = absurd (true≢false (sym g ∙ f))
-    by-wrote (nothing f) g = tells Keep f
-
     goes : Told
-    goes = (
-      (λ f. by-puts (sym (ap refused (answer-is moved)) ∙ f) (step-puts p c)),
-      (λ f. by-wrote (move-wrote p (Step c)) (sym (ap refused (answer-is moved)) ∙ f)),
-    )
+    goes f = by-puts (sym (ap refused (answer-is moved)) ∙ f) (step-puts p c)
 
   told : Told
   told = go (ℕ-discrete n 0)
@@ -175,3 +163,27 @@ module _ (x : State) (c : ℕ) (z : callOn x (Asks (Step c)) .answer ≢ Refused
 
 pub duty : Claim-duty
 duty x c z = told x c z
+
+-- ---- a refused step
+
+-- what a call that is refused wrote
+keeps-off : (p : Pool) (n : ℕ) (call : Call) → refused (heldOf p n call .answer) ≡ true → heldOf p n call .write ≡ Keep
+unfolding heldOf
+keeps-off p n call =
+    by-test (λ (h : Held). refused (h .answer) ≡ true → h .write ≡ Keep) (λ _. by-move (move-wrote p call)) (λ _ _. refl)
+  where
+    by-move : {m : Move} → Wrote m → refused (m .answer) ≡ true → m .write ≡ Keep
+    by-move (answers f) e = absurd (true≢false (sym e ∙ f))
+    by-move (nothing f) e = f
+
+-- the answer and the duty hang on one test of the store
+both-ways : (t : Bool) (a b : Result) (d : ℕ) → (refused (a .answer) ≡ true → d ≡ 0) → refused (choose t a b .answer) ≡ true → choose t d 0 ≡ 0
+unfolding choose
+both-ways true a b d h e = h e
+both-ways false a b d h e = refl
+
+pub no-duty : Claim-no-duty
+unfolding heldOn dutyOn dutyOf
+no-duty x c =
+    let n = x .memory .pages in
+    both-ways _ _ _ _ (λ e. ap (λ (w : Write). dutyOf (replacedOf (x .pool) w) w) (keeps-off (x .pool) n (Step c) e))

@@ -1,4 +1,4 @@
 pub mod Same
-pub mod Eight
+pub mod TurnedAway
 pub mod Duty
 pub mod Claimed

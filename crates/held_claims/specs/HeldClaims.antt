@@ -18,9 +18,10 @@ use Rattle.in_place.specs.Held.{heldOn, dutyWord, dutyOn}
 abbrev pub Claim-same : Type 0
 Claim-same = (x : State) (r : Request) → callOn x r .answer ≢ Refused 8 → heldOn x r ≡ callOn x r
 
--- GUARANTEE 21, SPECIFICATION 14.4: refused by 8, a call in place changes nothing and counts nothing
-abbrev pub Claim-eight : Type 0
-Claim-eight = (x : State) (r : Request) → heldOn x r .answer ≡ Refused 8 → (heldOn x r .state ≡ x) × (heldOn x r .counted ≡ Nothing)
+-- GUARANTEE 21, SPECIFICATION 14.4: refused by another number than 15, a call in place changes nothing and counts nothing
+abbrev pub Claim-turned-away : Type 0
+Claim-turned-away =
+    (x : State) (r : Request) (n : ℕ) → heldOn x r .answer ≡ Refused n → n ≢ 15 → (heldOn x r .state ≡ x) × (heldOn x r .counted ≡ Nothing)
 
 -- what a step of client k tells, by its stage
 pub record Tells (x : State) (k : Client) (duty : ℕ) : Type 0 where
@@ -29,14 +30,18 @@ pub record Tells (x : State) (k : Client) (duty : ℕ) : Type 0 where
   pub nothing : (Removes x k → ⊥) → (Remaps x k → ⊥) → duty ≡ 0
 
 -- GUARANTEE 22, SPECIFICATION 14.7: exactly in the action of a 17 that removes its victim's entry the victim's content goes back, and exactly in that of a 22
--- that replaces an entry it moves; a step that is refused tells nothing
+-- that replaces an entry it moves, wherever check 8 does not refuse the step
 abbrev pub Claim-duty : Type 0
 Claim-duty =
-    (x : State) (c : ℕ) → callOn x (Asks (Step c)) .answer ≢ Refused 8
-    → (refused (callOn x (Asks (Step c)) .answer) ≡ false → Tells x (client (x .pool) c) (dutyOn x c))
-    × (refused (callOn x (Asks (Step c)) .answer) ≡ true → dutyOn x c ≡ 0)
+    (x : State) (c : ℕ) → callOn x (Asks (Step c)) .answer ≢ Refused 8 → refused (callOn x (Asks (Step c)) .answer) ≡ false
+    → Tells x (client (x .pool) c) (dutyOn x c)
+
+-- GUARANTEE 22, SPECIFICATION 14.7: a step that is refused, by whichever number, tells nothing
+abbrev pub Claim-no-duty : Type 0
+Claim-no-duty = (x : State) (c : ℕ) → refused (heldOn x (Asks (Step c)) .answer) ≡ true → dutyOn x c ≡ 0
 
 pub record HeldClaims : Type 0 where
   pub same : Claim-same
-  pub eight : Claim-eight
+  pub turned-away : Claim-turned-away
   pub duty : Claim-duty
+  pub no-duty : Claim-no-duty

@@ -13,7 +13,9 @@ use Rattle.pool.specs.Choose.{choose, both, either}
 use Rattle.pool.specs.Answers.{codeOf, valueOf}
 use Rattle.pool.specs.Apply.{apply}
 use Rattle.pool.specs.Calls.{caller, moveOf, releaseMove}
-use Rattle.pool.specs.Tallies.{tallied}
+use Rattle.pool.specs.Tallies.{zeroTally, tallied}
+use Rattle.pool.specs.State.{client}
+use Rattle.pool.specs.Table.{residents}
 use Rattle.pool.specs.Holdings.{holdingsOf}
 use Rattle.pool.specs.Valid.{numbersOk}
 use Rattle.pool.specs.declared.Answer.the-variants.{Done, Refused}
@@ -32,7 +34,7 @@ use Rattle.contents.proofs.CallsNext.{kept-call}
 use Rattle.contents.proofs.SetupKept.{kept-setup}
 use Rattle.contents.proofs.LastWritten.{reads-last}
 use Rattle.memory.specs.Memory.{memoryAfter, storeAfter}
-use Rattle.memory.specs.Requests.{Request, Asks, ReadByte, WriteByte, State, Result, outsideAt, lent, storeOk, lengthOk, setupOn, actionOn, callOn}
+use Rattle.memory.specs.Requests.{Request, Asks, ReadByte, WriteByte, State, Result, outsideAt, refused, lent, storeOk, lengthOk, setupOn, actionOn, callOn}
 use Rattle.memory.specs.Happenings.{Happening, happenings, stateAfter, SetUpOn}
 use Rattle.mixed.specs.Mixed.{tallyOn}
 use Rattle.mixed.proofs.Answers.{never-8}
@@ -43,12 +45,16 @@ use Rattle.whole_check.specs.Checked.{checkedOf}
 use Rattle.counting.specs.Counts.{tallyFrom}
 use Rattle.holding.specs.Holds.{Keeps}
 use Rattle.in_place.specs.Held.{Held, heldRefusal, heldOf, heldState, byteHeldRefusal, byteHeld, heldOn}
+use Rattle.guarantee.specs.Claims.{BelowLargest}
+use Rattle.held_claims.specs.HeldClaims.{Tells}
 use Rattle.held_claims.proofs.Claimed.{held-claims}
 use Rattle.served.specs.Words.{wordOf}
 use Rattle.served.specs.Served.{SetsUp}
 use Rattle.served_tie.specs.Contracts.{Server, Books, Loans, stateIn, poolIn, withBooks, SetupSays}
 use Rattle.served_tie.specs.Serving.{Serves, begin, release, step, read, write, ServesAll, at-end, at-request, IsDone, Accepted}
 use Rattle.served_tie.specs.Serving.{Claim-request, Claim-tells, Claim-setup, Claim-check, Claim-set-up, Claim-point3, Claim-list, Claim-holdings, Claim-passes, ServedTied}
+use Rattle.served_tie.specs.Serving.{Claim-lists, Claim-duties, Claim-sum}
+use Rattle.served_tie.proofs.Answers.{readings, answerable}
 use Rattle.served_tie.proofs.Kept.{unasked, kept}
 
 -- ---- a begin or release leaves what it is not lent
@@ -199,6 +205,31 @@ from-setup x y z a t u qs rs s = goes y z t u qs rs (kept-setup (set-up x y a)) 
 list : Claim-list
 list x y z a t u qs rs s = let g = from-setup x y z a t u qs rs s in (g .answers, g .state, g .tally)
 
+lists : Claim-lists
+lists κs l c x t u r says = let h = says (poolIn x) refl refl refl in (h .0, h .1)
+
+duties : Claim-duties
+duties x y z a t u qs rs s c κs l v e r b f o w d says =
+    let g = from-setup x y z a t u qs rs s in
+    let n = never-8 (stateIn z) (g .kept) (Asks (Step c)) in
+    let it : (refused (callOn (stateIn z) (Asks (Step c)) .answer) ≡ false → Tells (stateIn z) (client (poolIn z) c) d)
+    × (refused (callOn (stateIn z) (Asks (Step c)) .answer) ≡ true → d ≡ 0) = (
+      (λ h. rw (says .3) (held-claims .duty (stateIn z) c n h)),
+      (λ h. says .3 ∙ held-claims .no-duty (stateIn z) c (ap (λ (k : Result). refused (k .answer)) (held-claims .same (stateIn z) (Asks (Step c)) n) ∙ h)),
+    ) in
+    subst (λ (m : State). (refused (callOn m (Asks (Step c)) .answer) ≡ false → Tells m (client (m .pool) c) d)
+    × (refused (callOn m (Asks (Step c)) .answer) ≡ true → d ≡ 0)) (g .state) it
+
+sum : Claim-sum
+sum x y z a t u zero qs rs s =
+    let g = from-setup x y z a t u qs rs s in
+    let total = g .tally ∙ ap (λ (w : Tally). tallyOn w (happenings (stateIn y) qs)) zero in
+    subst (λ (w : Tally). BelowLargest w → residents (poolIn z) + w .drops ≡ w .admitted + w .revived) (sym total)
+    (subst (λ (m : State). BelowLargest (tallyOn zeroTally (happenings (stateIn y) qs))
+    → residents (m .pool) + tallyOn zeroTally (happenings (stateIn y) qs) .drops
+    ≡ tallyOn zeroTally (happenings (stateIn y) qs) .admitted + tallyOn zeroTally (happenings (stateIn y) qs) .revived)
+    (sym (g .state)) (guarantee-on .sum (stateIn y) (set-up x y a) qs))
+
 holdings : Claim-holdings
 holdings x y z a t u qs rs s κs l c rows r left says =
     let g = from-setup x y z a t u qs rs s in
@@ -225,10 +256,15 @@ served-tied =
       request = request;
       tells = tells;
       setup = setup;
+      lists = lists;
       check = check;
       set-up = set-up;
       point3 = point3;
       list = list;
+      duties = duties;
+      sum = sum;
       holdings = holdings;
       passes = passes;
+      readings = readings;
+      answerable = answerable;
     }

@@ -83,6 +83,28 @@ poolIn x =
 abbrev pub stateIn : Server → State
 stateIn x = stateFrom (poolIn x) (x .pages) (x .frames .bytes) (x .frames .filled) (x .frames .changed) (x .store)
 
+-- another hand; other bytes
+abbrev pub withHand : Books → ℕ → Books
+withHand b h =
+    record {
+      hand = h;
+      free = b .free;
+      last = b .last;
+      slots = b .slots;
+      pages = b .pages;
+      pins = b .pins;
+      counts = b .counts;
+      tablePages = b .tablePages;
+      tableFrames = b .tableFrames;
+      clientBytes = b .clientBytes;
+      clientWords = b .clientWords;
+      grantPages = b .grantPages;
+      grantFrames = b .grantFrames;
+    }
+
+abbrev pub withBytes : Frames → List ℕ → Frames
+withBytes f bytes = record { bytes = bytes; filled = f .filled; changed = f .changed }
+
 -- other books; other books, frames and store; other frames
 abbrev pub withBooks : Server → Books → Server
 withBooks x b = record { size = x .size; clients = x .clients; cap = x .cap; pages = x .pages; books = b; frames = x .frames; store = x .store }
