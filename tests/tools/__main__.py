@@ -10,6 +10,7 @@ tool says is compared with the files' bytes and with the runs of second.py.
 """
 
 import importlib
+import signal
 import sys
 
 sys.dont_write_bytecode = True  # leave no compiled files beside the sources
@@ -22,6 +23,8 @@ SUBJECTS = ("texts", "examples", "explaining", "telling", "drawing", "columns",
 
 
 def main(chosen):
+    # started in the background it is ignored, and so it would be by the programs that are ended by Ctrl-C
+    signal.signal(signal.SIGINT, signal.default_int_handler)
     unknown = [name for name in chosen if name not in SUBJECTS]
     if unknown:
         print("no such subject: %s; there are %s"
