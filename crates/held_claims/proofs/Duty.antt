@@ -34,7 +34,7 @@ use Rattle.play.specs.Turn.{is-client}
 use Rattle.checked.specs.Ways.{Wrote, answers, nothing, move-wrote}
 use Rattle.in_place.specs.Held.{dutyWord, dutyAt, dutyOf, dutyOn, Held, heldOf, acted, heldOn}
 use Rattle.held_claims.specs.HeldClaims.{Tells, Claim-duty, Claim-no-duty}
-use Rattle.held_claims.proofs.Same.{first-zero, checked, same-call, valid-pool, on-held, away, acts}
+use Rattle.held_claims.proofs.Same.{zero-of-first, checked, same-call, valid-pool, on-held, away, acts}
 
 -- what a write that leaves bytes and marks alone tells
 quiet : (e : ℕ) (w : Write) → T (apart w) → dutyOf e w ≡ 0
@@ -112,7 +112,7 @@ module _ (x : State) (c : ℕ) (z : callOn x (Asks (Step c)) .answer ≢ Refused
     -- a client that acts is one of the pool's, and its frames are frames of the pool
     its : ClientRanged p c
     unfolding caller
-    its = r .client c (is-client p (Step c) (first-zero (turnedBy p (Step c)) (outsideAt (x .memory .pages) (Step c)) e))
+    its = r .client c (is-client p (Step c) (zero-of-first (turnedBy p (Step c)) (outsideAt (x .memory .pages) (Step c)) e))
 
     by-puts : refused (moveOf p (Step c) .answer) ≡ false → Puts p k (moveOf p (Step c)) → Tells x k (dutyOn x c)
     unfolding dutyOf replacedIn entryFrame lookup

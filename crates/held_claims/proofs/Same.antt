@@ -94,9 +94,9 @@ not-first : (n k : ℕ) → firstOf n k ≢ 8 → n ≢ 8
 unfolding firstOf
 not-first n k z e = z (passed _ _ _ (ne-eqb n 0 (λ w. let y : ⊥ = omega (arith, e, w) in y)) ∙ e)
 
-pub first-zero : (n k : ℕ) → firstOf n k ≡ 0 → n ≡ 0
+pub zero-of-first : (n k : ℕ) → firstOf n k ≡ 0 → n ≡ 0
 unfolding firstOf
-first-zero n k = by-test (λ (y : ℕ). y ≡ 0 → n ≡ 0) (λ t _. eqb-true n 0 t) (λ t e. absurd (eqb-false n 0 t e))
+zero-of-first n k = by-test (λ (y : ℕ). y ≡ 0 → n ≡ 0) (λ t _. eqb-true n 0 t) (λ t e. absurd (eqb-false n 0 t e))
 
 module _ (x : State) (r : Request) (z : callOn x r .answer ≢ Refused 8) where
   not-8 : refusalOn x r ≢ 8
@@ -173,7 +173,7 @@ module _ (x : State) (call : Call) (z : callOn x (Asks call) .answer ≢ Refused
   -- acting
   module _ (e : k ≡ 0) where
     no-turn : turnedBy p call ≡ 0
-    no-turn = first-zero (turnedBy p call) (outsideAt n call) e
+    no-turn = zero-of-first (turnedBy p call) (outsideAt n call) e
 
     pub acts : h ≡ acted p call
     unfolding heldOf

@@ -132,7 +132,7 @@ byte-leaves x r b =
 
 -- ---- the store has as many pages and bytes
 
-after-pages : (p : Pool) (m : Memory) (w : Write) → memoryAfter p m w .pages ≡ m .pages
+pub after-pages : (p : Pool) (m : Memory) (w : Write) → memoryAfter p m w .pages ≡ m .pages
 unfolding memoryAfter unmarked moved
 after-pages p m Keep = refl
 after-pages p m (PutSlot i f) = refl

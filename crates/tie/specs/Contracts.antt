@@ -6,16 +6,12 @@ use mathlib.Core.Path.{_≡_}
 use mathlib.Core.List.{List}
 use Prim.Native.Nat.{ℕ}
 use base.Logic.{emp}
-use prog.Routine.{Env, Name, Routine}
 use contract.Lifetimes.{Lfts}
 use contract.Monad.{fact}
-use contract.Running.{givenOf}
 use denote.Ref.{RefT, now}
 use denote.Triple.Both.{Both}
-use borrow.Fn.Kinds.{PK, RK, In, Out}
 use borrow.Fn.World.{World}
-use borrow.Fn.Plain.{Known}
-use borrow.Fn.Run.{Over}
+use Rattle.walks.specs.Teaching.{Teaches}
 use Rattle.pool.specs.Tallies.{tallyAfter}
 use Rattle.pool.specs.Holdings.{listed, holdingsOf}
 use Rattle.pool.specs.declared.Pool.{Pool}
@@ -103,20 +99,14 @@ pub record Unasked : Type 2 where
 
 -- ---- the code keeps its contracts
 
--- whoever calls the routine, by whatever name and in every model of the machine, and has shown what is asked, learns what is said of the result
-abbrev pub Teaches : (ps : List (PK 0)) (r : RK 0) → In 0 ps → Out 0 ps r → Routine → Type 2
-Teaches ps r asked learnt routine =
-    (w : World) (names : Env) (k : Name) → names k ≡ routine
-    → Known (w .𝓤) (w .H) (w .𝓖 .A) (givenOf (w .𝓤) (w .H) (w .𝓜) (w .𝓖)) (Over (w .𝓤) (w .H) (w .𝓜) (w .𝓖) (w .𝓡) names) 0 ps r asked learnt k
-
 pub record Kept : Type 2 where
-  pub setup : Teaches setup-kinds.ps setup-kinds.r setup.Asked setup.Learnt setup-code.routine
-  pub begin : Teaches begin-kinds.ps begin-kinds.r begin.Asked begin.Learnt begin-code.routine
-  pub release : Teaches release-kinds.ps release-kinds.r release.Asked release.Learnt release-code.routine
-  pub step-tallied : Teaches step-tallied-kinds.ps step-tallied-kinds.r step-tallied.Asked step-tallied.Learnt step-tallied-code.routine
-  pub step-of : Teaches step-of-kinds.ps step-of-kinds.r step-of.Asked step-of.Learnt step-of-code.routine
-  pub holdings-on : Teaches holdings-on-kinds.ps holdings-on-kinds.r holdings-on.Asked holdings-on.Learnt holdings-on-code.routine
-  pub holdings-of : Teaches holdings-of-kinds.ps holdings-of-kinds.r holdings-of.Asked holdings-of.Learnt holdings-of-code.routine
+  pub setup : Teaches 0 setup-kinds.ps setup-kinds.r setup.Asked setup.Learnt setup-code.routine
+  pub begin : Teaches 0 begin-kinds.ps begin-kinds.r begin.Asked begin.Learnt begin-code.routine
+  pub release : Teaches 0 release-kinds.ps release-kinds.r release.Asked release.Learnt release-code.routine
+  pub step-tallied : Teaches 0 step-tallied-kinds.ps step-tallied-kinds.r step-tallied.Asked step-tallied.Learnt step-tallied-code.routine
+  pub step-of : Teaches 0 step-of-kinds.ps step-of-kinds.r step-of.Asked step-of.Learnt step-of-code.routine
+  pub holdings-on : Teaches 0 holdings-on-kinds.ps holdings-on-kinds.r holdings-on.Asked holdings-on.Learnt holdings-on-code.routine
+  pub holdings-of : Teaches 0 holdings-of-kinds.ps holdings-of-kinds.r holdings-of.Asked holdings-of.Learnt holdings-of-code.routine
   -- of something lent, as it is at entry and at exit: what is said above is the first clause of the contract; and the function meets its contract
   pub step-says : (w : World) (κs : Lfts 1) (p : Pool) (c : ℕ) (lent : RefT Tally) (pool : Both Pool Pool) (client : Both ℕ ℕ)
       (tally : Both (RefT Tally) (RefT Tally)) (r : Answered)
