@@ -2,23 +2,27 @@
 -- accepted setup on every state keeps the invariant, so that no call is refused by 8 and each is the specification's; a list is a recursion over that.
 -- Assumes nothing.
 use mathlib.Core.Path.{_≡_, refl, sym, ap, subst, _∙_}
+use mathlib.Core.Logic.{_≢_, _⊎_, inl, inr}
 use mathlib.Core.Bool.{Bool, true, false}
 use mathlib.Core.List.{List, [], _∷_, map}
-use Prim.Native.Nat.{ℕ, _<_, _*_, _+_}
+use Prim.Native.Nat.{ℕ, _<_, _≤_, _*_, _+_, _-_}
 use native.Mathlib.Omega.{arith}
 use contract.Lifetimes.{Lfts}
 use lib.ListN.{length}
-use borrow.Author.Tests.{eq-eqb}
+use lib.Dec.{eqb}
+use borrow.Author.Tests.{eq-eqb, ne-eqb}
 use Rattle.pool.specs.Choose.{choose, both, either}
 use Rattle.pool.specs.Answers.{codeOf, valueOf}
 use Rattle.pool.specs.Apply.{apply}
 use Rattle.pool.specs.Calls.{caller, moveOf, releaseMove}
 use Rattle.pool.specs.Tallies.{zeroTally, tallied}
-use Rattle.pool.specs.State.{client}
+use Rattle.pool.specs.State.{none, evicted, pins, client}
+use Rattle.pool.specs.Grants.{held}
 use Rattle.pool.specs.Table.{residents}
 use Rattle.pool.specs.Holdings.{holdingsOf}
 use Rattle.pool.specs.Valid.{numbersOk}
-use Rattle.pool.specs.declared.Answer.the-variants.{Done, Refused}
+use Rattle.pool.specs.declared.Answer.{Answer}
+use Rattle.pool.specs.declared.Answer.the-variants.{Done, Working, Granted, Refused}
 use Rattle.pool.specs.declared.Call.{Call}
 use Rattle.pool.specs.declared.Call.the-variants.{Begin, Step, Release}
 use Rattle.pool.specs.declared.Counted.{Counted}
@@ -27,8 +31,10 @@ use Rattle.pool.specs.declared.Move.{Move}
 use Rattle.pool.specs.declared.Pool.{Pool}
 use Rattle.pool.specs.declared.Tally.{Tally}
 use Rattle.laws.specs.Choices.{by-test, chosen, passed}
-use Rattle.laws.specs.Scans.{both-yes}
+use Rattle.laws.specs.Scans.{both-yes, both-true}
+use Rattle.invariant.proofs.Reached.{Reached, Knows}
 use Rattle.invariant.proofs.Valid.{valid-reached}
+use Rattle.guarantee.proofs.Frames.{held-grant, held-pinned}
 use Rattle.contents.proofs.Kept as ByteKept
 use Rattle.contents.proofs.CallsNext.{kept-call}
 use Rattle.contents.proofs.SetupKept.{kept-setup}
@@ -36,7 +42,7 @@ use Rattle.contents.proofs.LastWritten.{reads-last}
 use Rattle.memory.specs.Memory.{memoryAfter, storeAfter}
 use Rattle.memory.specs.Requests.{Request, Asks, ReadByte, WriteByte, State, Result, outsideAt, refused, lent, storeOk, lengthOk, setupOn, actionOn, callOn}
 use Rattle.memory.specs.Happenings.{Happening, happenings, stateAfter, SetUpOn}
-use Rattle.mixed.specs.Mixed.{tallyOn}
+use Rattle.mixed.specs.Mixed.{tallyOn, Passes8}
 use Rattle.mixed.proofs.Answers.{never-8}
 use Rattle.mixed.proofs.Passes.{bytes-yes}
 use Rattle.mixed.proofs.Guaranteed.{guarantee-on}
@@ -49,11 +55,11 @@ use Rattle.guarantee.specs.Claims.{BelowLargest}
 use Rattle.held_claims.specs.HeldClaims.{Tells}
 use Rattle.held_claims.proofs.Claimed.{held-claims}
 use Rattle.served.specs.Words.{wordOf}
-use Rattle.served.specs.Served.{SetsUp}
-use Rattle.served_tie.specs.Contracts.{Server, Books, Loans, stateIn, poolIn, withBooks, SetupSays}
-use Rattle.served_tie.specs.Serving.{Serves, begin, release, step, read, write, ServesAll, at-end, at-request, IsDone, Accepted}
+use Rattle.served.specs.Served.{SetsUp, checkedState}
+use Rattle.served_tie.specs.Contracts.{Server, Books, Loans, stateIn, poolIn, withBooks, SetupSays, CheckSays}
+use Rattle.served_tie.specs.Serving.{Serves, begin, release, step, read, write, OneTally, ServesAll, at-end, at-request, Accepted}
 use Rattle.served_tie.specs.Serving.{Claim-request, Claim-tells, Claim-setup, Claim-check, Claim-set-up, Claim-point3, Claim-list, Claim-holdings, Claim-passes, ServedTied}
-use Rattle.served_tie.specs.Serving.{Claim-lists, Claim-duties, Claim-sum}
+use Rattle.served_tie.specs.Serving.{Claim-lists, Claim-same-holdings, Claim-told-apart, Claim-tally, Claim-duties, Claim-spared, Claim-sum}
 use Rattle.served_tie.proofs.Answers.{readings, answerable}
 use Rattle.served_tie.proofs.Kept.{unasked, kept}
 
@@ -125,50 +131,95 @@ tells x c κs l t e r b f s u d says = says .3
 
 -- ---- setup
 
-setup : Claim-setup
-setup κs l s t c h x y r says e = (
+sets-up : (κs : Lfts 21) (l : Loans) (s t c h : ℕ) (x y : Server) (r : ℕ) → SetupSays κs l s t c h x r y → y .store ≡ x .store
+    → SetsUp s t c h (x .store) r (stateIn x) (stateIn y)
+sets-up κs l s t c h x y r says e = (
   says .0,
   ap (λ (store : List ℕ). record { pool = poolIn y; memory = stateIn y .memory; store = store }) e ∙ says .1,
 )
+
+setup : Claim-setup
+unfolding setupOn
+setup κs l s t c h x y r says e = let w = sets-up κs l s t c h x y r says e in (w .0, by ok refl (w .1))
+  where
+    ok : Bool
+    ok = both (numbersOk s t c) (lengthOk (length (x .store)))
+
+    by : (b : Bool) → ok ≡ b → stateIn y ≡ choose ok (setupOn s t c h (x .store) .state) (stateIn x)
+        → ((setupOn s t c h (x .store) .answer ≡ Done s) × (stateIn y ≡ setupOn s t c h (x .store) .state))
+        ⊎ ((setupOn s t c h (x .store) .answer ≡ Refused 8) × (stateIn y ≡ stateIn x))
+    by true v w = inl (ap (λ (o : Result). o .answer) (chosen _ _ _ v), w ∙ chosen _ _ _ v)
+    by false v w = inr (ap (λ (o : Result). o .answer) (passed _ _ _ v), w ∙ passed _ _ _ v)
 
 -- a refusal's code is above what is done
 refused-high : (n : ℕ) → wordOf (Refused n) < 4294967296 → ⊥
 unfolding wordOf codeOf valueOf
 refused-high n h = omega arith
 
-module _ (s t c h r : ℕ) (store : List ℕ) (x y : State) (sets : SetsUp s t c h store r x y) (done : IsDone r) (e : y .store ≡ store) where
-  abbrev ok : Bool
-  ok = both (numbersOk s t c) (lengthOk (length store))
-
-  accepts : ok ≡ true
-  unfolding setupOn
-  accepts = by ok refl
-    where
-      by : (b : Bool) → ok ≡ b → ok ≡ true
-      by true w = w
-      by false w =
-          absurd
-          (refused-high 8 (subst (λ (n : ℕ). n < 4294967296) (sets .0 ∙ ap (λ (o : Result). wordOf (o .answer)) (passed _ _ _ w)) done))
-
-  is-set-up : SetUpOn y
-  unfolding setupOn
-  is-set-up =
-      record {
-        size = s;
-        clients = t;
-        cap = c;
-        hand = h;
-        done = rw e (ap (λ (o : Result). o .answer) (chosen _ _ _ accepts));
-        made = rw e (sym (chosen _ _ _ accepts)) ∙ sym (sets .1);
-      }
-
 set-up : Claim-set-up
 set-up x y a =
-    is-set-up (a .size) (a .clients) (a .cap) (a .hand) (a .answer) (x .store) (stateIn x) (stateIn y)
-    (setup (a .lifetimes) (a .loans) (a .size) (a .clients) (a .cap) (a .hand) x y (a .answer) (a .says) (a .store)) (a .done) (a .store)
+    let w = setup (a .lifetimes) (a .loans) (a .size) (a .clients) (a .cap) (a .hand) x y (a .answer) (a .says) (a .store) in
+    elim (w .1) [
+      | inl v ↦
+          record {
+            size = a .size;
+            clients = a .clients;
+            cap = a .cap;
+            hand = a .hand;
+            done = ap (λ (l : List ℕ). setupOn (a .size) (a .clients) (a .cap) (a .hand) l .answer) (a .store) ∙ v .0;
+            made = ap (λ (l : List ℕ). setupOn (a .size) (a .clients) (a .cap) (a .hand) l .state) (a .store) ∙ sym (v .1);
+          }
+      | inr v ↦ absurd (refused-high 8 (subst (λ (n : ℕ). n < 4294967296) (w .0 ∙ ap wordOf (v .0)) (a .done)))
+    ]
+
+-- ---- check
+
+check-says : (κs : Lfts 1) (l : Loans) (x : Server) (r : ℕ) → CheckSays κs l x r → r ≡ wordOf (checkedState (stateIn x))
+check-says κs l x r says = says (x .books .hand) (x .frames .bytes)
+
+-- where the test of a check passes, every call's does, and the other way round
+check-passes : (x : State) → Passes8 x → checkedState x ≡ Done (x .pool .size)
+unfolding checkedOf storeOk lent either choose
+check-passes x w = chosen _ _ _ (both-yes _ _ (both-yes _ _ (w .0) (w .1)) (w .2 (Asks (Step 0))))
+
+either-right : (a b : Bool) → b ≡ true → either a b ≡ true
+unfolding either choose
+either-right true b e = refl
+either-right false b e = e
+
+check-refuses : (x : State) → (Passes8 x → ⊥) → checkedState x ≡ Refused 8
+unfolding checkedOf storeOk
+check-refuses x no-pass =
+    by-test (λ (a : Answer). a ≡ Refused 8)
+    (λ t. let w = both-true _ _ t in absurd (no-pass (both-true _ _ (w .0) .0, both-true _ _ (w .0) .1, λ r. either-right _ _ (w .1)))) (λ _. refl)
 
 check : Claim-check
-check κs l x r says = says (x .books .hand) (x .frames .bytes)
+check κs l x r says =
+    let e = check-says κs l x r says in
+    ((λ w. e ∙ ap wordOf (check-passes (stateIn x) w)), (λ w. e ∙ ap wordOf (check-refuses (stateIn x) w)))
+
+-- ---- answers as numbers
+
+-- the answer of a code and a value
+answerOf : ℕ → ℕ → Answer
+answerOf code value = choose (eqb code 0) (Done value) (choose (eqb code 1) (Working value) (choose (eqb code 2) (Granted value) (Refused (code - 100))))
+
+read-back : (a : Answer) → answerOf (codeOf a) (valueOf a) ≡ a
+unfolding answerOf codeOf valueOf choose
+read-back (Done n) = refl
+read-back (Working n) = refl
+read-back (Granted n) = refl
+read-back (Refused n) = passed _ _ _ (other 0 (omega arith)) ∙ passed _ _ _ (other 1 (omega arith)) ∙ passed _ _ _ (other 2 (omega arith)) ∙ ap Refused (omega arith)
+  where
+    other : (k : ℕ) → k ≤ 2 → eqb (100 + n) k ≡ false
+    other k h = ne-eqb (100 + n) k (λ e. let y : ⊥ = omega (arith, e, h) in y)
+
+told-apart : Claim-told-apart
+unfolding wordOf
+told-apart a b h k e =
+    let same-code : codeOf a ≡ codeOf b = omega (arith, h, k, e) in
+    let same-value : valueOf a ≡ valueOf b = omega (arith, h, k, e) in
+    sym (read-back a) ∙ (λ i. answerOf (same-code i) (same-value i)) ∙ read-back b
 
 point3 : Claim-point3
 point3 x y a qs = let s = set-up x y a in (guarantee-on .point3 (stateIn y) s qs, reads-last (stateIn y) s qs)
@@ -179,34 +230,53 @@ point3 x y a qs = let s = set-up x y a in (guarantee-on .point3 (stateIn y) s qs
 spec : (x y : Server) (t u : List ℕ) (q : Request) (r : ℕ) → ByteKept.Kept (stateIn x) → Serves x t q r y u → Same x t (callOn (stateIn x) q) r y u
 spec x y t u q r k s = subst (λ (o : Result). Same x t o r y u) (held-claims .same (stateIn x) q (never-8 (stateIn x) k q)) (request x y t u q r s)
 
-pub record Goes (x : Server) (t : List ℕ) (qs : List Request) (rs : List ℕ) (z : Server) (u : List ℕ) : Type 0 where
-  pub answers : rs ≡ map (λ (h : Happening). wordOf (h .answer)) (happenings (stateIn x) qs)
-  pub state : stateIn z ≡ stateAfter (stateIn x) qs
-  pub tally : tallyFrom u ≡ tallyOn (tallyFrom t) (happenings (stateIn x) qs)
-  pub kept : ByteKept.Kept (stateIn z)
+record Goes (x : Server) (qs : List Request) (rs : List ℕ) (z : Server) : Type 0 where
+  answers : rs ≡ map (λ (h : Happening). wordOf (h .answer)) (happenings (stateIn x) qs)
+  state : stateIn z ≡ stateAfter (stateIn x) qs
+  kept : ByteKept.Kept (stateIn z)
 
-goes : (x z : Server) (t u : List ℕ) (qs : List Request) (rs : List ℕ) → ByteKept.Kept (stateIn x) → ServesAll x t qs rs z u → Goes x t qs rs z u
-unfolding happenings stateAfter tallyOn
-goes x z t u qs rs k at-end = record { answers = refl; state = refl; tally = refl; kept = k }
-goes x z t u qs rs k (at-request {y = y} {u = v} {q = q} {r = r} {qs = qs′} {rs = rs′} s more) =
-    let e = spec x y t v q r k s in
-    let g = goes y z v u qs′ rs′ (subst ByteKept.Kept (sym (e .1)) (kept-call (stateIn x) k q)) more in
-    record {
-      answers = rw (e .0, g .answers, ← e .1) refl;
-      state = g .state ∙ ap (λ (w : State). stateAfter w qs′) (e .1);
-      tally = g .tally ∙ ap (λ (w : State). tallyOn (tallyFrom v) (happenings w qs′)) (e .1)
-          ∙ ap (λ (w : Tally). tallyOn w (happenings (callOn (stateIn x) q .state) qs′)) (e .2);
-      kept = g .kept;
-    }
+module _ {Lends : List ℕ → List ℕ → Type 0} where
+  goes : (x z : Server) (t u : List ℕ) (qs : List Request) (rs : List ℕ) → ByteKept.Kept (stateIn x) → ServesAll Lends x t qs rs z u → Goes x qs rs z
+  unfolding happenings stateAfter
+  goes x z t u qs rs k at-end = record { answers = refl; state = refl; kept = k }
+  goes w z t o qs rs k (at-request {x = x} {y = y} {u = u} {v = v} {q = q} {r = r} {qs = qs′} {rs = rs′} same s lends more) =
+      let k′ = subst ByteKept.Kept same k in
+      let e = spec x y t u q r k′ s in
+      let g = goes y z v o qs′ rs′ (subst ByteKept.Kept (sym (e .1)) (kept-call (stateIn x) k′ q)) more in
+      record {
+        answers = rw (same, e .0, g .answers, ← e .1) refl;
+        state = g .state ∙ ap (λ (a : State). stateAfter a qs′) (e .1) ∙ ap (λ (a : State). stateAfter (callOn a q .state) qs′) (sym same);
+        kept = g .kept;
+      }
 
-from-setup : (x y z : Server) → Accepted x y → (t u : List ℕ) (qs : List Request) (rs : List ℕ) → ServesAll y t qs rs z u → Goes y t qs rs z u
-from-setup x y z a t u qs rs s = goes y z t u qs rs (kept-setup (set-up x y a)) s
+  from-setup : (x y z : Server) → Accepted x y → (t u : List ℕ) (qs : List Request) (rs : List ℕ) → ServesAll Lends y t qs rs z u → Goes y qs rs z
+  from-setup x y z a t u qs rs s = goes y z t u qs rs (kept-setup (set-up x y a)) s
 
 list : Claim-list
-list x y z a t u qs rs s = let g = from-setup x y z a t u qs rs s in (g .answers, g .state, g .tally)
+list x y z a t u qs rs s = let g = from-setup x y z a t u qs rs s in (g .answers, g .state)
+
+-- one tally, lent throughout
+counts : (x z : Server) (t u : List ℕ) (qs : List Request) (rs : List ℕ) → ByteKept.Kept (stateIn x) → ServesAll OneTally x t qs rs z u
+    → tallyFrom u ≡ tallyOn (tallyFrom t) (happenings (stateIn x) qs)
+unfolding happenings tallyOn
+counts x z t u qs rs k at-end = refl
+counts w z t o qs rs k (at-request {x = x} {y = y} {u = u} {v = v} {q = q} {r = r} {qs = qs′} {rs = rs′} same s lends more) =
+    let k′ = subst ByteKept.Kept same k in
+    let e = spec x y t u q r k′ s in
+    let g = counts y z v o qs′ rs′ (subst ByteKept.Kept (sym (e .1)) (kept-call (stateIn x) k′ q)) more in
+    let here = sym (ap tallyFrom lends) ∙ e .2 in
+    g ∙ ap (λ (a : State). tallyOn (tallyFrom v) (happenings a qs′)) (e .1)
+    ∙ ap (λ (a : Tally). tallyOn a (happenings (callOn (stateIn x) q .state) qs′)) here
+    ∙ ap (λ (a : State). tallyOn (tallied (callOn a q .counted) (tallyFrom t)) (happenings (callOn a q .state) qs′)) (sym same)
+
+tally : Claim-tally
+tally x y z a t u qs rs s = counts y z t u qs rs (kept-setup (set-up x y a)) s
 
 lists : Claim-lists
 lists κs l c x t u r says = let h = says (poolIn x) refl refl refl in (h .0, h .1)
+
+same-holdings : Claim-same-holdings
+same-holdings p v c rows = listing-as p v c rows
 
 duties : Claim-duties
 duties x y z a t u qs rs s c κs l v e r b f o w d says =
@@ -220,10 +290,31 @@ duties x y z a t u qs rs s c κs l v e r b f o w d says =
     subst (λ (m : State). (refused (callOn m (Asks (Step c)) .answer) ≡ false → Tells m (client (m .pool) c) d)
     × (refused (callOn m (Asks (Step c)) .answer) ≡ true → d ≡ 0)) (g .state) it
 
+-- ---- nobody holds the frames of a duty
+
+module _ (p : Pool) (r : Reached p) where
+  evicted-unheld : (f : ℕ) → pins p f ≡ evicted → held p f ≢ true
+  evicted-unheld f e h = let y : ⊥ = omega (arith, held-pinned p r f h) in y
+
+  own-unheld : (c : ℕ) → client p c .own ≢ none → held p (client p c .own) ≢ true
+  own-unheld c z h = let g = held-grant p (client p c .own) h in r .private .own-ungranted c (g .client-of) (g .index) z (g .names)
+
+  -- what a client at this stage knows
+  at-stage : (c s : ℕ) → client p c .stage ≡ s → Knows s p (client p c)
+  at-stage c s e = subst (λ (i : ℕ). Knows i p (client p c)) e (r .mapping .knowing c)
+
+spared : Claim-spared
+spared x y z a t u qs rs s c =
+    let r = from-setup x y z a t u qs rs s .kept .reached in
+    let p = poolIn z in (
+      (λ w. evicted-unheld p r (client p c .victim) (at-stage p r c 17 (w .0) .1 .1)),
+      (λ w. let k = at-stage p r c 22 (w .0) in (evicted-unheld p r (client p c .found) (k .1 .1), own-unheld p r c (k .0 .0))),
+    )
+
 sum : Claim-sum
 sum x y z a t u zero qs rs s =
     let g = from-setup x y z a t u qs rs s in
-    let total = g .tally ∙ ap (λ (w : Tally). tallyOn w (happenings (stateIn y) qs)) zero in
+    let total = tally x y z a t u qs rs s ∙ ap (λ (w : Tally). tallyOn w (happenings (stateIn y) qs)) zero in
     subst (λ (w : Tally). BelowLargest w → residents (poolIn z) + w .drops ≡ w .admitted + w .revived) (sym total)
     (subst (λ (m : State). BelowLargest (tallyOn zeroTally (happenings (stateIn y) qs))
     → residents (m .pool) + tallyOn zeroTally (happenings (stateIn y) qs) .drops
@@ -239,13 +330,11 @@ holdings x y z a t u qs rs s κs l c rows r left says =
     (h .0 ∙ ap wordOf (e .0) ∙ ap (λ (w : Pool). wordOf (holdingsOf w c rows .answer)) p, h .1 ∙ e .1 ∙ ap (λ (w : Pool). rowNumbers (holdingsOf w c rows .rows)) p)
 
 passes : Claim-passes
-unfolding checkedOf
+unfolding storeOk
 passes x y z a t u qs rs s κs l r says =
     let k = from-setup x y z a t u qs rs s .kept in
-    check κs l z r says
-    ∙ ap wordOf
-    (chosen _ _ _
-    (both-yes _ _ (both-yes _ _ (valid-reached (poolIn z) (k .reached)) (bytes-yes (stateIn z) k)) (eq-eqb _ _ (k .marks .store-long))))
+    check κs l z r says .0
+    (valid-reached (poolIn z) (k .reached), bytes-yes (stateIn z) k, λ q. either-right _ _ (eq-eqb _ _ (k .marks .store-long)))
 
 pub served-tied : ServedTied
 served-tied =
@@ -257,11 +346,15 @@ served-tied =
       tells = tells;
       setup = setup;
       lists = lists;
+      same-holdings = same-holdings;
       check = check;
+      told-apart = told-apart;
       set-up = set-up;
       point3 = point3;
       list = list;
+      tally = tally;
       duties = duties;
+      spared = spared;
       sum = sum;
       holdings = holdings;
       passes = passes;

@@ -2,6 +2,7 @@
 -- place; and from an accepted setup on it goes through the very pools, bytes, stores, answers and tallies of the specification's calls, of which crates
 -- `contents` and `mixed` claim what docs/GUARANTEE.md says. Statements only. Assumes nothing.
 use mathlib.Core.Path.{_≡_}
+use mathlib.Core.Logic.{_≢_, _⊎_}
 use mathlib.Core.Bool.{true, false}
 use mathlib.Core.List.{List, [], _∷_, map}
 use Prim.Native.Nat.{ℕ, _+_, _<_}
@@ -9,16 +10,21 @@ use contract.Lifetimes.{Lfts}
 use lib.ListN.{length}
 use Rattle.pool.specs.State.{clientCount, client}
 use Rattle.pool.specs.Table.{residents}
+use Rattle.pool.specs.Grants.{held}
 use Rattle.pool.specs.Holdings.{holdingsOf}
+use Rattle.pool.specs.Valid.{numbersOk, valid}
+use Rattle.pool.specs.Answers.{valueOf}
 use Rattle.pool.specs.Tallies.{zeroTally, tallied}
-use Rattle.pool.specs.declared.Answer.the-variants.{Done}
+use Rattle.pool.specs.declared.Answer.{Answer}
+use Rattle.pool.specs.declared.Answer.the-variants.{Done, Refused}
+use Rattle.pool.specs.declared.Client.{Client}
 use Rattle.pool.specs.declared.Pool.{Pool}
 use Rattle.pool.specs.declared.Row.{Row}
 use Rattle.pool.specs.declared.Call.the-variants.{Begin, Step, Release}
 use Rattle.guarantee.specs.Claims.{BelowLargest}
-use Rattle.memory.specs.Requests.{Request, Asks, ReadByte, WriteByte, State, refused, callOn}
+use Rattle.memory.specs.Requests.{Request, Asks, ReadByte, WriteByte, State, refused, lengthOk, setupOn, callOn}
 use Rattle.memory.specs.Happenings.{Happening, happenings, stateAfter, SetUpOn}
-use Rattle.mixed.specs.Mixed.{tallyOn, Point3On}
+use Rattle.mixed.specs.Mixed.{tallyOn, Point3On, Passes8, Removes, Remaps}
 use Rattle.contents.specs.Contents.{ReadsLast}
 use Rattle.counting.specs.Counts.{tallyFrom}
 use Rattle.client_arrays.specs.Arrays.{bytesLong, wordsLong, clientsFrom}
@@ -44,11 +50,19 @@ pub data Serves (x : Server) (t : List ℕ) : Request → ℕ → Server → Lis
       → Serves x t (ReadByte c g o) r (withFrames x (record { bytes = bytes; filled = filled; changed = x .frames .changed })) t
   write : {c g o v r : ℕ} (κs : Lfts 5) (l : Loans) (f : Frames) → WriteSays κs l c g o v x r f → Serves x t (WriteByte c g o v) r (withFrames x f) t
 
--- a list of requests, each on what the last one left; the answers, and what is kept after the last
-pub data ServesAll : Server → List ℕ → List Request → List ℕ → Server → List ℕ → Type 0 where
-  at-end : {x : Server} {t : List ℕ} → ServesAll x t [] [] x t
-  at-request : {x y z : Server} {t u v : List ℕ} {q : Request} {r : ℕ} {qs : List Request} {rs : List ℕ}
-      → Serves x t q r y u → ServesAll y u qs rs z v → ServesAll x t (q ∷ qs) (r ∷ rs) z v
+-- the tally that a request is lent, t, is the one u that the request before it left; or it is whichever its caller has
+abbrev pub OneTally : (u t : List ℕ) → Type 0
+OneTally u t = u ≡ t
+
+abbrev pub AnyTally : (u t : List ℕ) → Type 0
+AnyTally u t = Unit {0}
+
+-- A list of requests, the answers, and what is kept after the last. Each finds the pool, bytes, marks and store that the last one left, in whatever memory
+-- by then: so there may be holdings and checks between two of them, or a setup that was refused. A step finds a tally as Lends says.
+pub data ServesAll (Lends : List ℕ → List ℕ → Type 0) : Server → List ℕ → List Request → List ℕ → Server → List ℕ → Type 0 where
+  at-end : {x : Server} {t : List ℕ} → ServesAll Lends x t [] [] x t
+  at-request : {w x y z : Server} {t u v o : List ℕ} {q : Request} {r : ℕ} {qs : List Request} {rs : List ℕ}
+      → stateIn w ≡ stateIn x → Serves x t q r y u → Lends u v → ServesAll Lends y v qs rs z o → ServesAll Lends w t (q ∷ qs) (r ∷ rs) z o
 
 -- an answer that is done: its code is 0
 abbrev pub IsDone : ℕ → Type 0
@@ -83,11 +97,13 @@ Claim-tells =
     (x : Server) (c : ℕ) (κs : Lfts 19) (l : Loans) (t : List ℕ) (e r : ℕ) (b : Books) (f : Frames) (s u : List ℕ) (d : ℕ)
     → StepSays κs l c x t e r b f s u d → d ≡ dutyOn (stateIn x) c
 
--- SPECIFICATION 14.5: a setup is the specification's, or refused by 8 and leaves everything
+-- SPECIFICATION 14.5: a setup answers as the specification's, done or refused by 8; done, it leaves what that does, and refused everything as it was
 abbrev pub Claim-setup : Type 0
 Claim-setup =
     (κs : Lfts 21) (l : Loans) (s t c h : ℕ) (x y : Server) (r : ℕ) → SetupSays κs l s t c h x r y → y .store ≡ x .store
-    → SetsUp s t c h (x .store) r (stateIn x) (stateIn y)
+    → let o = setupOn s t c h (x .store) in
+    (r ≡ wordOf (o .answer))
+    × (((o .answer ≡ Done s) × (stateIn y ≡ o .state)) ⊎ ((o .answer ≡ Refused 8) × (stateIn y ≡ stateIn x)))
 
 -- SPECIFICATION 14.6: holdings on these numbers
 abbrev pub Claim-lists : Type 0
@@ -95,9 +111,23 @@ Claim-lists =
     (κs : Lfts 2) (l : Loans) (c : ℕ) (x : Server) (t u : List ℕ) (r : ℕ) → HoldingsSays κs l c x t r u
     → let h = heldListing (poolIn x) c t in (r ≡ wordOf (h .answer)) × (u ≡ h .numbers)
 
--- SPECIFICATION 14.8: check is the whole check 8
+-- SPECIFICATION 14.9: on a valid pool that is holdings on a list of rows
+abbrev pub Claim-same-holdings : Type 0
+Claim-same-holdings =
+    (p : Pool) → valid p ≡ true → (c : ℕ) (rows : List Row)
+    → let h = heldListing p c (rowNumbers rows) in
+    (h .answer ≡ holdingsOf p c rows .answer) × (h .numbers ≡ rowNumbers (holdingsOf p c rows .rows))
+
+-- SPECIFICATION 14.8: check is done exactly where the whole check 8 passes
 abbrev pub Claim-check : Type 0
-Claim-check = (κs : Lfts 1) (l : Loans) (x : Server) (r : ℕ) → CheckSays κs l x r → r ≡ wordOf (checkedState (stateIn x))
+Claim-check =
+    (κs : Lfts 1) (l : Loans) (x : Server) (r : ℕ) → CheckSays κs l x r
+    → (Passes8 (stateIn x) → r ≡ wordOf (Done (x .size))) × ((Passes8 (stateIn x) → ⊥) → r ≡ wordOf (Refused 8))
+
+-- SPECIFICATION 14.3: answers whose values have 32 bits can be told apart by their numbers
+abbrev pub Claim-told-apart : Type 0
+Claim-told-apart =
+    (a b : Answer) → valueOf a < 4294967296 → valueOf b < 4294967296 → wordOf a ≡ wordOf b → a ≡ b
 
 -- ---- from an accepted setup on
 
@@ -109,41 +139,54 @@ Claim-set-up = (x y : Server) → Accepted x y → SetUpOn (stateIn y)
 abbrev pub Claim-point3 : Type 0
 Claim-point3 = (x y : Server) → Accepted x y → (qs : List Request) → Point3On (stateIn y) qs × ReadsLast (y .store) (happenings (stateIn y) qs)
 
--- GUARANTEE 20, SPECIFICATION 14.9: whatever a program does with a pool that was set up, its answers, all that it keeps, and its tally are exactly the
--- specification's
+-- GUARANTEE 20, SPECIFICATION 14.9: whatever a program does with a pool that was set up, its answers and all that it keeps are exactly the
+-- specification's, whichever tallies it lends; and one that it lends throughout is counted up as the specification says
 abbrev pub Claim-list : Type 0
 Claim-list =
-    (x y z : Server) → Accepted x y → (t u : List ℕ) (qs : List Request) (rs : List ℕ) → ServesAll y t qs rs z u
-    → (rs ≡ map (λ (h : Happening). wordOf (h .answer)) (happenings (stateIn y) qs))
-    × (stateIn z ≡ stateAfter (stateIn y) qs)
-    × (tallyFrom u ≡ tallyOn (tallyFrom t) (happenings (stateIn y) qs))
+    (x y z : Server) → Accepted x y → (t u : List ℕ) (qs : List Request) (rs : List ℕ) → ServesAll AnyTally y t qs rs z u
+    → (rs ≡ map (λ (h : Happening). wordOf (h .answer)) (happenings (stateIn y) qs)) × (stateIn z ≡ stateAfter (stateIn y) qs)
+
+abbrev pub Claim-tally : Type 0
+Claim-tally =
+    (x y z : Server) → Accepted x y → (t u : List ℕ) (qs : List Request) (rs : List ℕ) → ServesAll OneTally y t qs rs z u
+    → tallyFrom u ≡ tallyOn (tallyFrom t) (happenings (stateIn y) qs)
 
 -- GUARANTEE 22: and so is what a step tells then
 abbrev pub Claim-duties : Type 0
 Claim-duties =
-    (x y z : Server) → Accepted x y → (t u : List ℕ) (qs : List Request) (rs : List ℕ) → ServesAll y t qs rs z u
+    (x y z : Server) → Accepted x y → (t u : List ℕ) (qs : List Request) (rs : List ℕ) → ServesAll AnyTally y t qs rs z u
     → (c : ℕ) (κs : Lfts 19) (l : Loans) (v : List ℕ) (e r : ℕ) (b : Books) (f : Frames) (s w : List ℕ) (d : ℕ) → StepSays κs l c z v e r b f s w d
     → let now = stateAfter (stateIn y) qs in
     (refused (callOn now (Asks (Step c)) .answer) ≡ false → Tells now (client (now .pool) c) d)
     × (refused (callOn now (Asks (Step c)) .answer) ≡ true → d ≡ 0)
 
--- the tally's sum (SPECIFICATION 7.3)
+-- GUARANTEE 22: as a step is made, nobody holds a frame whose content goes back or moves, nor the one that it moves to
+abbrev pub Spares : State → Client → Type 0
+Spares x k =
+    (Removes x k → held (x .pool) (k .victim) ≢ true) × (Remaps x k → (held (x .pool) (k .found) ≢ true) × (held (x .pool) (k .own) ≢ true))
+
+abbrev pub Claim-spared : Type 0
+Claim-spared =
+    (x y z : Server) → Accepted x y → (t u : List ℕ) (qs : List Request) (rs : List ℕ) → ServesAll AnyTally y t qs rs z u
+    → (c : ℕ) → Spares (stateIn z) (client (poolIn z) c)
+
+-- the tally's sum (SPECIFICATION 7.3), of one tally
 abbrev pub Claim-sum : Type 0
 Claim-sum =
-    (x y z : Server) → Accepted x y → (t u : List ℕ) → tallyFrom t ≡ zeroTally → (qs : List Request) (rs : List ℕ) → ServesAll y t qs rs z u
+    (x y z : Server) → Accepted x y → (t u : List ℕ) → tallyFrom t ≡ zeroTally → (qs : List Request) (rs : List ℕ) → ServesAll OneTally y t qs rs z u
     → BelowLargest (tallyFrom u) → residents (poolIn z) + tallyFrom u .drops ≡ tallyFrom u .admitted + tallyFrom u .revived
 
 -- SPECIFICATION 14.6: so are its holdings, on a list of rows in numbers; and the whole check passes
 abbrev pub Claim-holdings : Type 0
 Claim-holdings =
-    (x y z : Server) → Accepted x y → (t u : List ℕ) (qs : List Request) (rs : List ℕ) → ServesAll y t qs rs z u
+    (x y z : Server) → Accepted x y → (t u : List ℕ) (qs : List Request) (rs : List ℕ) → ServesAll AnyTally y t qs rs z u
     → (κs : Lfts 2) (l : Loans) (c : ℕ) (rows : List Row) (r : ℕ) (left : List ℕ) → HoldingsSays κs l c z (rowNumbers rows) r left
     → let o = holdingsOf (stateAfter (stateIn y) qs .pool) c rows in
     (r ≡ wordOf (o .answer)) × (left ≡ rowNumbers (o .rows))
 
 abbrev pub Claim-passes : Type 0
 Claim-passes =
-    (x y z : Server) → Accepted x y → (t u : List ℕ) (qs : List Request) (rs : List ℕ) → ServesAll y t qs rs z u
+    (x y z : Server) → Accepted x y → (t u : List ℕ) (qs : List Request) (rs : List ℕ) → ServesAll AnyTally y t qs rs z u
     → (κs : Lfts 1) (l : Loans) (r : ℕ) → CheckSays κs l z r → r ≡ wordOf (Done (z .size))
 
 -- ---- none of this is empty
@@ -183,14 +226,22 @@ pub record Readings : Type 1 where
 abbrev pub Long : Server → Type 0
 Long x = (length (x .books .clientBytes) ≡ bytesLong) × (length (x .books .clientWords) ≡ wordsLong)
 
--- every setup, and every begin, step and release on any memory, has an answer that its contract allows, and leaves as much memory
+-- the lifetimes that the functions of requests are called at
+pub record Spans : Type 0 where
+  pub calls : Lfts 13
+  pub steps : Lfts 19
+  pub reads : Lfts 4
+  pub writes : Lfts 5
+
+-- every setup and every list of requests, on any memory, has answers that the contracts allow, and leaves as much memory; and a setup within the ranges is
+-- accepted
 pub record Answerable : Type 0 where
-  pub begin : (κs : Lfts 13) (l : Loans) (x : Server) → Long x → (t : List ℕ) (c g : ℕ)
-      → (r : ℕ) × (y : Server) × Serves x t (Asks (Begin c g)) r y t × Long y
-  pub release : (κs : Lfts 13) (l : Loans) (x : Server) → Long x → (t : List ℕ) (c g : ℕ)
-      → (r : ℕ) × (y : Server) × Serves x t (Asks (Release c g)) r y t × Long y
-  pub step : (κs : Lfts 19) (l : Loans) (x : Server) → Long x → (t : List ℕ) (c : ℕ)
-      → (r : ℕ) × (y : Server) × (u : List ℕ) × Serves x t (Asks (Step c)) r y u × Long y
+  pub setup : (κs : Lfts 21) (l : Loans) (s t c h : ℕ) (x : Server) → Long x
+      → (r : ℕ) × (y : Server) × SetupSays κs l s t c h x r y × (y .store ≡ x .store) × Long y
+  pub accepted : (κs : Lfts 21) (l : Loans) (s t c h : ℕ) (x : Server) → numbersOk s t c ≡ true → lengthOk (length (x .store)) ≡ true
+      → (y : Server) × Accepted x y × Long y
+  pub list : Spans → Loans → (x : Server) → Long x → (t : List ℕ) (qs : List Request)
+      → (rs : List ℕ) × (z : Server) × (u : List ℕ) × ServesAll OneTally x t qs rs z u × Long z
 
 pub record ServedTied : Type 2 where
   pub unasked : Unasked
@@ -200,11 +251,15 @@ pub record ServedTied : Type 2 where
   pub tells : Claim-tells
   pub setup : Claim-setup
   pub lists : Claim-lists
+  pub same-holdings : Claim-same-holdings
   pub check : Claim-check
+  pub told-apart : Claim-told-apart
   pub set-up : Claim-set-up
   pub point3 : Claim-point3
   pub list : Claim-list
+  pub tally : Claim-tally
   pub duties : Claim-duties
+  pub spared : Claim-spared
   pub sum : Claim-sum
   pub holdings : Claim-holdings
   pub passes : Claim-passes
