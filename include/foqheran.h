@@ -74,7 +74,8 @@ typedef uint64_t foqheran_answer;
 
 enum { FOQHERAN_DONE = 0, FOQHERAN_WORKING = 1, FOQHERAN_GRANTED = 2, FOQHERAN_REFUSED = 100 };
 
-// The refusals. All but 15 leave everything as it was; after 15 the client is at rest and holds what it held.
+// The refusals. All but 15 leave everything as it was; after 15 the client is at rest and holds what it held. (A step
+// sets its duty in any case: to nothing if it is refused.)
 enum {
     FOQHERAN_OUT_OF_RANGE = 8, // a number of the setup, of the pool, or the length of the store
     FOQHERAN_NO_SUCH_CLIENT = 9,
@@ -359,8 +360,9 @@ static inline foqheran_answer foqheran_release(struct foqheran_pool *pool, uint8
 
 // A begin, and steps until they are answered: granted with the frame, or refused by the first number that refuses: 8,
 // 9, 10, 12, 15 or 16. Nobody else can be stepped meanwhile, so that a client that shares the pool with busy others had
-// better begin and step by itself. It carries out no duty: it is for programs whose pages are in the store. It ends on
-// every pool that was set up and changed by calls alone; on a pool from elsewhere it may step for ever.
+// better begin and step by itself. It carries out no duty: it is for programs whose pages are in the store. That there
+// is an answer in the end is what the method is made for, but so far no part of what is proved; on a pool from
+// elsewhere it may step for ever.
 static inline foqheran_answer foqheran_request(struct foqheran_pool *pool, uint8_t client, uint32_t page,
                                                struct foqheran_tally *tally, uint8_t *store, size_t length)
 {

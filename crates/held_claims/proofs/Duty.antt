@@ -162,7 +162,8 @@ module _ (x : State) (c : ℕ) (z : callOn x (Asks (Step c)) .answer ≢ Refused
       go (no w) = turned w
 
 pub duty : Claim-duty
-duty x c z = told x c z
+unfolding refused
+duty x c f = told x c (λ e. true≢false (sym (ap refused e) ∙ f)) f
 
 -- ---- a refused step
 

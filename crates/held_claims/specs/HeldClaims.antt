@@ -1,4 +1,4 @@
--- What is claimed of calls in place (SPECIFICATION, section 14), of every state: beside the specification's calls, at refusal 8, and of what a step tells
+-- What is claimed of calls in place (SPECIFICATION, section 14), of every state: beside the specification's calls, of refusals, and of what a step tells
 -- the owner of larger pages. Statements only. Assumes nothing.
 use mathlib.Core.Path.{_≡_}
 use mathlib.Core.Logic.{_≢_}
@@ -30,11 +30,10 @@ pub record Tells (x : State) (k : Client) (duty : ℕ) : Type 0 where
   pub nothing : (Removes x k → ⊥) → (Remaps x k → ⊥) → duty ≡ 0
 
 -- GUARANTEE 22, SPECIFICATION 14.7: exactly in the action of a 17 that removes its victim's entry the victim's content goes back, and exactly in that of a 22
--- that replaces an entry it moves, wherever check 8 does not refuse the step
+-- that replaces an entry it moves, wherever the specification's step is not refused
 abbrev pub Claim-duty : Type 0
 Claim-duty =
-    (x : State) (c : ℕ) → callOn x (Asks (Step c)) .answer ≢ Refused 8 → refused (callOn x (Asks (Step c)) .answer) ≡ false
-    → Tells x (client (x .pool) c) (dutyOn x c)
+    (x : State) (c : ℕ) → refused (callOn x (Asks (Step c)) .answer) ≡ false → Tells x (client (x .pool) c) (dutyOn x c)
 
 -- GUARANTEE 22, SPECIFICATION 14.7: a step that is refused, by whichever number, tells nothing
 abbrev pub Claim-no-duty : Type 0

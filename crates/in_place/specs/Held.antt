@@ -98,7 +98,7 @@ dutyOf e (PutFree x) = 0
 
 -- ---- with bytes
 
--- SPECIFICATION 14.4: of a client that reads or writes
+-- SPECIFICATION 14.4: of a client that reads, writes, or asks what it holds
 unfoldable pub holderFits : Pool → ℕ → Bool
 holderFits p c = both (leb (clientCount p) maxClients) (leb (client p c .held) maxHeld)
 
@@ -117,7 +117,7 @@ heldState x h =
 abbrev pub byteHeld : State → Request → ℕ → Result
 byteHeld x r n = let done = actionOn x r in choose (eqb n 0) done (turnedBack n x)
 
--- SPECIFICATION 14.4 to 14.6: a call in place
+-- SPECIFICATION 14.4 to 14.6, 14.10: a call in place
 unfoldable pub heldOn : State → Request → Result
 heldOn x (Asks call) =
     let h = heldOf (x .pool) (x .memory .pages) call in

@@ -284,7 +284,7 @@ duties x y z a t u qs rs s c κs l v e r b f o w d says =
     let n = never-8 (stateIn z) (g .kept) (Asks (Step c)) in
     let it : (refused (callOn (stateIn z) (Asks (Step c)) .answer) ≡ false → Tells (stateIn z) (client (poolIn z) c) d)
     × (refused (callOn (stateIn z) (Asks (Step c)) .answer) ≡ true → d ≡ 0) = (
-      (λ h. rw (says .3) (held-claims .duty (stateIn z) c n h)),
+      (λ h. rw (says .3) (held-claims .duty (stateIn z) c h)),
       (λ h. says .3 ∙ held-claims .no-duty (stateIn z) c (ap (λ (k : Result). refused (k .answer)) (held-claims .same (stateIn z) (Asks (Step c)) n) ∙ h)),
     ) in
     subst (λ (m : State). (refused (callOn m (Asks (Step c)) .answer) ≡ false → Tells m (client (m .pool) c) d)

@@ -262,7 +262,7 @@ StepSays κs l c x t e r b f s u d =
       ),
     )
 
--- what a read or write is lent of clients and grants, which it only reads
+-- a read leaves bytes and filled marks, a write also changed marks; clients, grants and the store they only read
 abbrev pub ReadSays : Lfts 4 → Loans → (c g o : ℕ) → Server → (r : ℕ) → (bytes filled : List ℕ) → Type 0
 ReadSays κs l c g o x r bytes filled =
     read.Learnt κs (c, (g, (o, (lent l 20 (x .store), (x .pages, (lent l 13 (x .frames .bytes), (lent l 14 (x .frames .filled), lentGrants l x))))))) r

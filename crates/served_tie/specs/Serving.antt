@@ -97,7 +97,7 @@ Claim-tells =
     (x : Server) (c : ℕ) (κs : Lfts 19) (l : Loans) (t : List ℕ) (e r : ℕ) (b : Books) (f : Frames) (s u : List ℕ) (d : ℕ)
     → StepSays κs l c x t e r b f s u d → d ≡ dutyOn (stateIn x) c
 
--- SPECIFICATION 14.5: a setup answers as the specification's, done or refused by 8; done, it leaves what that does, and refused everything as it was
+-- GUARANTEE 21, SPECIFICATION 14.5: a setup answers as the specification's, done or refused by 8; done, it leaves what that does, and refused everything as it was
 abbrev pub Claim-setup : Type 0
 Claim-setup =
     (κs : Lfts 21) (l : Loans) (s t c h : ℕ) (x y : Server) (r : ℕ) → SetupSays κs l s t c h x r y → y .store ≡ x .store
@@ -105,7 +105,7 @@ Claim-setup =
     (r ≡ wordOf (o .answer))
     × (((o .answer ≡ Done s) × (stateIn y ≡ o .state)) ⊎ ((o .answer ≡ Refused 8) × (stateIn y ≡ stateIn x)))
 
--- SPECIFICATION 14.6: holdings on these numbers
+-- GUARANTEE 21, SPECIFICATION 14.6: holdings on these numbers
 abbrev pub Claim-lists : Type 0
 Claim-lists =
     (κs : Lfts 2) (l : Loans) (c : ℕ) (x : Server) (t u : List ℕ) (r : ℕ) → HoldingsSays κs l c x t r u

@@ -212,7 +212,8 @@ impl Pool {
 
     /// A begin, and steps up to its answer: the frame. For programs that keep no bytes or whose pages are in the store.
     ///
-    /// No other client is stepped meanwhile. It always comes to an end.
+    /// No other client is stepped meanwhile. That there is an answer in the end is what the method is made for, but so
+    /// far no part of what is proved.
     ///
     /// # Errors
     /// As by [`begin`](Pool::begin), or [`AllBusy`](Refusal::AllBusy).
