@@ -16,7 +16,7 @@
 //         foqheran_write(&pool, 0, 17, 5, 1, store, sizeof store);                      // byte 5 of the page is 1 now
 //         foqheran_release(&pool, 0, 17);
 //     } else {
-//         puts(foqheran_refusal_text(foqheran_refusal(answer)));
+//         puts(foqheran_refusal_text(answer));
 //     }
 //
 // Who owns what. All memory is the caller's: the pool, the store, a tally, a list of rows. No call allocates, keeps a
@@ -57,10 +57,7 @@ enum {
 
 // How many frames a pool of so many slots and clients has: they are numbered from 0. A program that keeps the pages'
 // bytes in buffers of its own needs one buffer a frame, which is more than one a slot.
-static inline size_t foqheran_frames(uint8_t slots, uint8_t clients)
-{
-    return (size_t)slots + 2 * (size_t)clients;
-}
+#define FOQHERAN_FRAMES(slots, clients) ((slots) + 2 * (clients))
 
 // ---- answers
 
@@ -86,7 +83,7 @@ enum {
     FOQHERAN_FEW_ROWS = 14,
     FOQHERAN_ALL_BUSY = 15, // every slot was in use when the client came by: to be tried again after some release
     FOQHERAN_OUTSIDE_STORE = 16,
-    FOQHERAN_OFFSET = 17
+    FOQHERAN_OUTSIDE_PAGE = 17 // the offset is
 };
 
 static inline uint32_t foqheran_code(foqheran_answer answer)
@@ -125,10 +122,10 @@ static inline uint32_t foqheran_refusal(foqheran_answer answer)
     return foqheran_is_refused(answer) ? foqheran_code(answer) - FOQHERAN_REFUSED : 0;
 }
 
-// A refusal in words, for its number.
-static inline const char *foqheran_refusal_text(uint32_t number)
+// Why an answer is a refusal, in words.
+static inline const char *foqheran_refusal_text(foqheran_answer answer)
 {
-    switch (number) {
+    switch (foqheran_refusal(answer)) {
     case 0:
         return "not refused";
     case FOQHERAN_OUT_OF_RANGE:
@@ -149,7 +146,7 @@ static inline const char *foqheran_refusal_text(uint32_t number)
         return "its sweep met only busy slots";
     case FOQHERAN_OUTSIDE_STORE:
         return "the page is outside the store";
-    case FOQHERAN_OFFSET:
+    case FOQHERAN_OUTSIDE_PAGE:
         return "the offset is 64 or more";
     default:
         return "no such refusal";
@@ -202,7 +199,7 @@ enum {
     FOQHERAN_ADMITTED, // grants of a page that this client brought in
     FOQHERAN_REVIVED, // grants of a page that was being dropped, and was kept in another frame
     FOQHERAN_DROPS, // pages dropped
-    FOQHERAN_REFUSED_BUSY, // requests refused by 15
+    FOQHERAN_REFUSALS, // requests refused by 15
     FOQHERAN_COUNTS
 };
 
@@ -326,6 +323,22 @@ static inline foqheran_answer foqheran_setup(struct foqheran_pool *pool, uint8_t
                                 pool->bytes, pool->filled, pool->changed);
 }
 
+// How many slots, clients and frames a pool has.
+static inline uint8_t foqheran_slots(const struct foqheran_pool *pool)
+{
+    return pool->size;
+}
+
+static inline uint8_t foqheran_clients(const struct foqheran_pool *pool)
+{
+    return pool->client_count;
+}
+
+static inline size_t foqheran_frames(const struct foqheran_pool *pool)
+{
+    return FOQHERAN_FRAMES((size_t)pool->size, (size_t)pool->client_count);
+}
+
 // The client, so far at rest, wants a page. Done with the page, or refused by 8, 9, 10, 12 or 16. Steps do the rest.
 static inline foqheran_answer foqheran_begin(struct foqheran_pool *pool, uint8_t client, uint32_t page)
 {
@@ -359,13 +372,16 @@ static inline foqheran_answer foqheran_release(struct foqheran_pool *pool, uint8
 }
 
 // A begin, and steps until they are answered: granted with the frame, or refused by the first number that refuses: 8,
-// 9, 10, 12, 15 or 16. Nobody else can be stepped meanwhile, so that a client that shares the pool with busy others had
-// better begin and step by itself. It carries out no duty: it is for programs whose pages are in the store. That there
-// is an answer in the end is what the method is made for, but so far no part of what is proved; on a pool from
-// elsewhere it may step for ever.
+// 9, 10, 12, 15 or 16. A store of another length than at setup is refused by 8 before the begin. Nobody else can be
+// stepped meanwhile. It carries out no duty: it is for programs whose pages are in the store. That there is an answer
+// in the end is what the method is made for, but so far no part of what is proved; on a pool from elsewhere it may step
+// for ever.
 static inline foqheran_answer foqheran_request(struct foqheran_pool *pool, uint8_t client, uint32_t page,
                                                struct foqheran_tally *tally, uint8_t *store, size_t length)
 {
+    if (foqheran_lent_length(store, length) != (size_t)FOQHERAN_PAGE_BYTES * pool->store_pages) {
+        return (foqheran_answer)(FOQHERAN_REFUSED + FOQHERAN_OUT_OF_RANGE) << 32;
+    }
     foqheran_answer answer = foqheran_begin(pool, client, page);
     if (foqheran_is_refused(answer)) {
         return answer;
@@ -401,12 +417,13 @@ static inline foqheran_answer foqheran_write(struct foqheran_pool *pool, uint8_t
 
 // The pages that a client holds, at rest or at work: one row for each, by rising page number, into the first of `count`
 // rows. Done with the number of rows, or refused by 8, 9 or 14; other rows stay as they were, and after a refusal all
-// do. Eight rows are always enough; `rows` may be NULL if `count` is 0.
+// do. Eight rows are always enough; NULL is a list of none.
 static inline foqheran_answer foqheran_holdings(const struct foqheran_pool *pool, uint8_t client,
                                                 struct foqheran_row *rows, size_t count)
 {
     uint32_t numbers[2 * FOQHERAN_MOST_GRANTS] = {0};
-    size_t room = count < FOQHERAN_MOST_GRANTS ? count : (size_t)FOQHERAN_MOST_GRANTS;
+    size_t lent = rows != NULL ? count : 0;
+    size_t room = lent < FOQHERAN_MOST_GRANTS ? lent : (size_t)FOQHERAN_MOST_GRANTS;
     foqheran_answer answer = foqheran_parts_holdings(client, numbers, 2 * room, pool->client_count, pool->client_bytes,
                                                      pool->client_words, pool->grant_pages);
     if (foqheran_is_done(answer)) {

@@ -9,11 +9,13 @@ What embed/build made, in target/embed/, is used as a program would use it:
     scripts with reads and writes, are played call by call, and the reports
     must be those of second.py and second_store.py;
   - a million calls are made on memory of all kinds;
-  - the crate's own tests are run;
+  - the crate's own tests are run, its documentation is made, and clippy looks
+    at it, where there is one;
   - the examples are run, which check themselves.
 
 Programs in C are built with the sanitizers for addresses, for undefined
-behaviour and, the examples once more, for threads. The players of schedules
+behaviour and, the examples once more, for threads. These do not see what the
+library itself reads and writes. The players of schedules
 and scripts, tests/embed/play.c and the crate's examples/play.rs, are told
 
     play schedule FILE      to print the report of a schedule file
@@ -201,10 +203,10 @@ def prepare(seeds):
             Files("script", scripts, compare.byte_report, compare.script_records, "second_store.py"))
 
 
-def cargo(*arguments):
+def cargo(*arguments, last=(), **options):
     """A cargo command on the crate as it was made ready."""
     return run(["cargo", *arguments, "--offline", "--quiet", "--manifest-path", CRATE / "Cargo.toml",
-                "--target-dir", BUILT / "cargo"])
+                "--target-dir", BUILT / "cargo", *last], **options)
 
 
 def from_c(schedules, scripts):
@@ -252,8 +254,13 @@ def rust_examples():
 
 
 def crate():
+    """The crate's own tests, its documentation, and what clippy says, where there is one."""
     cargo("test")
-    return "the crate's own tests pass"
+    cargo("doc", "--no-deps", env=dict(os.environ, RUSTDOCFLAGS="-D warnings"))
+    if subprocess.run(["cargo", "clippy", "--version"], stdout=subprocess.PIPE, stderr=subprocess.PIPE).returncode:
+        return "the crate's own tests pass, and its documentation has no warnings (clippy is NOT there)"
+    cargo("clippy", "--all-targets", last=["--", "-D", "warnings"])
+    return "the crate's own tests pass, and there are no warnings, of its documentation and by clippy"
 
 
 # All of it.

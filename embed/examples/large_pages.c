@@ -7,8 +7,8 @@
 //
 //   - A step may tell of a duty. It is carried out before anybody else makes a call: a page that leaves the pool is
 //     written to the file, and a page that is kept in another frame has its bytes moved there.
-//   - A client that is granted a page after stage 18 brought it in. It loads the buffer from the file; clients that are
-//     granted the same frame meanwhile wait until it has. It holds the page, so that the frame stays its own.
+//   - A client that is granted a page whose buffer is not loaded loads it from the file; clients that are granted the
+//     same frame meanwhile wait until it has. It holds the page, so that no duty comes for this buffer.
 //   - Whoever writes to a page that it holds marks the buffer dirty, and does so before it releases the page.
 //
 // Clients are threads that share the pool behind one lock, each moving its request on by one action whenever it gets
@@ -24,10 +24,10 @@
 #include <sched.h>
 #include <stdio.h>
 #include <stdlib.h>
+#include <time.h>
 #include <unistd.h>
 
 enum { PAGE_BYTES = 4096, ITEMS = PAGE_BYTES / 4 - 2, MOST_PAGES = 1000, CAP = 3, TICKS_A_VISIT = 4, MOST_HELD = 2 };
-enum { BRINGS_IN = 18 }; // the stage where the table gets a new page
 
 struct page {
     uint32_t number;
@@ -47,16 +47,15 @@ static uint32_t page_count = 40;
 static unsigned long ticks_of_each = 20000;
 static int file;
 
-// What the threads share, and the lock for it. Of a buffer, the bytes and the mark dirty are the holders' as long as
-// its page is held, and the lock's when it is not.
+// What the threads share, and the lock for it. A buffer is its holders', under the page's latch, as long as the page is
+// held, and the lock's when it is not.
 static pthread_mutex_t lock = PTHREAD_MUTEX_INITIALIZER;
-static pthread_cond_t page_loaded = PTHREAD_COND_INITIALIZER;
 static struct foqheran_pool pool;
 static struct foqheran_tally tally;
 static struct buffer *buffers; // one a frame: slots + 2 * clients of them
 
 static struct {
-    pthread_mutex_t latch; // for the page's bytes and its sum: clients that hold one page write to one buffer
+    pthread_mutex_t latch; // for the page's buffer and its sum: clients that hold one page write to one buffer
     uint32_t sum;
     unsigned holders; // under the lock, as the frame is
     uint32_t frame;
@@ -73,7 +72,7 @@ static _Noreturn void fail(const char *what, uint32_t page)
 static void expect_done(foqheran_answer answer, uint32_t page)
 {
     if (!foqheran_is_done(answer)) {
-        fail(foqheran_refusal_text(foqheran_refusal(answer)), page);
+        fail(foqheran_refusal_text(answer), page);
     }
 }
 
@@ -177,23 +176,16 @@ static void release(uint8_t client, uint32_t page)
 
 // ---- a page that is held
 
-// The file is read without the lock: others go on meanwhile, and nobody else uses the buffer before it is loaded.
+// Whoever comes first reads the file, without the pool's lock, so that others go on meanwhile; who wants the same page
+// waits at its latch.
 static void load_buffer(struct buffer *buffer, uint32_t page)
 {
-    load(page, &buffer->page);
-    pthread_mutex_lock(&lock);
-    buffer->loaded = 1;
-    pthread_cond_broadcast(&page_loaded);
-    pthread_mutex_unlock(&lock);
-}
-
-static void await_buffer(struct buffer *buffer)
-{
-    pthread_mutex_lock(&lock);
-    while (!buffer->loaded) {
-        pthread_cond_wait(&page_loaded, &lock);
+    pthread_mutex_lock(&books[page].latch);
+    if (!buffer->loaded) {
+        load(page, &buffer->page);
+        buffer->loaded = 1;
     }
-    pthread_mutex_unlock(&lock);
+    pthread_mutex_unlock(&books[page].latch);
 }
 
 static void tick(struct buffer *buffer, uint32_t page, uint32_t item)
@@ -228,11 +220,9 @@ static uint32_t below(struct client *client, uint32_t bound)
 // The buffer with the page, or NULL where every slot is in use. Between two actions others may have their turn.
 static struct buffer *get(struct client *client, uint32_t page)
 {
-    uint32_t stage = 1; // where the client stands
     begin(client->number, page);
     foqheran_answer answer = step(client->number, page);
     while (foqheran_is_working(answer)) {
-        stage = foqheran_value(answer);
         sched_yield();
         answer = step(client->number, page);
     }
@@ -240,14 +230,10 @@ static struct buffer *get(struct client *client, uint32_t page)
         return NULL;
     }
     if (!foqheran_is_granted(answer)) {
-        fail(foqheran_refusal_text(foqheran_refusal(answer)), page);
+        fail(foqheran_refusal_text(answer), page);
     }
     struct buffer *buffer = &buffers[foqheran_value(answer)];
-    if (stage == BRINGS_IN) {
-        load_buffer(buffer, page);
-    } else {
-        await_buffer(buffer);
-    }
+    load_buffer(buffer, page);
     client->pages[client->held++] = page;
     return buffer;
 }
@@ -259,6 +245,14 @@ static void give_all_back(struct client *client)
     }
 }
 
+// After a refusal by 15. Clients that all came back at once would all be refused again: each waits for another time,
+// and longer from try to try, up to some two milliseconds.
+static void wait_a_little(const struct client *client, unsigned tries)
+{
+    long microseconds = (20 + 5 * (long)client->number) << (tries < 5 ? tries : 5);
+    nanosleep(&(struct timespec){.tv_nsec = 1000 * microseconds}, NULL);
+}
+
 // Where every slot is in use, the client gives back what it holds before it tries again: if all clients kept theirs and
 // waited for more, none would ever get it.
 static void *work(void *given)
@@ -267,8 +261,9 @@ static void *work(void *given)
     for (unsigned long ticks = 0; ticks < ticks_of_each;) {
         uint32_t page = below(client, below(client, 2) == 0 ? page_count : 1 + page_count / 4); // some are in demand
         struct buffer *buffer;
-        while ((buffer = get(client, page)) == NULL) {
+        for (unsigned tries = 0; (buffer = get(client, page)) == NULL; tries++) {
             give_all_back(client);
+            wait_a_little(client, tries);
         }
         for (int i = 0; i < TICKS_A_VISIT && ticks < ticks_of_each; i++, ticks++) {
             tick(buffer, page, below(client, ITEMS));
@@ -363,13 +358,13 @@ int main(int count, char **words)
     }
     file = open_file(count > 4 ? words[4] : NULL);
     make_file();
-    size_t buffer_count = foqheran_frames(client_count, client_count);
+    expect_done(foqheran_setup(&pool, client_count, client_count, CAP, 0, NULL, 0), 0);
+    size_t buffer_count = foqheran_frames(&pool);
     buffers = calloc(buffer_count, sizeof *buffers);
     if (buffers == NULL) {
         fprintf(stderr, "large_pages: no memory for %zu buffers\n", buffer_count);
         return 1;
     }
-    expect_done(foqheran_setup(&pool, client_count, client_count, CAP, 0, NULL, 0), 0);
     run_clients();
     save_buffers(buffer_count);
     check_file();
@@ -379,7 +374,7 @@ int main(int count, char **words)
     printf("%lu actions, %lu of them after another client's; pages were there %u times, brought in %u, dropped %u, "
            "kept after all %u; %u requests met only busy slots\n",
            actions, turns, tally.counts[FOQHERAN_HITS] + tally.counts[FOQHERAN_JOINS], tally.counts[FOQHERAN_ADMITTED],
-           tally.counts[FOQHERAN_DROPS], tally.counts[FOQHERAN_REVIVED], tally.counts[FOQHERAN_REFUSED_BUSY]);
+           tally.counts[FOQHERAN_DROPS], tally.counts[FOQHERAN_REVIVED], tally.counts[FOQHERAN_REFUSALS]);
     printf("no page was held in two copies, and every tick is in the file\n");
     return 0;
 }

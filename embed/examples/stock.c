@@ -19,6 +19,7 @@
 #include <sched.h>
 #include <stdio.h>
 #include <stdlib.h>
+#include <time.h>
 
 enum { ITEMS = FOQHERAN_PAGE_BYTES, CAP = 3, TICKS_A_VISIT = 4, MOST_HELD = 2 };
 
@@ -51,7 +52,7 @@ static _Noreturn void fail(const char *what, uint32_t list)
 static foqheran_answer expect_done(foqheran_answer answer, uint32_t list)
 {
     if (!foqheran_is_done(answer)) {
-        fail(foqheran_refusal_text(foqheran_refusal(answer)), list);
+        fail(foqheran_refusal_text(answer), list);
     }
     return answer;
 }
@@ -103,9 +104,8 @@ static void tick(uint8_t client, uint32_t list, uint32_t item)
     if (packed != books[list].packed[item]) {
         fail("a tick is missing", list);
     }
-    packed = (uint8_t)(packed + 1);
-    expect_done(foqheran_write(&pool, client, list, item, packed, store, store_length), list);
-    books[list].packed[item] = packed;
+    expect_done(foqheran_write(&pool, client, list, item, (uint8_t)(packed + 1), store, store_length), list);
+    books[list].packed[item]++; // and not what was written: two clients that both read 4 would both write 5
     pthread_mutex_unlock(&lock);
 }
 
@@ -149,7 +149,7 @@ static int get(struct client *client, uint32_t list)
         return 1;
     }
     if (foqheran_refusal(answer) != FOQHERAN_ALL_BUSY) {
-        fail(foqheran_refusal_text(foqheran_refusal(answer)), list);
+        fail(foqheran_refusal_text(answer), list);
     }
     return 0;
 }
@@ -161,6 +161,14 @@ static void give_all_back(struct client *client)
     }
 }
 
+// After a refusal by 15. Clients that all came back at once would all be refused again: each waits for another time,
+// and longer from try to try, up to some two milliseconds.
+static void wait_a_little(const struct client *client, unsigned tries)
+{
+    long microseconds = (20 + 5 * (long)client->number) << (tries < 5 ? tries : 5);
+    nanosleep(&(struct timespec){.tv_nsec = 1000 * microseconds}, NULL);
+}
+
 // Where every slot is in use, the client gives back what it holds before it tries again: if all clients kept theirs and
 // waited for more, none would ever get it.
 static void *work(void *given)
@@ -168,8 +176,9 @@ static void *work(void *given)
     struct client *client = given;
     for (unsigned long ticks = 0; ticks < ticks_of_each;) {
         uint32_t list = below(client, below(client, 2) == 0 ? list_count : 1 + list_count / 4); // some are in demand
-        while (!get(client, list)) {
+        for (unsigned tries = 0; !get(client, list); tries++) {
             give_all_back(client);
+            wait_a_little(client, tries);
         }
         for (int i = 0; i < TICKS_A_VISIT && ticks < ticks_of_each; i++, ticks++) {
             tick(client->number, list, below(client, ITEMS));
@@ -308,7 +317,7 @@ int main(int count, char **words)
     printf("%lu actions, %lu of them after another client's; lists were there %u times, brought in %u, dropped %u, "
            "kept after all %u; %u requests met only busy slots\n",
            actions, turns, tally.counts[FOQHERAN_HITS] + tally.counts[FOQHERAN_JOINS], tally.counts[FOQHERAN_ADMITTED],
-           tally.counts[FOQHERAN_DROPS], tally.counts[FOQHERAN_REVIVED], tally.counts[FOQHERAN_REFUSED_BUSY]);
+           tally.counts[FOQHERAN_DROPS], tally.counts[FOQHERAN_REVIVED], tally.counts[FOQHERAN_REFUSALS]);
     printf("no list was held in two copies, and every tick is in the file\n");
     return 0;
 }

@@ -24,6 +24,11 @@ static uint32_t refusal(foqheran_answer answer)
     return foqheran_refusal(answer);
 }
 
+static foqheran_answer refused_by(uint32_t number)
+{
+    return (foqheran_answer)(FOQHERAN_REFUSED + number) << 32;
+}
+
 static void helpers(void)
 {
     foqheran_answer working = (uint64_t)FOQHERAN_WORKING << 32 | 18, refused = (uint64_t)115 << 32;
@@ -34,7 +39,7 @@ static void helpers(void)
     MUST(foqheran_is_done(9) && foqheran_value(9) == 9 && foqheran_is_granted((uint64_t)FOQHERAN_GRANTED << 32));
     for (uint32_t i = 8; i <= 17; i++) {
         for (uint32_t j = 0; j < i; j++) {
-            MUST(strcmp(foqheran_refusal_text(i), foqheran_refusal_text(j)) != 0);
+            MUST(strcmp(foqheran_refusal_text(refused_by(i)), foqheran_refusal_text(refused_by(j))) != 0);
         }
     }
     foqheran_duty back = (uint64_t)1 << 40 | (uint64_t)95 << 32 | 0xfffffffe,
@@ -43,7 +48,7 @@ static void helpers(void)
     MUST(foqheran_duty_page(back) == 0xfffffffe && foqheran_duty_kind(0) == FOQHERAN_NOTHING);
     MUST(foqheran_duty_kind(move) == FOQHERAN_MOVE && foqheran_duty_frame(move) == 7 &&
          foqheran_duty_target(move) == 95);
-    MUST(foqheran_frames(64, 16) == FOQHERAN_MOST_FRAMES && foqheran_frames(2, 3) == 8);
+    MUST(FOQHERAN_FRAMES(64, 16) == FOQHERAN_MOST_FRAMES && FOQHERAN_FRAMES(2, 3) == 8);
 }
 
 static void not_set_up(void)
@@ -82,16 +87,20 @@ static void requests(void)
     struct foqheran_row rows[2] = {{77, 77}, {77, 77}};
     memset(&tally, 0, sizeof tally);
     MUST(foqheran_is_done(foqheran_setup(&pool, 2, 2, 3, 0, store, sizeof store)));
+    MUST(foqheran_slots(&pool) == 2 && foqheran_clients(&pool) == 2 && foqheran_frames(&pool) == 6);
     MUST(refusal(foqheran_request(&pool, 2, 0, &tally, store, sizeof store)) == FOQHERAN_NO_SUCH_CLIENT);
     MUST(refusal(foqheran_request(&pool, 0, 4, &tally, store, sizeof store)) == FOQHERAN_OUTSIDE_STORE);
+    MUST(refusal(foqheran_request(&pool, 0, 3, &tally, NULL, sizeof store)) == 8); // and the client is still at rest
+    MUST(refusal(foqheran_request(&pool, 0, 3, &tally, store, sizeof store - 64)) == 8);
     MUST(foqheran_is_granted(foqheran_request(&pool, 0, 3, &tally, store, sizeof store)));
     MUST(foqheran_is_granted(foqheran_request(&pool, 0, 1, &tally, store, sizeof store)));
     MUST(refusal(foqheran_request(&pool, 1, 2, &tally, store, sizeof store)) == FOQHERAN_ALL_BUSY);
     MUST(foqheran_is_granted(foqheran_request(&pool, 1, 3, NULL, store, sizeof store))); // a tally of its own
-    MUST(tally.counts[FOQHERAN_ADMITTED] == 2 && tally.counts[FOQHERAN_REFUSED_BUSY] == 1 &&
+    MUST(tally.counts[FOQHERAN_ADMITTED] == 2 && tally.counts[FOQHERAN_REFUSALS] == 1 &&
          tally.counts[FOQHERAN_HITS] == 0);
     MUST(refusal(foqheran_holdings(&pool, 0, rows, 1)) == FOQHERAN_FEW_ROWS && rows[0].page == 77);
     MUST(refusal(foqheran_holdings(&pool, 0, NULL, 0)) == FOQHERAN_FEW_ROWS);
+    MUST(refusal(foqheran_holdings(&pool, 0, NULL, 8)) == FOQHERAN_FEW_ROWS);
     MUST(foqheran_value(foqheran_holdings(&pool, 0, rows, 1000000)) == 2);
     MUST(rows[0].page == 1 && rows[0].times == 1 && rows[1].page == 3 && rows[1].times == 1);
     MUST(foqheran_is_done(foqheran_begin(&pool, 1, 0)));

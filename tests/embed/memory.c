@@ -190,6 +190,7 @@ struct call {
     unsigned kind;
     uint8_t client;
     uint32_t page;
+    size_t numbers; // that holdings are lent
     foqheran_answer answer;
 };
 
@@ -255,7 +256,7 @@ static int may_answer(const struct call *call)
     case READ:
         return foqheran_is_done(call->answer) && value <= 255;
     case HOLDINGS:
-        return foqheran_is_done(call->answer) && value <= FOQHERAN_MOST_GRANTS;
+        return foqheran_is_done(call->answer) && 2 * value <= call->numbers;
     default:
         return foqheran_is_done(call->answer) && value == call->page;
     }
@@ -411,7 +412,7 @@ static foqheran_answer answered(const struct call *call, size_t length, uint32_t
                                     now.filled, now.changed, clients, now.client_bytes, now.client_words,
                                     now.grant_pages, now.grant_frames);
     case HOLDINGS:
-        return foqheran_parts_holdings(client, now.rows, below(ROW_NUMBERS + 1), clients, now.client_bytes,
+        return foqheran_parts_holdings(client, now.rows, call->numbers, clients, now.client_bytes,
                                        now.client_words, now.grant_pages);
     default:
         return foqheran_parts_check(now.store, length, pages, now.filled, now.changed, now.size[0], clients, now.cap[0],
@@ -464,7 +465,7 @@ static unsigned some_kind(uint8_t client)
 static void make_a_call(void)
 {
     uint8_t client = (uint8_t)mostly_below(now.client_count[0] == 0 ? 1 : now.client_count[0], 255);
-    struct call call = {some_kind(client), client, some_page(client), 0};
+    struct call call = {some_kind(client), client, some_page(client), below(ROW_NUMBERS + 1), 0};
     make(call);
 }
 
@@ -477,7 +478,7 @@ static void start_anew(void)
     }
     memcpy(&before, &now, sizeof now);
     if (once_in(2)) {
-        struct call setup = {SETUP, 0, 0, 0};
+        struct call setup = {SETUP, 0, 0, 0, 0};
         make(setup);
     }
 }

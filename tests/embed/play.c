@@ -175,7 +175,7 @@ static uint32_t print_list(uint8_t client, size_t room)
 // No call tells of bytes and marks as they stand, so a test has to look at the pool's fields.
 static void dump(void)
 {
-    for (size_t f = 0; f < foqheran_frames(pool.size, pool.client_count); f++) {
+    for (size_t f = 0; f < foqheran_frames(&pool); f++) {
         printf("%zu %d %d", f, pool.filled[f] != 0, pool.changed[f] != 0);
         print_bytes(pool.bytes + FOQHERAN_PAGE_BYTES * f);
     }

@@ -11,6 +11,7 @@ built, or ends with another status than 0, ends the test with exit status 1.
 import os
 import pathlib
 import re
+import shutil
 import subprocess
 import sys
 
@@ -66,6 +67,9 @@ def main():
         return 0 if sys.argv[1] in ("-h", "--help") else 2
     if not READY.is_dir():
         sys.exit("target/embed is not there: embed/build makes it")
+    missing = [name for name in ("gcc", "g++", "cargo", "rustc") if not shutil.which(name)]
+    if missing:
+        sys.exit("%s missing: python3 tests/embed.py --fetch installs what is" % ", ".join(missing))
     BUILT.mkdir(parents=True, exist_ok=True)
     run_c()
     run_rust()

@@ -18,11 +18,11 @@ use std::os::unix::fs::FileExt;
 use std::path::Path;
 use std::sync::atomic::{AtomicU32, Ordering};
 use std::sync::{Mutex, MutexGuard};
-use watch::{fail, lock, Grants};
+use watch::{fail, lock, wait_a_little, Grants};
 
 const PAGE: usize = 4096;
 const PAGES: u32 = 48;
-const SLOTS: u8 = 8;
+const SLOTS: u8 = 5;
 const CLIENTS: u8 = 16;
 /// A page has so many counts of four bytes.
 const COUNTS: usize = 8;
@@ -88,6 +88,7 @@ impl Server {
     /// Gets a page for a client, one action at a time: its frame. Refused by 15 it tries again: it holds nothing, so
     /// it is in nobody's way.
     fn open(&self, client: u8, page: u32) -> u8 {
+        let mut tries = 0;
         loop {
             lock(&self.pool).0.begin(client, page).unwrap_or_else(fail);
             loop {
@@ -106,6 +107,8 @@ impl Server {
                     return frame;
                 }
             }
+            wait_a_little(client, tries);
+            tries += 1;
         }
     }
 

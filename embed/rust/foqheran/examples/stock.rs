@@ -15,7 +15,7 @@ use foqheran::{Answer, Pool, Refusal, PAGE_BYTES};
 use std::path::Path;
 use std::sync::atomic::{AtomicBool, Ordering};
 use std::sync::Mutex;
-use watch::{fail, lock, Grants};
+use watch::{fail, lock, wait_a_little, Grants};
 
 const SLOTS: u8 = 8;
 const BENCHES: u8 = 8;
@@ -75,13 +75,14 @@ fn close(shared: &Mutex<Floor>, client: u8, page: u32) {
 /// Gets two pages. Where there is no room for the second, the first is given back before the next try: if all benches
 /// kept what they have and waited for more, nobody would ever get it.
 fn open_both(shared: &Mutex<Floor>, client: u8, first: u32, second: u32) {
-    loop {
+    for tries in 0.. {
         if open(shared, client, first) {
             if open(shared, client, second) {
                 return;
             }
             close(shared, client, first);
         }
+        wait_a_little(client, tries);
     }
 }
 

@@ -25,6 +25,7 @@ impl fmt::Display for Answer {
 ///
 /// It belongs to the same action as the step: it has to be carried out before the next call on the pool.
 #[derive(Clone, Copy, Debug, PartialEq, Eq, Hash)]
+#[must_use = "with buffers of its own a program has to carry it out before the next call"]
 pub enum Duty {
     /// The page leaves the pool. If the frame's buffer has changed bytes of it, they go to where the page is kept. From
     /// now on the buffer holds nothing.
@@ -86,47 +87,50 @@ pub enum Refusal {
     /// 16: the store has no such page; of a read or write also: there is no store.
     OutsideStore,
     /// 17: a page has 64 bytes, at the offsets 0 to 63.
-    Offset,
+    OutsidePage,
     /// An answer with a code that this crate does not know. The proved library has no such answer.
     Other(u32),
 }
 
 impl Refusal {
+    /// In the order of their numbers, from 8 on.
+    const KNOWN: [Refusal; 10] = [
+        Refusal::OutOfRange,
+        Refusal::NoSuchClient,
+        Refusal::AtWork,
+        Refusal::AtRest,
+        Refusal::HasEight,
+        Refusal::NotHeld,
+        Refusal::FewRows,
+        Refusal::AllBusy,
+        Refusal::OutsideStore,
+        Refusal::OutsidePage,
+    ];
+
     pub(crate) fn of(code: u32) -> Refusal {
-        match code {
-            108 => Refusal::OutOfRange,
-            109 => Refusal::NoSuchClient,
-            110 => Refusal::AtWork,
-            111 => Refusal::AtRest,
-            112 => Refusal::HasEight,
-            113 => Refusal::NotHeld,
-            114 => Refusal::FewRows,
-            115 => Refusal::AllBusy,
-            116 => Refusal::OutsideStore,
-            117 => Refusal::Offset,
-            other => Refusal::Other(other),
-        }
+        let known = code.checked_sub(108).and_then(|place| Refusal::KNOWN.get(place as usize));
+        known.copied().unwrap_or(Refusal::Other(code))
     }
 
-    /// The code of the answer: 100 and the refusal's number.
+    /// The code of the answer: 100 and the refusal's [number](Refusal::number).
     ///
     /// ```
     /// assert_eq!(foqheran::Refusal::AllBusy.code(), 115);
     /// ```
     pub fn code(self) -> u32 {
-        match self {
-            Refusal::OutOfRange => 108,
-            Refusal::NoSuchClient => 109,
-            Refusal::AtWork => 110,
-            Refusal::AtRest => 111,
-            Refusal::HasEight => 112,
-            Refusal::NotHeld => 113,
-            Refusal::FewRows => 114,
-            Refusal::AllBusy => 115,
-            Refusal::OutsideStore => 116,
-            Refusal::Offset => 117,
-            Refusal::Other(code) => code,
+        match (self, Refusal::KNOWN.iter().position(|&known| known == self)) {
+            (Refusal::Other(code), _) => code,
+            (_, place) => 108 + place.unwrap_or_default() as u32,
         }
+    }
+
+    /// The refusal's number, 8 to 17: as `docs/SPECIFICATION.md` and `docs/SERVER.md` list them.
+    ///
+    /// ```
+    /// assert_eq!(foqheran::Refusal::AllBusy.number(), 15);
+    /// ```
+    pub fn number(self) -> u32 {
+        self.code().saturating_sub(100)
     }
 }
 
@@ -142,10 +146,10 @@ impl fmt::Display for Refusal {
             Refusal::FewRows => "the list has too few rows",
             Refusal::AllBusy => "its sweep met only busy slots",
             Refusal::OutsideStore => "the page is outside the store",
-            Refusal::Offset => "the offset is 64 or more",
+            Refusal::OutsidePage => "the offset is 64 or more",
             Refusal::Other(code) => return write!(f, "an answer with the unknown code {code}"),
         };
-        write!(f, "refused by {}: {why}", self.code() - 100)
+        write!(f, "refused by {}: {why}", self.number())
     }
 }
 

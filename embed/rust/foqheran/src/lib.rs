@@ -152,7 +152,7 @@ impl Pool {
     }
 
     /// How many frames the pool has, numbered from 0: one for each slot and two for each client. Who keeps the pages'
-    /// bytes in buffers needs so many of them.
+    /// bytes in buffers needs that many of them.
     ///
     /// ```
     /// assert_eq!(foqheran::Pool::new(8, 4, 3, 0)?.frames(), 16);
@@ -282,7 +282,7 @@ impl Pool {
     ///
     /// # Errors
     /// [`NoSuchClient`](Refusal::NoSuchClient), [`AtWork`](Refusal::AtWork), [`NotHeld`](Refusal::NotHeld),
-    /// [`OutsideStore`](Refusal::OutsideStore) in a pool without a store, and [`Offset`](Refusal::Offset).
+    /// [`OutsideStore`](Refusal::OutsideStore) in a pool without a store, and [`OutsidePage`](Refusal::OutsidePage).
     ///
     /// ```
     /// use foqheran::{Pool, Refusal};

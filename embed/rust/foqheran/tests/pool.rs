@@ -29,7 +29,7 @@ fn refusals_have_their_numbers() {
         pool.request(0, 1).unwrap();
     }
     assert_eq!(pool.request(0, 1), Err(Refusal::HasEight));
-    assert_eq!(pool.read(0, 1, 64), Err(Refusal::Offset));
+    assert_eq!(pool.read(0, 1, 64), Err(Refusal::OutsidePage));
     assert_eq!(pool.holdings_into(0, &mut []), Err(Refusal::FewRows));
     assert_eq!(Refusal::AtRest.to_string(), "refused by 11: the client is at rest");
     assert_eq!(Refusal::Other(7).to_string(), "an answer with the unknown code 7");

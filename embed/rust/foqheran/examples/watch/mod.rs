@@ -1,7 +1,8 @@
-//! How the examples watch themselves: what they were granted, and their end if something is wrong.
+//! What the examples share: how they watch themselves, and how they wait.
 
 use std::fmt::Display;
 use std::sync::{Mutex, MutexGuard};
+use std::time::Duration;
 
 /// For each page, the frame that it was granted in last, and how many grants of it are open.
 pub struct Grants(Vec<(u8, u32)>);
@@ -26,6 +27,12 @@ impl Grants {
     pub fn released(&mut self, page: u32) {
         self.0[page as usize].1 -= 1;
     }
+}
+
+/// After a refusal by 15. Clients that all came back at once would all be refused again: each waits for another time,
+/// and longer from try to try, up to some two milliseconds.
+pub fn wait_a_little(client: u8, tries: u32) {
+    std::thread::sleep(Duration::from_micros((20 + 5 * u64::from(client)) << tries.min(5)));
 }
 
 /// Says what is wrong and ends the program.
