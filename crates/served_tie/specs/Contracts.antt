@@ -122,311 +122,91 @@ pub record Loans : Type 0 where
 abbrev lent : {A : Type 0} → Loans → ℕ → A → RefT A
 lent l i v = record { ptr = l .ptr i; name = l .name i; now = v }
 
+-- one argument of a function, and those after it
+infixr 30 _&_
+abbrev _&_ : {A B : Type 0} → A → B → A × B
+a & b = (a, b)
+
 -- the books, each part by a reference, before what else is lent
 abbrev LentBooks : Type 0 → Type 0
 LentBooks A = RefT ℕ × (RefT ℕ × (RefT ℕ × (RefT (List ℕ) × (RefT (List ℕ) × (RefT (List ℕ) × (RefT (List ℕ) × (RefT (List ℕ) × (RefT (List ℕ) × (RefT (List ℕ) × (RefT (List ℕ) × (RefT (List ℕ) × (RefT (List ℕ) × A))))))))))))
 
 abbrev lentBooks : {A : Type 0} → Loans → Books → A → LentBooks A
-lentBooks l b rest = (lent l 0 (b .hand), (lent l 1 (b .free), (lent l 2 (b .last), (lent l 3 (b .slots), (lent l 4 (b .pages), (lent l 5 (b .pins), (lent l 6 (b .counts), (lent l 7 (b .tablePages), (lent l 8 (b .tableFrames), (lent l 9 (b .clientBytes), (lent l 10 (b .clientWords), (lent l 11 (b .grantPages), (lent l 12 (b .grantFrames), rest)))))))))))))
+lentBooks l b rest =
+    lent l 0 (b .hand) & lent l 1 (b .free) & lent l 2 (b .last) & lent l 3 (b .slots) & lent l 4 (b .pages) & lent l 5 (b .pins) & lent l 6 (b .counts) &
+    lent l 7 (b .tablePages) & lent l 8 (b .tableFrames) & lent l 9 (b .clientBytes) & lent l 10 (b .clientWords) & lent l 11 (b .grantPages) &
+    lent l 12 (b .grantFrames) & rest
 
 -- the frames' bytes and marks
 abbrev lentFrames : Loans → Frames → RefT (List ℕ) × (RefT (List ℕ) × (RefT (List ℕ) × Unit {0}))
-lentFrames l f = (lent l 13 (f .bytes), (lent l 14 (f .filled), (lent l 15 (f .changed), tt)))
+lentFrames l f = lent l 13 (f .bytes) & lent l 14 (f .filled) & lent l 15 (f .changed) & tt
 
 -- how many clients there are, their records and grants, for those that only read them
 abbrev lentGrants : Loans → Server → ℕ × (RefT (List ℕ) × (RefT (List ℕ) × (RefT (List ℕ) × (RefT (List ℕ) × Unit {0}))))
 lentGrants l x =
     let b = x .books in
-    (x .clients, (lent l 9 (b .clientBytes), (lent l 10 (b .clientWords), (lent l 11 (b .grantPages), (lent l 12 (b .grantFrames), tt)))))
+    x .clients & lent l 9 (b .clientBytes) & lent l 10 (b .clientWords) & lent l 11 (b .grantPages) & lent l 12 (b .grantFrames) & tt
 
 -- ---- what each says of its arguments, its result and what is left
 
--- a setup that finds these things there
+-- Each is told of what it is given as it stands before the call and after it: `given` says both.
+
+-- a setup that finds these things there; the store it only reads
 abbrev pub SetupSays : Lfts 21 → Loans → (s t c h : ℕ) → Server → (r : ℕ) → Server → Type 0
 SetupSays κs l s t c h x r y =
-    setup.Learnt κs (
-      s,
-      (
-        t,
-        (
-          c,
-          (
-            h,
-            (
-              lent l 20 (x .store),
-              (
-                lent l 21 (x .size),
-                (
-                  lent l 22 (x .clients),
-                  (
-                    lent l 23 (x .cap),
-                    (
-                      lent l 24 (x .pages),
-                      lentBooks l (x .books) (lentFrames l (x .frames)),
-                    ),
-                  ),
-                ),
-              ),
-            ),
-          ),
-        ),
-      ),
-    )
-    r (
-      s,
-      (
-        t,
-        (
-          c,
-          (
-            h,
-            (
-              lent l 20 (x .store),
-              (
-                lent l 21 (y .size),
-                (
-                  lent l 22 (y .clients),
-                  (
-                    lent l 23 (y .cap),
-                    (
-                      lent l 24 (y .pages),
-                      lentBooks l (y .books) (lentFrames l (y .frames)),
-                    ),
-                  ),
-                ),
-              ),
-            ),
-          ),
-        ),
-      ),
-    )
+    let given : (Server → Dens κs setup-kinds.ps) = λ z.
+    s & t & c & h & lent l 20 (x .store) & lent l 21 (z .size) & lent l 22 (z .clients) & lent l 23 (z .cap) & lent l 24 (z .pages) &
+    lentBooks l (z .books) (lentFrames l (z .frames)) in
+    setup.Learnt κs (given x) r (given y)
 
 abbrev pub BeginSays : Lfts 13 → Loans → (c g : ℕ) → Server → (r : ℕ) → Books → Type 0
 BeginSays κs l c g x r b =
-    begin.Learnt κs (c, (g, (x .pages, (x .size, (x .clients, (x .cap, lentBooks l (x .books) tt)))))) r
-    (c, (g, (x .pages, (x .size, (x .clients, (x .cap, lentBooks l b tt))))))
+    let given : (Books → Dens κs begin-kinds.ps) = λ z. c & g & x .pages & x .size & x .clients & x .cap & lentBooks l z tt in
+    begin.Learnt κs (given (x .books)) r (given b)
 
 abbrev pub ReleaseSays : Lfts 13 → Loans → (c g : ℕ) → Server → (r : ℕ) → Books → Type 0
 ReleaseSays κs l c g x r b =
-    release.Learnt κs (c, (g, (x .size, (x .clients, (x .cap, lentBooks l (x .books) tt))))) r
-    (c, (g, (x .size, (x .clients, (x .cap, lentBooks l b tt)))))
+    let given : (Books → Dens κs release-kinds.ps) = λ z. c & g & x .size & x .clients & x .cap & lentBooks l z tt in
+    release.Learnt κs (given (x .books)) r (given b)
 
 -- a step, lent a tally in the numbers t and a place for the duty where e stands; it leaves books, frames, store, numbers u and duty d
 abbrev pub StepSays : Lfts 19 → Loans → (c : ℕ) → Server → (t : List ℕ) → (e r : ℕ) → Books → Frames → List ℕ → (u : List ℕ) → (d : ℕ) → Type 0
 StepSays κs l c x t e r b f s u d =
-    step.Learnt κs (
-      c,
-      (
-        lent l 30 t,
-        (
-          lent l 31 e,
-          (
-            lent l 20 (x .store),
-            (
-              x .pages,
-              (
-                lent l 13 (x .frames .bytes),
-                (
-                  lent l 14 (x .frames .filled),
-                  (lent l 15 (x .frames .changed), (x .size, (x .clients, (x .cap, lentBooks l (x .books) tt)))),
-                ),
-              ),
-            ),
-          ),
-        ),
-      ),
-    )
-    r (
-      c,
-      (
-        lent l 30 u,
-        (
-          lent l 31 d,
-          (
-            lent l 20 s,
-            (
-              x .pages,
-              (
-                lent l 13 (f .bytes),
-                (
-                  lent l 14 (f .filled),
-                  (
-                    lent l 15 (f .changed),
-                    (x .size, (x .clients, (x .cap, lentBooks l b tt))),
-                  ),
-                ),
-              ),
-            ),
-          ),
-        ),
-      ),
-    )
+    let given : (List ℕ → ℕ → List ℕ → Frames → Books → Dens κs step-kinds.ps) = λ n k store z w.
+    c & lent l 30 n & lent l 31 k & lent l 20 store & x .pages & lent l 13 (z .bytes) & lent l 14 (z .filled) & lent l 15 (z .changed) &
+    x .size & x .clients & x .cap & lentBooks l w tt in
+    step.Learnt κs (given t e (x .store) (x .frames) (x .books)) r (given u d s f b)
 
 -- a read leaves bytes and filled marks, a write also changed marks; clients, grants and the store they only read
 abbrev pub ReadSays : Lfts 4 → Loans → (c g o : ℕ) → Server → (r : ℕ) → (bytes filled : List ℕ) → Type 0
 ReadSays κs l c g o x r bytes filled =
-    read.Learnt κs (c, (g, (o, (lent l 20 (x .store), (x .pages, (lent l 13 (x .frames .bytes), (lent l 14 (x .frames .filled), lentGrants l x))))))) r
-    (c, (g, (o, (lent l 20 (x .store), (x .pages, (lent l 13 bytes, (lent l 14 filled, lentGrants l x)))))))
+    let given : (List ℕ → List ℕ → Dens κs read-kinds.ps) = λ b m.
+    c & g & o & lent l 20 (x .store) & x .pages & lent l 13 b & lent l 14 m & lentGrants l x in
+    read.Learnt κs (given (x .frames .bytes) (x .frames .filled)) r (given bytes filled)
 
 abbrev pub WriteSays : Lfts 5 → Loans → (c g o v : ℕ) → Server → (r : ℕ) → Frames → Type 0
 WriteSays κs l c g o v x r f =
-    write.Learnt κs (
-      c,
-      (
-        g,
-        (
-          o,
-          (
-            v,
-            (
-              lent l 20 (x .store),
-              (
-                x .pages,
-                (
-                  lent l 13 (x .frames .bytes),
-                  (
-                    lent l 14 (x .frames .filled),
-                    (
-                      lent l 15 (x .frames .changed),
-                      lentGrants l x,
-                    ),
-                  ),
-                ),
-              ),
-            ),
-          ),
-        ),
-      ),
-    )
-    r
-    (c, (g, (o, (v, (lent l 20 (x .store), (x .pages, (lent l 13 (f .bytes), (lent l 14 (f .filled), (lent l 15 (f .changed), lentGrants l x)))))))))
+    let given : (Frames → Dens κs write-kinds.ps) = λ z.
+    c & g & o & v & lent l 20 (x .store) & x .pages & lent l 13 (z .bytes) & lent l 14 (z .filled) & lent l 15 (z .changed) & lentGrants l x in
+    write.Learnt κs (given (x .frames)) r (given f)
 
 -- holdings, lent the numbers t, which leave u
 abbrev pub HoldingsSays : Lfts 2 → Loans → (c : ℕ) → Server → (t : List ℕ) → (r : ℕ) → (u : List ℕ) → Type 0
 HoldingsSays κs l c x t r u =
     let b = x .books in
-    holdings.Learnt κs (c, (lent l 30 t, (x .clients, (lent l 9 (b .clientBytes), (lent l 10 (b .clientWords), (lent l 11 (b .grantPages), tt)))))) r
-    (c, (lent l 30 u, (x .clients, (lent l 9 (b .clientBytes), (lent l 10 (b .clientWords), (lent l 11 (b .grantPages), tt))))))
+    let given : (List ℕ → Dens κs holdings-kinds.ps) = λ n.
+    c & lent l 30 n & x .clients & lent l 9 (b .clientBytes) & lent l 10 (b .clientWords) & lent l 11 (b .grantPages) & tt in
+    holdings.Learnt κs (given t) r (given u)
 
+-- check, which only reads
 abbrev pub CheckSays : Lfts 1 → Loans → Server → (r : ℕ) → Type 0
 CheckSays κs l x r =
     let b = x .books in
-    check.Learnt κs (
-      lent l 20 (x .store),
-      (
-        x .pages,
-        (
-          lent l 14 (x .frames .filled),
-          (
-            lent l 15 (x .frames .changed),
-            (
-              x .size,
-              (
-                x .clients,
-                (
-                  x .cap,
-                  (
-                    b .free,
-                    (
-                      b .last,
-                      (
-                        lent l 3 (b .slots),
-                        (
-                          lent l 4 (b .pages),
-                          (
-                            lent l 5 (b .pins),
-                            (
-                              lent l 6 (b .counts),
-                              (
-                                lent l 7 (b .tablePages),
-                                (
-                                  lent l 8 (b .tableFrames),
-                                  (
-                                    lent l 9 (b .clientBytes),
-                                    (
-                                      lent l 10 (b .clientWords),
-                                      (
-                                        lent l 11 (b .grantPages),
-                                        (
-                                          lent l 12 (b .grantFrames),
-                                          tt,
-                                        ),
-                                      ),
-                                    ),
-                                  ),
-                                ),
-                              ),
-                            ),
-                          ),
-                        ),
-                      ),
-                    ),
-                  ),
-                ),
-              ),
-            ),
-          ),
-        ),
-      ),
-    )
-    r (
-      lent l 20 (x .store),
-      (
-        x .pages,
-        (
-          lent l 14 (x .frames .filled),
-          (
-            lent l 15 (x .frames .changed),
-            (
-              x .size,
-              (
-                x .clients,
-                (
-                  x .cap,
-                  (
-                    b .free,
-                    (
-                      b .last,
-                      (
-                        lent l 3 (b .slots),
-                        (
-                          lent l 4 (b .pages),
-                          (
-                            lent l 5 (b .pins),
-                            (
-                              lent l 6 (b .counts),
-                              (
-                                lent l 7 (b .tablePages),
-                                (
-                                  lent l 8 (b .tableFrames),
-                                  (
-                                    lent l 9 (b .clientBytes),
-                                    (
-                                      lent l 10 (b .clientWords),
-                                      (
-                                        lent l 11 (b .grantPages),
-                                        (
-                                          lent l 12 (b .grantFrames),
-                                          tt,
-                                        ),
-                                      ),
-                                    ),
-                                  ),
-                                ),
-                              ),
-                            ),
-                          ),
-                        ),
-                      ),
-                    ),
-                  ),
-                ),
-              ),
-            ),
-          ),
-        ),
-      ),
-    )
+    let given : Dens κs check-kinds.ps =
+    lent l 20 (x .store) & x .pages & lent l 14 (x .frames .filled) & lent l 15 (x .frames .changed) & x .size & x .clients & x .cap & b .free & b .last &
+    lent l 3 (b .slots) & lent l 4 (b .pages) & lent l 5 (b .pins) & lent l 6 (b .counts) & lent l 7 (b .tablePages) & lent l 8 (b .tableFrames) &
+    lent l 9 (b .clientBytes) & lent l 10 (b .clientWords) & lent l 11 (b .grantPages) & lent l 12 (b .grantFrames) & tt in
+    check.Learnt κs given r given
 
 -- ---- the code keeps its contracts
 
