@@ -129,7 +129,7 @@ turned-down p x n a z = go (turned-or-move p x)
         absurd (elim (refused-by p x n r) [ inl q ↦ e8 (ap refusalOf r ∙ q) | inr w ↦ z (ap refusalOf (sym r ∙ ap (λ (m : Move). m .answer) (w .2))) ])
 
 -- the move of refusal 15 writes nothing that the clients share
-rests : (p : Pool) (c : ℕ) → apply p c (refused15 (client p c)) ≡ withClient p c (resting (client p c .held))
+pub rests : (p : Pool) (c : ℕ) → apply p c (refused15 (client p c)) ≡ withClient p c (resting (client p c .held))
 unfolding apply slotsAfter pagesAfter pinsAfter countsAfter entryPagesAfter entryFramesAfter handAfter freeAfter lastAfter grantPagesAfter grantFramesAfter
 rests p c = refl
 

@@ -1,4 +1,5 @@
 pub mod Same
 pub mod TurnedAway
+pub mod Busy
 pub mod Duty
 pub mod Claimed

@@ -4,12 +4,13 @@ use mathlib.Core.Path.{_≡_}
 use mathlib.Core.Logic.{_≢_}
 use mathlib.Core.Bool.{true, false}
 use Prim.Native.Nat.{ℕ}
-use Rattle.pool.specs.State.{page, client}
+use Rattle.pool.specs.State.{resting, page, client}
 use Rattle.pool.specs.declared.Answer.the-variants.{Refused}
 use Rattle.pool.specs.declared.Client.{Client}
 use Rattle.pool.specs.declared.Call.the-variants.{Step}
-use Rattle.pool.specs.declared.Counted.the-variants.{Nothing}
-use Rattle.memory.specs.Requests.{Request, Asks, State, refused, callOn}
+use Rattle.pool.specs.declared.Counted.the-variants.{Nothing, Refusal}
+use Rattle.guarantee.specs.Claims.{withClient}
+use Rattle.memory.specs.Requests.{Request, Asks, State, Result, refused, callOn}
 use Rattle.mixed.specs.Mixed.{Removes, Remaps}
 use Rattle.in_place.specs.Held.{heldOn, dutyWord, dutyOn}
 
@@ -22,6 +23,17 @@ Claim-same = (x : State) (r : Request) → callOn x r .answer ≢ Refused 8 → 
 abbrev pub Claim-turned-away : Type 0
 Claim-turned-away =
     (x : State) (r : Request) (n : ℕ) → heldOn x r .answer ≡ Refused n → n ≢ 15 → (heldOn x r .state ≡ x) × (heldOn x r .counted ≡ Nothing)
+
+-- request r, which came to o, is a step: its client rests with its grants, a refusal is counted, and nothing else has changed
+abbrev pub RestsBusy : State → Request → Result → Type 0
+RestsBusy x r o =
+    (c : ℕ) × (r ≡ Asks (Step c))
+    × (o .state ≡ record { pool = withClient (x .pool) c (resting (client (x .pool) c .held)); memory = x .memory; store = x .store })
+    × (o .counted ≡ Refusal)
+
+-- GUARANTEE 21, SPECIFICATION 14.4: so it is where a call is refused by 15
+abbrev pub Claim-busy : Type 0
+Claim-busy = (x : State) (r : Request) → heldOn x r .answer ≡ Refused 15 → RestsBusy x r (heldOn x r)
 
 -- what a step of client k tells, by its stage
 pub record Tells (x : State) (k : Client) (duty : ℕ) : Type 0 where
@@ -42,5 +54,6 @@ Claim-no-duty = (x : State) (c : ℕ) → refused (heldOn x (Asks (Step c)) .ans
 pub record HeldClaims : Type 0 where
   pub same : Claim-same
   pub turned-away : Claim-turned-away
+  pub busy : Claim-busy
   pub duty : Claim-duty
   pub no-duty : Claim-no-duty
