@@ -270,7 +270,7 @@ fn script_report(file: &[u8]) -> String {
     let answer = parts.setup(setup.client, setup.byte, setup.more, setup.page, &space[..lent]);
     print_to!(report, "{} {}", answer >> 32, answer as u32);
     let made = Pool::with_store(setup.client, setup.byte, setup.more, setup.page, space[..lent].to_vec());
-    same("the setup", &((answer >> 32) as u32), &made.as_ref().err().map_or(0, |refusal| refusal.code()));
+    same("the setup", &((answer >> 32) as u32), &made.as_ref().err().map_or(0, |refused| refused.refusal().code()));
     let pool = match made {
         Ok(pool) => pool,
         Err(_) => return report,

@@ -155,6 +155,45 @@ impl fmt::Display for Refusal {
 
 impl std::error::Error for Refusal {}
 
+/// A refused setup with a store, which it gives back. Where a [`Refusal`] is expected, `?` makes one of it.
+#[derive(Clone, PartialEq, Eq)]
+pub struct NotSetUp {
+    pub(crate) refusal: Refusal,
+    pub(crate) store: Vec<u8>,
+}
+
+impl NotSetUp {
+    /// Why.
+    pub fn refusal(&self) -> Refusal {
+        self.refusal
+    }
+
+    /// The store, as it was given.
+    pub fn into_store(self) -> Vec<u8> {
+        self.store
+    }
+}
+
+impl fmt::Debug for NotSetUp {
+    fn fmt(&self, f: &mut fmt::Formatter<'_>) -> fmt::Result {
+        f.debug_struct("NotSetUp").field("refusal", &self.refusal).field("bytes", &self.store.len()).finish()
+    }
+}
+
+impl fmt::Display for NotSetUp {
+    fn fmt(&self, f: &mut fmt::Formatter<'_>) -> fmt::Result {
+        self.refusal.fmt(f)
+    }
+}
+
+impl std::error::Error for NotSetUp {}
+
+impl From<NotSetUp> for Refusal {
+    fn from(refused: NotSetUp) -> Refusal {
+        refused.refusal
+    }
+}
+
 /// The value of a call that was done.
 #[inline]
 pub(crate) fn done(answer: u64) -> Result<u32, Refusal> {

@@ -66,7 +66,7 @@ mod answers;
 #[allow(unsafe_code)]
 mod raw;
 
-pub use answers::{Answer, Duty, Refusal, Row, Step, Tally};
+pub use answers::{Answer, Duty, NotSetUp, Refusal, Row, Step, Tally};
 
 use std::cell::Cell;
 use std::fmt;
@@ -119,7 +119,7 @@ impl Pool {
     /// assert_eq!(Pool::new(65, 16, 100, 0).unwrap_err(), Refusal::OutOfRange);
     /// ```
     pub fn new(slots: u8, clients: u8, cap: u8, hand: u32) -> Result<Pool, Refusal> {
-        Pool::with_store(slots, clients, cap, hand, Vec::new())
+        Ok(Pool::with_store(slots, clients, cap, hand, Vec::new())?)
     }
 
     /// A new pool as by [`new`](Pool::new), with a store that it owns: the bytes of all pages, 64 a page, page 0 first,
@@ -128,17 +128,20 @@ impl Pool {
     /// The pool loads pages from its store and writes those that were changed back to it.
     ///
     /// # Errors
-    /// [`Refusal::OutOfRange`] if a number or the store's length is. The store is dropped then.
+    /// [`Refusal::OutOfRange`] if a number or the store's length is, together with the store.
     ///
     /// ```
     /// use foqheran::Pool;
     /// assert!(Pool::with_store(8, 4, 3, 0, vec![0; 40 * 64]).is_ok());
-    /// assert!(Pool::with_store(8, 4, 3, 0, vec![0; 40 * 64 + 1]).is_err());
+    /// let refused = Pool::with_store(8, 4, 3, 0, vec![7; 40 * 64 + 1]).unwrap_err();
+    /// assert_eq!(refused.into_store(), vec![7; 40 * 64 + 1]);
     /// ```
-    pub fn with_store(slots: u8, clients: u8, cap: u8, hand: u32, store: Vec<u8>) -> Result<Pool, Refusal> {
+    pub fn with_store(slots: u8, clients: u8, cap: u8, hand: u32, store: Vec<u8>) -> Result<Pool, NotSetUp> {
         let mut parts = Box::new(raw::Parts::none());
-        answers::done(parts.setup(slots, clients, cap, hand, &store))?;
-        Ok(Pool { parts, tally: [0; 6], store, not_shared: PhantomData })
+        match answers::done(parts.setup(slots, clients, cap, hand, &store)) {
+            Ok(_) => Ok(Pool { parts, tally: [0; 6], store, not_shared: PhantomData }),
+            Err(refusal) => Err(NotSetUp { refusal, store }),
+        }
     }
 
     /// How many slots the pool has: so many pages can be in it.
