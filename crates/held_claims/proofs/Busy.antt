@@ -1,14 +1,13 @@
 -- Refusal 15 in place: no test and no check before the action has this number, so it is the move of a busy sweep, which puts its client to rest and writes
 -- nothing else. Assumes nothing.
-use mathlib.Core.Path.{_≡_, refl, sym, ap, _∙_}
+use mathlib.Core.Path.{_≡_, refl, ap, _∙_}
 use mathlib.Core.Logic.{_≢_, inl, inr}
 use Prim.Native.Nat.{ℕ, _<_}
 use native.Mathlib.Omega.{arith}
 use Rattle.pool.specs.State.{resting, client}
 use Rattle.pool.specs.Answers.{refusalOf}
-use Rattle.pool.specs.Moves.{refused15}
 use Rattle.pool.specs.Apply.{apply}
-use Rattle.pool.specs.Calls.{caller, turnedBy, moveOf}
+use Rattle.pool.specs.Calls.{caller, turnedBy}
 use Rattle.pool.specs.declared.Answer.the-variants.{Refused}
 use Rattle.pool.specs.declared.Call.{Call}
 use Rattle.pool.specs.declared.Call.the-variants.{Begin, Step, Release}
@@ -23,7 +22,7 @@ use Rattle.guarantee.specs.Claims.{withClient}
 use Rattle.guarantee.proofs.TurnedDown.{other-answer, refused-by, rests}
 use Rattle.memory.specs.Memory.{memoryAfter, storeAfter}
 use Rattle.memory.specs.Requests.{Request, Asks, ReadByte, WriteByte, State, Result, firstOf, outsideAt, byteRefusal, actionOn}
-use Rattle.in_place.specs.Held.{Held, heldRefusal, heldOf, heldState, byteHeldRefusal, byteHeld, heldOn}
+use Rattle.in_place.specs.Held.{Held, heldRefusal, heldOf, byteHeldRefusal, byteHeld, heldOn}
 use Rattle.held_claims.specs.HeldClaims.{RestsBusy, Claim-busy}
 
 -- ---- no call is turned down by 15
@@ -94,7 +93,6 @@ unfolding heldOn memoryAfter storeAfter actionOn refusalOf
 busy x (Asks call) =
     by-test (Rests x (Asks call))
     (λ _ e.
-    let h = heldOf (x .pool) (x .memory .pages) call in
     let b = held-busy (x .pool) (x .memory .pages) call e in
     (b .0, ap Asks (b .1), rw (b .2, b .3) refl, b .4))
     (λ _ e. absurd (differ 8 15 tt (ap refusalOf e)))

@@ -9,10 +9,9 @@ use lib.Dec.{T}
 use borrow.Author.Tests.{eq-eqb, ne-eqb, lt-ltb}
 use Rattle.pool.specs.Limits.{maxFrames}
 use Rattle.pool.specs.Choose.{choose}
-use Rattle.pool.specs.State.{none, clientCount, total, page, entryFrame, client}
+use Rattle.pool.specs.State.{none, total, page, entryFrame, client}
 use Rattle.pool.specs.Table.{lookup}
 use Rattle.pool.specs.Calls.{caller, turnedBy, moveOf}
-use Rattle.pool.specs.declared.Answer.{Answer}
 use Rattle.pool.specs.declared.Answer.the-variants.{Refused}
 use Rattle.pool.specs.declared.Call.{Call}
 use Rattle.pool.specs.declared.Call.the-variants.{Step}

@@ -4,8 +4,8 @@
 use mathlib.Core.Path.{_≡_, refl, sym, ap, subst, _∙_}
 use mathlib.Core.Logic.{_≢_, _⊎_, inl, inr}
 use mathlib.Core.Bool.{Bool, true, false}
-use mathlib.Core.List.{List, [], _∷_, map}
-use Prim.Native.Nat.{ℕ, _<_, _≤_, _*_, _+_, _-_}
+use mathlib.Core.List.{List, map}
+use Prim.Native.Nat.{ℕ, _<_, _≤_, _+_, _-_}
 use native.Mathlib.Omega.{arith}
 use contract.Lifetimes.{Lfts}
 use lib.ListN.{length}
@@ -23,7 +23,6 @@ use Rattle.pool.specs.Holdings.{holdingsOf}
 use Rattle.pool.specs.Valid.{numbersOk}
 use Rattle.pool.specs.declared.Answer.{Answer}
 use Rattle.pool.specs.declared.Answer.the-variants.{Done, Working, Granted, Refused}
-use Rattle.pool.specs.declared.Call.{Call}
 use Rattle.pool.specs.declared.Call.the-variants.{Begin, Step, Release}
 use Rattle.pool.specs.declared.Counted.{Counted}
 use Rattle.pool.specs.declared.Counted.the-variants.{Nothing}
@@ -41,7 +40,7 @@ use Rattle.contents.proofs.SetupKept.{kept-setup}
 use Rattle.contents.proofs.LastWritten.{reads-last}
 use Rattle.memory.specs.Memory.{memoryAfter, storeAfter}
 use Rattle.memory.specs.Requests.{Request, Asks, ReadByte, WriteByte, State, Result, outsideAt, refused, lent, storeOk, lengthOk, setupOn, actionOn, callOn}
-use Rattle.memory.specs.Happenings.{Happening, happenings, stateAfter, SetUpOn}
+use Rattle.memory.specs.Happenings.{Happening, happenings, stateAfter}
 use Rattle.mixed.specs.Mixed.{tallyOn, Passes8}
 use Rattle.mixed.proofs.Answers.{never-8}
 use Rattle.mixed.proofs.Passes.{bytes-yes}

@@ -1,14 +1,12 @@
 -- What the contracts of the functions for other languages say. They are named and not restated, as in crate `tie`: of a contract the toolchain makes
 -- `Asked`, what a caller has to show, and `Learnt`, what it learns of the result and of everything lent. A contract that says less makes these say less,
 -- and the proofs of what `Serving.antt` claims fail. Statements only. Assumes nothing.
-use mathlib.Core.Path.{_≡_}
 use mathlib.Core.List.{List}
 use Prim.Native.Nat.{ℕ}
 use base.Fml.{GName}
 use contract.Lifetimes.{Lfts}
 use denote.Ref.{RefT}
 use borrow.Fn.Kinds.{Dens}
-use borrow.Fn.World.{World}
 use Rattle.walks.specs.Teaching.{Teaches}
 use Rattle.pool.specs.declared.Pool.{Pool}
 use Rattle.memory.specs.Requests.{State}
