@@ -23,7 +23,7 @@ use Rattle.invariant.proofs.StageTests.{differ}
 use Rattle.invariant.proofs.Searches.{lookup-found, unused-found, free-found}
 use Rattle.invariant.proofs.NeverFails.{Mover, mover}
 use Rattle.invariant.proofs.Edges.{CountersOnly, keep, hand, counts, free, Edge, moves-on, grants, found1, found18, forgets2, forgets22, pins2, pins19}
-use Rattle.invariant.proofs.Edges.{gets3, gets21, takes, fills, replaces, refuses, drops, removes, admits, revives, evicts20, evicts23, begins, releases}
+use Rattle.invariant.proofs.Edges.{gets3, gets21, takes, fills, replaces, refuses, evicts14, removes, admits, revives, evicts20, evicts23, begins, releases}
 use Rattle.invariant.proofs.Effects.{no-open, ends-no-open}
 use Rattle.memory.specs.Memory.{memoryAfter, storeAfter}
 use Rattle.memory.specs.Requests.{refused}
@@ -128,7 +128,7 @@ module _ (p : Pool) (c : ℕ) (r : Reached p) where
   goes (fills e s) = quiet refl refl refl (idles tt (inr refl))
   goes (replaces e s) = quiet refl refl refl (idles tt (inr refl))
   goes (refuses v b) = record { way = idles tt (inl refl); page = λ z. absurd (z refl); opens = λ _ _ y. no-open y; told = inr refl }
-  goes (drops e h) = quiet refl refl refl (idles tt (inr refl))
+  goes (evicts14 e h) = quiet refl refl refl (idles tt (inr refl))
   goes (removes e h) =
       let z : lookup p (page p (me .victim)) ≢ none = λ w. known 17 e .1 .0 (sym h ∙ w) in
       let f = lookup-found p (r .shape) (page p (me .victim)) z in

@@ -1,4 +1,4 @@
--- Grants of one page name one frame; a held frame is pinned, and no call evicts it: the sequential pool drops only pages without grants, so the
+-- Grants of one page name one frame; a held frame is pinned, and no call evicts it: the sequential pool evicts only pages without grants, so the
 -- page of a held frame is still there after the call, and its frame is resident. Assumes nothing.
 use mathlib.Core.Path.{_≡_, refl, sym, ap, _∙_}
 use mathlib.Core.Logic.{_≢_}
@@ -23,7 +23,7 @@ use Rattle.invariant.proofs.Grants.{grantsOf}
 use Rattle.invariant.proofs.Calls.{reached-call}
 use Rattle.guarantee.specs.Runs.{eventOf, events, along, Throughout}
 use Rattle.guarantee.specs.Sequential as Plain
-use Rattle.guarantee.specs.Sequential.{SeqSlot, SeqClient, Sequential, seqClient, Keeps, StepRule, adds, admits, drops, answers, continues}
+use Rattle.guarantee.specs.Sequential.{SeqSlot, SeqClient, Sequential, seqClient, Keeps, StepRule, adds, admits, evicts, answers, continues}
 use Rattle.guarantee.specs.Sequential.{refuses, Rule, turns-down, begins, releases, steps}
 use Rattle.guarantee.specs.Claims.{OneCopy, BecomesEvicted, HeldPinned, NoHeldEvicted}
 use Rattle.guarantee.proofs.Along.{throughout, at-each}
@@ -49,7 +49,7 @@ step-keeps refuses c m h = h
 step-keeps {q} {k} {g = g} (admits {f = x} _ _ _ i _ vacant) c m h =
     let other : h .0 ≢ i = λ e. let z : _≡_ {A = ℕ} 0 1 = cc (ap (Plain.seqSlot q) e) in omega arith in
     (h .0, getD-set-other (q .slots) i (h .0) (Plain.stores (k .wants) x) Plain.empty other ∙ h .1)
-step-keeps {q} {g = g} (drops {g = y} _ i full unheld) c m h =
+step-keeps {q} {g = g} (evicts {g = y} _ i full unheld) c m h =
     let other : h .0 ≢ i = λ e. let same : y ≡ g = cc (ap (Plain.seqSlot q) e) in true≢false (sym m ∙ rw same at (unheld c)) in
     (h .0, getD-set-other (q .slots) i (h .0) Plain.empty Plain.empty other ∙ h .1)
 

@@ -30,7 +30,7 @@ use Rattle.invariant.proofs.Grants.{page-open-new, page-open-old, frame-open-ne
 use Rattle.invariant.proofs.Facts.{grant-pinned}
 use Rattle.invariant.proofs.Allowed.{Allowed, allowed, may-step, may-release}
 use Rattle.invariant.proofs.Edges.{Edge, released, moves-on, found1, found18, forgets2, forgets22, pins2, pins19, gets3, gets21, takes, fills, replaces}
-use Rattle.invariant.proofs.Edges.{refuses, drops, removes, admits, revives, evicts20, evicts23, begins, releases}
+use Rattle.invariant.proofs.Edges.{refuses, evicts14, removes, admits, revives, evicts20, evicts23, begins, releases}
 use Rattle.invariant.proofs.Effects.{effect}
 use Rattle.invariant.proofs.Steps.{call-edge}
 use Rattle.invariant.proofs.Setup.{first-rests, first-reached}
@@ -77,7 +77,7 @@ module _ (p : Pool) (c : ℕ) where
   step-tells busy (fills _ _) = goes-on refl refl refl refl
   step-tells busy (replaces _ _) = goes-on refl refl refl refl
   step-tells busy (refuses _ _) = keeps (λ f a. other-answer a tt) refl refl (λ z. absurd (z refl))
-  step-tells busy (drops _ _) = goes-on refl refl refl refl
+  step-tells busy (evicts14 _ _) = goes-on refl refl refl refl
   step-tells busy (removes _ _) = goes-on refl refl refl refl
   step-tells busy (admits _ _ _) = opens (k .own) refl refl refl refl
   step-tells busy (revives _ _) = opens (k .own) refl refl refl refl

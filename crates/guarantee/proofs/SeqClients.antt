@@ -18,7 +18,7 @@ use Rattle.pool.specs.declared.GrantChange.the-variants.{Same, Open}
 use Rattle.invariant.proofs.Reached.{one, pinsFound}
 use Rattle.laws.specs.Scans.{and-parts}
 use Rattle.invariant.proofs.StageTests.{at-most, iff, iff-same, Onward}
-use Rattle.guarantee.specs.Sequential.{SeqClient, seqResting, adding, dropping}
+use Rattle.guarantee.specs.Sequential.{SeqClient, seqResting, adding, evicting}
 use Rattle.guarantee.proofs.SimulationRelation.{times, ClientRelation, open-many, open-grants}
 
 -- ---- what can be observed of a move
@@ -46,17 +46,17 @@ refusedMove k = record { answer = Refused 15; grants = Same; stage = 0; page = 0
 -- ---- the steps that move no page and add no grant
 
 abbrev pub continuing : ℕ → ℕ → Bool
-continuing i j = not (adding i j || dropping i j) && (leb 1 j && (leb j 23 && iff (pinsFound j) (pinsFound i)))
+continuing i j = not (adding i j || evicting i j) && (leb 1 j && (leb j 23 && iff (pinsFound j) (pinsFound i)))
 
 pub record Continuing (i j : ℕ) : Type 0 where
-  pub plain-step : T (not (adding i j || dropping i j))
+  pub plain-step : T (not (adding i j || evicting i j))
   pub low : 1 ≤ j
   pub high : j ≤ 23
   pub pins-alike : pinsFound j ≡ pinsFound i
 
 pub continuing-means : (i j : ℕ) → T (continuing i j) → Continuing i j
 continuing-means i j h =
-    let a = and-parts (not (adding i j || dropping i j)) _ h in
+    let a = and-parts (not (adding i j || evicting i j)) _ h in
     let b = and-parts (leb 1 j) _ (a .1) in
     let d = and-parts (leb j 23) _ (b .1) in
     record { plain-step = a .0; low = at-most 1 j (b .0); high = at-most j 23 (d .0); pins-alike = iff-same (pinsFound j) (pinsFound i) (d .1) }

@@ -1,7 +1,7 @@
 -- A move of the pool as a step of a related sequential pool. Each is one of six kinds: it only continues, adds a grant, answers one, admits a
--- page, drops a page, or refuses; and each write leaves the view of every slot, or changes one. The premises of the sequential rules are clauses of the
--- invariant: the wanted page is there because its frame is not evicted, absent because the look-up finds none or an evicted frame, and a dropped page
--- has no grants because its frame has no pins. Assumes nothing.
+-- page, evicts a page, or refuses; and each write leaves the view of every slot, or changes one. The premises of the sequential rules are clauses of the
+-- invariant: the wanted page is there because its frame is not evicted, absent because the look-up finds none or an evicted frame, and the page that
+-- 14 evicts has no grants because its frame has no pins. Assumes nothing.
 use mathlib.Core.Path.{_≡_, refl, sym, ap, _∙_}
 use mathlib.Core.Logic.{_≢_, inl}
 use mathlib.Core.Bool.{Bool, true, false, _&&_}
@@ -31,7 +31,7 @@ use Rattle.invariant.proofs.Grants.{grantsOf, GrantsOk, grants-stay, grant-open
 use Rattle.invariant.proofs.Table.{suc-not, some-suc}
 use Rattle.invariant.proofs.Searches.{pins-named}
 use Rattle.guarantee.specs.Sequential.{SeqSlot, empty, stores, SeqClient, Sequential, seqSlot, seqResting, seqClient, Absent, Unused, adding}
-use Rattle.guarantee.specs.Sequential.{admitting, answering, StepRule, adds, admits, drops, answers, continues, refuses}
+use Rattle.guarantee.specs.Sequential.{admitting, answering, StepRule, adds, admits, evicts, answers, continues, refuses}
 use Rattle.guarantee.proofs.SimulationRelation.{viewFrame, view-unmapped, view-mapped, not-member, ClientRelation, open-many, open-grants}
 use Rattle.guarantee.proofs.SimulationRelation.{client-relation-as, SimulationRelation}
 use Rattle.guarantee.proofs.SeqClients.{Observable, observable, workingMove, grantedMove, refusedMove, Continuing, WorksOn, IsGranted, related-resting}
@@ -270,13 +270,13 @@ module _ {p : Pool} {c : ℕ} {q : Sequential} (acting : Acting p c q) where
             let know = found-mapped p r d s in
             ap one (ne-eqb _ _ (λ w. only (client p d .found) (know .0) two (know .1 (λ x. omega arith) ∙ ap suc w)))
 
-    pub drops-one : k .stage ≡ 14 → k .victim ≢ none → pins p (k .victim) ≡ pinned 0 → InSlot p (k .victim)
+    pub evicts-one : k .stage ≡ 14 → k .victim ≢ none → pins p (k .victim) ≡ pinned 0 → InSlot p (k .victim)
         → {m : Move} → observable m ≡ workingMove k 15 → m .write ≡ PutPins (k .victim) evicted → Simulates p c q m
-    drops-one e z unpinned in-slot {m} o w =
+    evicts-one e z unpinned in-slot {m} o w =
         record {
           slots = set (q .slots) s empty;
           next = record { stage = 15; wants = t .wants; grants = t .grants };
-          rule = rw (ap (λ (x : Observable). x .answer) o) (drops {j = 15} (rw (client-related .stage ∙ e) tt) s holding (unheld f (g .0) z unpinned (g .1)));
+          rule = rw (ap (λ (x : Observable). x .answer) o) (evicts {j = 15} (rw (client-related .stage ∙ e) tt) s holding (unheld f (g .0) z unpinned (g .1)));
           related =
               one-slot m _ (keeping m 15 o) (related-working client-related (works-on m 15 o busy) (rw e refl))
               (evict-view p c m r f evicted w refl (pins-in p f live) z s (in-slot .1));

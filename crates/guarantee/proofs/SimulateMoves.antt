@@ -20,13 +20,13 @@ use Rattle.invariant.proofs.Reached.{Reached}
 use Rattle.invariant.proofs.Searches.{lookup-found, unused-found, free-found, unreferenced-means, none-evicted}
 use Rattle.invariant.proofs.Table.{mapped-lookup}
 use Rattle.invariant.proofs.NeverFails.{Mover, mover}
-use Rattle.invariant.proofs.Edges.{Edge, moves-on, found1, found18, forgets2, forgets22, pins2, pins19, gets3, gets21, takes, fills, replaces, refuses, drops}
+use Rattle.invariant.proofs.Edges.{Edge, moves-on, found1, found18, forgets2, forgets22, pins2, pins19, gets3, gets21, takes, fills, replaces, refuses, evicts14}
 use Rattle.invariant.proofs.Edges.{removes, admits, revives, evicts20, evicts23, begins, releases}
 use Rattle.invariant.proofs.Effects.{counters-test}
 use Rattle.guarantee.specs.Sequential.{Sequential}
 use Rattle.guarantee.proofs.SeqClients.{workingMove, observable, continuing, continuing-means, onward-continuing}
 use Rattle.guarantee.proofs.ViewAfter.{SameView, counters-view, pins-view, take-view, slot-view, remove-view}
-use Rattle.guarantee.proofs.Simulate.{Simulates, Acting, continues-one, adds-one, answers-one, admits-one, refuses-one, drops-one}
+use Rattle.guarantee.proofs.Simulate.{Simulates, Acting, continues-one, adds-one, answers-one, admits-one, refuses-one, evicts-one}
 
 module _ {p : Pool} {c : ℕ} {q : Sequential} (acting : Acting p c q) (busy : client p c .stage ≢ 0) where
   r : Reached p
@@ -67,7 +67,7 @@ module _ {p : Pool} {c : ℕ} {q : Sequential} (acting : Acting p c q) (busy : c
       continues-at 15 16 e refl tt
       (slot-view p c _ r (k .place) (k .own) refl (r .ranges .place-ok c) (r .private .own-unmapped c (known 15 e .0)) (ap (pins p) s ∙ known 15 e .1 .1))
   simulated (refuses v _) = refuses-one acting busy (k .stage) refl (v .no-pin) refl tt
-  simulated (drops e h) = drops-one acting busy e (known 14 e .1 .0) h (known 14 e .1 .1 (λ z. omega arith)) refl refl
+  simulated (evicts14 e h) = evicts-one acting busy e (known 14 e .1 .0) h (known 14 e .1 .1 (λ z. omega arith)) refl refl
   simulated (removes e h) =
       let g : ℕ = page p (k .victim) in
       let f = lookup-found p (r .shape) g (λ z. known 17 e .1 .0 (sym h ∙ z)) in

@@ -38,7 +38,7 @@ use Rattle.invariant.proofs.Searches.{lookup-found, unused-found, grantOf-found
 use Rattle.invariant.proofs.Table.{mapped-entry, put-frame, else-frame}
 use Rattle.invariant.proofs.NeverFails.{Mover, mover}
 use Rattle.invariant.proofs.Facts.{own-not-evicted, grant-pinned, unpinned-mapped}
-use Rattle.invariant.proofs.Edges.{Edge, moves-on, found1, found18, forgets2, forgets22, pins2, pins19, gets3, gets21, takes, fills, replaces, refuses, drops}
+use Rattle.invariant.proofs.Edges.{Edge, moves-on, found1, found18, forgets2, forgets22, pins2, pins19, gets3, gets21, takes, fills, replaces, refuses, evicts14}
 use Rattle.invariant.proofs.Edges.{removes, admits, revives, evicts20, evicts23, begins, releases}
 use Rattle.invariant.proofs.Effects.{Effect, Scene, scene, counters-test, effect}
 use Rattle.invariant.proofs.Mapping.{own-only}
@@ -178,7 +178,7 @@ module _ (p : Pool) (c : ℕ) (r : Reached p) where
   summed (fills _ _) x = unwritten x refl refl
   summed (replaces _ _) x = unwritten x refl refl
   summed (refuses _ _) x = counters x tt
-  summed (drops e h) x =
+  summed (evicts14 e h) x =
       let v = known 14 e .1 in
       let l : pins p (k .victim) ≢ evicted = λ n. omega arith in
       evicts x (k .victim) _ refl refl l refl (unpinned-mapped p r (k .victim) (v .0) h (v .1 l))

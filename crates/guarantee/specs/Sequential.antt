@@ -82,8 +82,8 @@ admitting i = eqb i 18 || eqb i 22
 abbrev pub answering : ℕ → Bool
 answering i = eqb i 3 || eqb i 21
 
-abbrev pub dropping : ℕ → ℕ → Bool
-dropping i j = eqb i 14 && eqb j 15
+abbrev pub evicting : ℕ → ℕ → Bool
+evicting i j = eqb i 14 && eqb j 15
 
 -- SPECIFICATION 11.6, a rule for each row: a step of client k, the answer, and the slots and the client after it
 pub data StepRule (q : Sequential) (k : SeqClient) : Answer → List SeqSlot → SeqClient → Type 0 where
@@ -92,10 +92,10 @@ pub data StepRule (q : Sequential) (k : SeqClient) : Answer → List SeqSlot →
   -- fewer than S pages: slot i is empty
   admits : {f : ℕ} → T (admitting (k .stage)) → Absent q (k .wants) → Unused q f → (i : ℕ) → i < length (q .slots) → seqSlot q i ≡ empty
       → StepRule q k (Granted f) (set (q .slots) i (stores (k .wants) f)) (seqResting (k .wants ∷ k .grants))
-  drops : {j g f : ℕ} → T (dropping (k .stage) j) → (i : ℕ) → seqSlot q i ≡ stores g f → ((c : ℕ) → member g (seqClient q c .grants) ≡ false)
+  evicts : {j g f : ℕ} → T (evicting (k .stage) j) → (i : ℕ) → seqSlot q i ≡ stores g f → ((c : ℕ) → member g (seqClient q c .grants) ≡ false)
       → StepRule q k (Working j) (set (q .slots) i empty) (record { stage = j; wants = k .wants; grants = k .grants })
   answers : {f : ℕ} → T (answering (k .stage)) → Keeps q (k .wants) f → StepRule q k (Granted f) (q .slots) (seqResting (k .grants))
-  continues : {j : ℕ} → T (not (adding (k .stage) j || dropping (k .stage) j)) → 1 ≤ j → j ≤ 23
+  continues : {j : ℕ} → T (not (adding (k .stage) j || evicting (k .stage) j)) → 1 ≤ j → j ≤ 23
       → StepRule q k (Working j) (q .slots) (record { stage = j; wants = k .wants; grants = k .grants })
   refuses : StepRule q k (Refused 15) (q .slots) (seqResting (k .grants))
 

@@ -34,7 +34,7 @@ use Rattle.invariant.proofs.NeverFails.{Mover, mover}
 use Rattle.invariant.proofs.StageTests.{differ, imp}
 use Rattle.invariant.proofs.Facts.{raised-ok, grant-pinned, found-pinned, one-more-pin}
 use Rattle.invariant.proofs.Edges.{CountersOnly, keep, hand, counts, free, Edge, moves-on, grants, found1, found18, forgets2, forgets22, pins2, pins19}
-use Rattle.invariant.proofs.Edges.{gets3, gets21, takes, fills, replaces, refuses, drops, removes, admits, revives, evicts20, evicts23, begins, releases}
+use Rattle.invariant.proofs.Edges.{gets3, gets21, takes, fills, replaces, refuses, evicts14, removes, admits, revives, evicts20, evicts23, begins, releases}
 
 -- none of the numbers 1 to 8, by which a run of a schedule ends; 8 is a stuck move
 abbrev pub NotEnding : ℕ → Type 0
@@ -78,7 +78,7 @@ module _ (p : Pool) (c : ℕ) (m : Move) where
   pub data PinChange (f x : ℕ) : Type 0 where
     adds : pins p f ≢ evicted → x ≡ pins p f + 1 → x ≤ pinned maxPins → PinChange f x
     lowers : pinned 1 ≤ pins p f → x ≡ pins p f - 1 → PinChange f x
-    drops-victim : f ≡ k .victim → pins p f ≡ pinned 0 → x ≡ evicted → k .stage ≡ 14 → m .next .stage ≡ 15 → m .next .victim ≡ k .victim
+    evicts-victim : f ≡ k .victim → pins p f ≡ pinned 0 → x ≡ evicted → k .stage ≡ 14 → m .next .stage ≡ 15 → m .next .victim ≡ k .victim
         → m .next .place ≡ k .place → PinChange f x
     own-evicted : f ≡ k .own → x ≡ evicted → PinChange f x
     takes-one : referenced p f ≡ false → x ≡ pinned 1 → PinChange f x
@@ -336,9 +336,9 @@ module _ (p : Pool) (c : ℕ) (here : c < clientCount p) (r : Reached p) where
       placing tt (me .place) refl (slot-put (me .place) refl (r .ranges .place-ok c) (rw e tt) tt (known 15 e .0) (inr (s, known 15 e .1 .1, tt, refl)))
       (own-stays refl tt) refl refl refl
   effect (refuses v _) = client-only tt keep (own-forgotten refl) (found-forgotten refl) refl refl
-  effect (drops e h) =
+  effect (evicts14 e h) =
       let z = known 14 e .1 .0 in
-      pinning tt (me .victim) evicted refl (r .ranges .victim-ok c z) (drops-victim refl h refl e refl refl refl) (own-stays refl (rw e tt)) refl
+      pinning tt (me .victim) evicted refl (r .ranges .victim-ok c z) (evicts-victim refl h refl e refl refl refl) (own-stays refl (rw e tt)) refl
       (grants-stay refl refl) (λ _ _ x. no-open x)
   effect (removes e h) =
       let z = known 17 e .1 .0 in

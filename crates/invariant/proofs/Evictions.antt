@@ -25,8 +25,8 @@ use Rattle.invariant.proofs.StageTests.{T-not, never, differ, unmapsNon
 use Rattle.invariant.proofs.Steps.{not-unmapping}
 use Rattle.invariant.proofs.Facts.{own-not-evicted, own-not-victim}
 use Rattle.invariant.proofs.Edges.{Examines, Edge, moves-on, found1, found18, forgets2, forgets22, pins2, pins19, gets3, gets21, takes, fills, replaces}
-use Rattle.invariant.proofs.Edges.{refuses, drops, removes, admits, revives, evicts20, evicts23, begins, releases}
-use Rattle.invariant.proofs.Effects.{PinChange, adds, lowers, drops-victim, own-evicted, takes-one, PinsOk, pins-stay, pins-put, counters-untouched}
+use Rattle.invariant.proofs.Edges.{refuses, evicts14, removes, admits, revives, evicts20, evicts23, begins, releases}
+use Rattle.invariant.proofs.Effects.{PinChange, adds, lowers, evicts-victim, own-evicted, takes-one, PinsOk, pins-stay, pins-put, counters-untouched}
 use Rattle.invariant.proofs.Effects.{Effect, Scene, scene}
 use Rattle.invariant.proofs.Next.{SlotNow, Replaced, slot-now, slot-or-replaced}
 use Rattle.invariant.proofs.Mapping.{new-entry}
@@ -96,7 +96,7 @@ module _ {p : Pool} {c : ℕ} {m : Move} (x : Effect p c m) (s : EvictionsCondit
             by (yes w) (lowers l v) = absurd (let u = now w in let y : ⊥ = omega arith in y)
             by (yes w) (takes-one _ v) = absurd (let u = now w in let y : ⊥ = omega arith in y)
             by (yes w) (own-evicted v _) = absurd (n (ap (mapped p) (w ∙ v) ∙ r .private .own-unmapped c (λ u. z (w ∙ v ∙ u))))
-            by (yes w) (drops-victim v one-pin _ a st vi pl) = inr (vi ∙ sym (w ∙ v), inr (st, out (slot-or-replaced x f (k .place) z stands)))
+            by (yes w) (evicts-victim v one-pin _ a st vi pl) = inr (vi ∙ sym (w ∙ v), inr (st, out (slot-or-replaced x f (k .place) z stands)))
               where
                 known : Knows 14 p k
                 known = know p r c 14 a
@@ -233,7 +233,7 @@ module _ (p : Pool) (c : ℕ) (r : Reached p) where
         will-unmap = λ f _ _ _ w. (w .0, inl tt);
       }
   evictions-condition (refuses v _) x = unexamined (me .stage) refl refl refl (v .no-fill) tt tt (v .no-unmap)
-  evictions-condition (drops e _) x =
+  evictions-condition (evicts14 e _) x =
       slots-unchanged 14 e refl refl refl tt (λ _. inl (refl, refl, rw e tt)) (λ f _ _ _ w. absurd (not-unmapping p me 14 e tt f w))
   evictions-condition {m} (removes e h) x =
       slots-unchanged 17 e refl refl refl tt never (λ f _ _ n w. absurd (n (ap (mapped (apply p c m)) (sym (w .0)) ∙ gone)))

@@ -19,7 +19,7 @@ use Rattle.invariant.proofs.Table.{mapped-kept, lookup-mapped}
 use Rattle.invariant.proofs.NeverFails.{know, Mover, mover}
 use Rattle.invariant.proofs.Facts.{own-not-evicted}
 use Rattle.invariant.proofs.Edges.{CountersOnly, Edge, moves-on, found1, found18, forgets2, forgets22, pins2, pins19, gets3, gets21, takes, fills}
-use Rattle.invariant.proofs.Edges.{replaces, refuses, drops, removes, admits, revives, evicts20, evicts23, begins, releases}
+use Rattle.invariant.proofs.Edges.{replaces, refuses, evicts14, removes, admits, revives, evicts20, evicts23, begins, releases}
 use Rattle.invariant.proofs.Effects.{counters-untouched, Effect, Scene, scene}
 use Rattle.invariant.proofs.Next.{evicted-next, in-slot-next, mapped-next, own-referenced, found-referenced, victim-referenced}
 
@@ -149,7 +149,7 @@ module _ (p : Pool) (c : ℕ) (r : Reached p) where
   learns {m} (replaces e _) x =
       ((known 15 e .0, (k .place, slot-here p c m (r .shape) (k .place) (k .own) refl (r .ranges .place-ok c))), knows-next x c 15 e .1)
   learns (refuses _ _) x = tt
-  learns {m} (drops e _) x = let h = known 14 e in (h .0, (h .1 .0, pins-here p c m (r .shape) (k .victim) evicted refl (r .ranges .victim-ok c (h .1 .0))))
+  learns {m} (evicts14 e _) x = let h = known 14 e in (h .0, (h .1 .0, pins-here p c m (r .shape) (k .victim) evicted refl (r .ranges .victim-ok c (h .1 .0))))
   learns {m} (removes e _) x = knows-next x c 17 e .0
   learns (admits e _ _) x = tt
   learns (revives e _) x = tt

@@ -26,7 +26,7 @@ use Rattle.invariant.proofs.NeverFails.{Mover, mover}
 use Rattle.invariant.proofs.Facts.{grant-pinned}
 use Rattle.invariant.proofs.StageTests.{never, imp-mp}
 use Rattle.invariant.proofs.Edges.{Edge, moves-on, found1, found18, forgets2, forgets22, pins2, pins19, gets3, gets21, takes, fills, replaces, refuses}
-use Rattle.invariant.proofs.Edges.{drops, removes, admits, revives, evicts20, evicts23, begins, releases}
+use Rattle.invariant.proofs.Edges.{evicts14, removes, admits, revives, evicts20, evicts23, begins, releases}
 use Rattle.invariant.proofs.Effects.{OwnOk, own-forgotten, own-stays, own-taken, Opened, of-found, of-own, EntryOk, entries-stay, maps}
 use Rattle.invariant.proofs.Effects.{unmaps, Effect, Scene, scene}
 use Rattle.invariant.proofs.Next.{evicted-next, in-slot-next, mapped-next, page-next, own-referenced, mapped-referenced, all-grants}
@@ -279,7 +279,7 @@ module _ (p : Pool) (c : ℕ) (r : Reached p) where
   mapping-condition (fills e _) x = keeps-own refl refl (λ _. foundless-now 8 e tt) (λ _. victimless-now 8 e tt)
   mapping-condition (replaces e _) x = keeps-own refl refl (λ _. foundless-now 15 e tt) never
   mapping-condition (refuses v _) x = forgets-own refl (λ _. refl) (λ _. refl) (λ z. inr (inr (refused-orphan p c r x (v .is-unplaced) z)))
-  mapping-condition (drops e _) x = keeps-own refl refl (λ _. foundless-now 14 e tt) never
+  mapping-condition (evicts14 e _) x = keeps-own refl refl (λ _. foundless-now 14 e tt) never
   mapping-condition (removes e _) x = keeps-own refl refl (λ _. foundless-now 17 e tt) (λ _. refl)
   mapping-condition {m} (admits e _ u) x =
       forgets-own refl (λ _. refl) (λ _. refl) (λ z. inl (suc-not (own-mapped x _ _ (me .own) refl z refl (unused-found p (r .shape) u .0))))

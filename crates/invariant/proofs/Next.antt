@@ -20,7 +20,7 @@ use Rattle.invariant.proofs.After.{client-same, client-other, slot-kept
 use Rattle.invariant.proofs.Searches.{unreferenced-means}
 use Rattle.invariant.proofs.Table.{suc-not, mapped-entry, mapped-kept, put-other, put-unmapped}
 use Rattle.invariant.proofs.Grants.{grantPage-other, grantFrame-other, GrantFrom, old, new, past, grant-from}
-use Rattle.invariant.proofs.Effects.{Vacant, SlotOk, slots-stay, slot-put, PinChange, adds, lowers, drops-victim, own-evicted, takes-one, PinsOk}
+use Rattle.invariant.proofs.Effects.{Vacant, SlotOk, slots-stay, slot-put, PinChange, adds, lowers, evicts-victim, own-evicted, takes-one, PinsOk}
 use Rattle.invariant.proofs.Effects.{pins-stay, pins-put, EntryOk, entries-stay, maps, unmaps, PageOk, pages-stay, page-put, Effect, Scene, scene}
 
 module _ {p : Pool} {c : ℕ} {m : Move} (x : Effect p c m) where
@@ -81,7 +81,7 @@ module _ {p : Pool} {c : ℕ} {m : Move} (x : Effect p c m) where
             by (no w) _ = pins-else p c m g y e f w ∙ d
             by (yes w) (adds l _ _) = absurd (l (ap (pins p) (sym w) ∙ d))
             by (yes w) (lowers l _) = absurd (let n : pins p g ≡ evicted = ap (pins p) (sym w) ∙ d in let y : ⊥ = omega arith in y)
-            by (yes w) (drops-victim _ _ v _ _ _ _) = at w v
+            by (yes w) (evicts-victim _ _ v _ _ _ _) = at w v
             by (yes w) (own-evicted _ v) = at w v
             by (yes w) (takes-one ref′ _) = absurd (ref (ap (referenced p) w ∙ ref′))
 

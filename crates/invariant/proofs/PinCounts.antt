@@ -29,7 +29,7 @@ use Rattle.invariant.proofs.NeverFails.{Mover, mover}
 use Rattle.invariant.proofs.Facts.{none-own, foreign-claims, orphan-claims, own-pins, grant-pinned}
 use Rattle.invariant.proofs.StageTests.{T-false, never, differ, imp-mp}
 use Rattle.invariant.proofs.Edges.{Edge, moves-on, found1, found18, forgets2, forgets22, pins2, pins19, gets3, gets21, takes, fills, replaces, refuses}
-use Rattle.invariant.proofs.Edges.{drops, removes, admits, revives, evicts20, evicts23, begins, releases}
+use Rattle.invariant.proofs.Edges.{evicts14, removes, admits, revives, evicts20, evicts23, begins, releases}
 use Rattle.invariant.proofs.Effects.{no-open, counters-untouched, Effect, Scene, scene}
 use Rattle.invariant.proofs.Next.{slot-now, all-grants}
 use Rattle.invariant.proofs.Private.{PrivateFrame, private-unmapped, private-unfound, private-ungranted}
@@ -276,7 +276,7 @@ module _ (p : Pool) (c : ℕ) (r : Reached p) where
       go f z (no h) =
           unchanged (pins-kept p c m refl f)
           (omega (arith, claims-kept x refl refl f, none-own f z, one-not _ _ h, ap (λ (b : Bool). one (b && eqb (me .found) f)) (v .no-pin)))
-  pin-counts-condition {m} (drops e h) x =
+  pin-counts-condition {m} (evicts14 e h) x =
       one-frame x (me .victim) evicted never refl (r .ranges .victim-ok c (known 14 e .1 .0))
       (λ _. evict (λ n. let y : ⊥ = omega arith in y) refl (omega (arith, claims-kept x refl refl (me .victim), found-claim 14 (me .victim) e)))
       (λ f _ _. omega (arith, claims-kept x refl refl f, found-claim 14 f e))

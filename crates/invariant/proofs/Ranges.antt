@@ -20,8 +20,8 @@ use Rattle.invariant.proofs.Searches.{grant-in}
 use Rattle.invariant.proofs.Table.{put-frame, else-frame}
 use Rattle.invariant.proofs.StageTests.{differ, at-most}
 use Rattle.invariant.proofs.Edges.{Edge, moves-on, found1, found18, forgets2, forgets22, pins2, pins19, gets3, gets21, takes, fills, replaces, refuses}
-use Rattle.invariant.proofs.Edges.{drops, removes, admits, revives, evicts20, evicts23, begins, releases}
-use Rattle.invariant.proofs.Effects.{CountOk, counts-stay, counts-put, OwnOk, own-forgotten, own-stays, own-taken, PinChange, adds, lowers, drops-victim}
+use Rattle.invariant.proofs.Edges.{evicts14, removes, admits, revives, evicts20, evicts23, begins, releases}
+use Rattle.invariant.proofs.Effects.{CountOk, counts-stay, counts-put, OwnOk, own-forgotten, own-stays, own-taken, PinChange, adds, lowers, evicts-victim}
 use Rattle.invariant.proofs.Effects.{own-evicted, takes-one, PinsOk, pins-stay, pins-put, FoundOk, found-stays, found-forgotten, found-looked-up, Opened}
 use Rattle.invariant.proofs.Effects.{of-found, of-own, EntryOk, entries-stay, maps, unmaps, Effect, Scene, scene}
 use Rattle.invariant.proofs.Next.{SlotNow, slot-now, all-grants}
@@ -98,7 +98,7 @@ module _ (p : Pool) (c : ℕ) (r : Reached p) where
   numbers (fills e _) = same-numbers _ 8 e tt tt refl refl refl refl (λ _. refl)
   numbers (replaces e _) = same-numbers _ 15 e tt tt refl refl refl refl (λ _. refl)
   numbers (refuses _ _) = at-rest _ refl refl refl refl (r .ranges .held-ok c) refl
-  numbers (drops e _) = same-numbers _ 14 e tt tt refl refl refl refl (λ _. refl)
+  numbers (evicts14 e _) = same-numbers _ 14 e tt tt refl refl refl refl (λ _. refl)
   numbers (removes e _) = same-numbers _ 17 e tt tt refl refl refl refl (λ w. absurd (w refl))
   numbers (admits e _ _) = at-rest _ refl refl refl refl (more 18 e tt) refl
   numbers (revives e _) = at-rest _ refl refl refl refl (more 22 e tt) refl
@@ -143,7 +143,7 @@ module _ {p : Pool} {c : ℕ} {m : Move} (e : Edge p c m) (x : Effect p c m) whe
           least : PinChange p c m g y → y ≤ pinned maxPins
           least (adds _ _ l) = l
           least (lowers _ v) = omega (arith, r .ranges .pins-ok g)
-          least (drops-victim _ _ v _ _ _ _) = omega arith
+          least (evicts-victim _ _ v _ _ _ _) = omega arith
           least (own-evicted _ v) = omega arith
           least (takes-one _ v) = omega arith
 

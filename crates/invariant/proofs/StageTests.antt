@@ -63,8 +63,8 @@ iff-same false false h = refl
 
 -- ---- from stage i to stage j
 
-abbrev pinsOrDrops : ℕ → ℕ → Bool
-pinsOrDrops i j = ((eqb i 2 && eqb j 3) || (eqb i 19 && eqb j 20)) || (eqb i 14 && eqb j 15)
+abbrev pinsOrEvicts : ℕ → ℕ → Bool
+pinsOrEvicts i j = ((eqb i 2 && eqb j 3) || (eqb i 19 && eqb j 20)) || (eqb i 14 && eqb j 15)
 
 -- A client may go from the one to the other with its own frame, its found frame and its claims as they are. The step is none of those at which a
 -- found frame is pinned, 2 to 3 and 19 to 20, and not the one at which a victim is evicted, 14 to 15.
@@ -73,7 +73,7 @@ pub record Onward (i j : ℕ) : Type 0 where
   pub from-ownless : T (imp (ownless j) (ownless i))
   pub from-foundless : T (imp (foundless j) (foundless i))
   pub pins-alike : pinsFound j ≡ pinsFound i
-  pub plain-step : T (not (pinsOrDrops i j))
+  pub plain-step : T (not (pinsOrEvicts i j))
   pub starts : 1 ≤ j
   pub stage-ok : j ≤ 23
   pub working : i ≢ 0
@@ -81,7 +81,7 @@ pub record Onward (i j : ℕ) : Type 0 where
 abbrev pub onward : ℕ → ℕ → Bool
 onward i j =
     imp (unplaced j) (unplaced i) && (imp (ownless j) (ownless i) && (imp (foundless j) (foundless i)
-    && (iff (pinsFound j) (pinsFound i) && (not (pinsOrDrops i j) && (leb 1 j && (leb j 23 && not (eqb i 0)))))))
+    && (iff (pinsFound j) (pinsFound i) && (not (pinsOrEvicts i j) && (leb 1 j && (leb j 23 && not (eqb i 0)))))))
 
 pub onward-means : (i j : ℕ) → T (onward i j) → Onward i j
 onward-means i j t =
@@ -89,7 +89,7 @@ onward-means i j t =
     let b = and-parts (imp (ownless j) (ownless i)) _ (a .1) in
     let d = and-parts (imp (foundless j) (foundless i)) _ (b .1) in
     let f = and-parts (iff (pinsFound j) (pinsFound i)) _ (d .1) in
-    let s = and-parts (not (pinsOrDrops i j)) _ (f .1) in
+    let s = and-parts (not (pinsOrEvicts i j)) _ (f .1) in
     let l = and-parts (leb 1 j) _ (s .1) in
     let g = and-parts (leb j 23) (not (eqb i 0)) (l .1) in
     record {

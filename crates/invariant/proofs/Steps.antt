@@ -38,7 +38,7 @@ use Rattle.invariant.proofs.StageTests.{MayRefuse}
 use Rattle.invariant.proofs.Allowed.{allowed, may-begin, may-step, may-release}
 use Rattle.invariant.proofs.Facts.{own-pins, grant-pinned, lookup-unmapped}
 use Rattle.invariant.proofs.Edges.{CountersOnly, keep, hand, counts, free, SameFrames, grants, Edge, moves-on, found1, found18, forgets2, forgets22}
-use Rattle.invariant.proofs.Edges.{pins2, pins19, gets3, gets21, takes, fills, replaces, refuses, drops, removes, admits, revives, evicts20, evicts23}
+use Rattle.invariant.proofs.Edges.{pins2, pins19, gets3, gets21, takes, fills, replaces, refuses, evicts14, removes, admits, revives, evicts20, evicts23}
 use Rattle.invariant.proofs.Edges.{begins, releases}
 
 pub around-ok : (s i : ℕ) → 0 < s → around s i < s
@@ -255,7 +255,7 @@ module _ (p : Pool) (c : ℕ) (here : c < clientCount p) (r : Reached p) where
 
   step14 : EdgeAt 14 (λ p k. stage14 k (pins p (k .victim)) (p .size))
   unfolding stage14 freeAfter
-  step14 e = by-test IsEdge (λ t. drops e (eqb-true _ _ t)) (λ _. next 14 0 Keep e some-slots keep refl tt tt tt (known 14 e .0))
+  step14 e = by-test IsEdge (λ t. evicts14 e (eqb-true _ _ t)) (λ _. next 14 0 Keep e some-slots keep refl tt tt tt (known 14 e .0))
 
   -- 15 goes on where the slot names another frame: no entry is to be removed
   step15 : EdgeAt 15 (λ p k. stage15 k (slot p (k .place)) (p .size))
