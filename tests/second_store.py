@@ -115,16 +115,16 @@ class Tally:
         self.hits = self.joins = self.admitted = start
         self.revived = self.drops = self.refused = start
 
-    def count(self, stage, answer):
+    def count(self, stage, answer, removed):
         """Bring it up to date after a step at the stage.
 
-        Stages 18 and 22 count only where they grant, 14 only where it evicts,
-        which is where it leads to 15.
+        Stages 18 and 22 count only where they grant, 17 only where it removed
+        the entry. The answer is the same if it did not; removed tells.
         """
         granted = {3: "hits", 21: "joins", 18: "admitted", 22: "revived"}
         if answer[0] == GRANTED:
             self.add(granted[stage])
-        elif stage == 14 and answer == (WORKING, 15):
+        elif removed:
             self.add("drops")
         elif answer[0] == REFUSAL + 15:
             self.add("refused")
@@ -167,16 +167,21 @@ class StorePool(Pool):
         return super().begin(number, page)
 
     def step(self, number, tally, store):
-        """As in second.py, and the tally is brought up to date."""
+        """As in second.py, and the tally is brought up to date.
+
+        Only a 17 that removes an entry leaves fewer pages in the table.
+        """
         self.check(store)
-        self.cache.HASHTBL.store = store
+        table = self.cache.HASHTBL
+        table.store = store
+        before = len(table)
         stage = self.client(number).stage
         try:
             answer = super().step(number)
         except Refused as refused:
-            tally.count(stage, (REFUSAL + refused.number, 0))
+            tally.count(stage, (REFUSAL + refused.number, 0), False)
             raise
-        tally.count(stage, answer)
+        tally.count(stage, answer, len(table) < before)
         return answer
 
     def read(self, number, page, offset, store):
@@ -401,7 +406,7 @@ def example(about, *pairs):
     for call, answer in pairs:
         if isinstance(answer, list):
             script += [call] * len(answer)
-            report += ["1 %d" % stage for stage in answer]
+            report += ["%d %d" % (WORKING, stage) for stage in answer]
         else:
             script.append(call)
             report += answer.split("\n") if answer else []
@@ -444,7 +449,7 @@ EXAMPLES = [
             ("step 0", TO_17),
             ("dump", "0 1 1 " + row(210, b63=9) + "\n1 0 0 " + ZERO
              + "\n2 0 0 " + ZERO + "\n- " + row(5) + "\n- " + row(210)
-             + books("0 0 1 0 1 0", [])),
+             + books("0 0 1 0 0 0", [])),
             ("step 0", "1 18"),
             ("dump", "0 1 1 " + row(210, b63=9) + "\n1 0 0 " + ZERO
              + "\n2 0 0 " + ZERO + "\n- " + row(5)
@@ -462,7 +467,7 @@ EXAMPLES = [
              + "\n2 1 0 " + row(210, b63=9) + "\n- " + row(5)
              + "\n- " + row(210, b63=9) + books("0 0 3 0 2 0", []))),
     example("At 22 the new frame gets bytes and marks; the 17 that comes too "
-            "late writes nothing.",
+            "late writes nothing and is no drop.",
             ("setup 2 2 3 0 192", "0 2"),
             ("begin 0 0", "0 0"),
             ("step 0", TO_EMPTY_SLOT),
@@ -485,7 +490,7 @@ EXAMPLES = [
              + "\n2 0 0 " + ZERO + "\n3 1 1 " + row(5, b0=77)
              + "\n4 0 0 " + ZERO + "\n5 0 0 " + ZERO
              + "\n- " + row(5) + "\n- " + row(210) + "\n- " + row(159)
-             + books("0 0 3 1 2 0", ["2x1"], ["0x1"]))),
+             + books("0 0 3 1 1 0", ["2x1"], ["0x1"]))),
     example("Without a store any page may be begun, a held one can be neither "
             "read nor written, and only an empty store may be lent.",
             ("setup 1 1 3 0 0", "0 1"),
@@ -519,8 +524,8 @@ EXAMPLES = [
             ("write 0 0 0 1", "110 0"),
             ("step 0", [4, 5])),
     example("An admission, a join, a hit and a refusal by 15 are counted, and "
-            "rows rise; an eviction is counted at 14, a step refused by 8 is "
-            "not.",
+            "rows rise; a drop is counted at 17 and not at 14, nor at a 17 "
+            "refused by 8 or one that meets a frame given up.",
             ("setup 2 2 3 0 0", "0 2"),
             ("begin 0 9", "0 9"),
             ("begin 1 9", "0 9"),
@@ -551,9 +556,59 @@ EXAMPLES = [
             ("lend 0", ""),
             ("step 1", [15]),
             ("dump", zeros(6) + "\n- " + row(5)
+             + books("1 1 2 0 0 1", ["9x2"], ["9x1"])),
+            ("step 1", [16, 17]),
+            ("lend 64", ""),
+            ("step 1", "108 0"),
+            ("dump", zeros(6) + "\n- " + row(5)
+             + books("1 1 2 0 0 1", ["9x2"], ["9x1"])),
+            ("lend 0", ""),
+            ("step 1", [18]),
+            ("dump", zeros(6) + "\n- " + row(5)
              + books("1 1 2 0 1 1", ["9x2"], ["9x1"]))),
+    example("A page evicted and revived before the 17 is no drop; it is one "
+            "when it leaves later.",
+            ("setup 2 2 3 0 0", "0 2"),
+            ("begin 1 9", "0 9"),
+            ("step 1", TO_EMPTY_SLOT),
+            ("begin 0 9", "0 9"),
+            ("step 0", TO_EMPTY_SLOT),
+            ("step 0", "2 1"),
+            ("release 0 9", "0 9"),
+            ("begin 0 5", "0 5"),
+            ("step 0", [4, 5, 10, 11, 12, 11, 12, 13, 14, 15, 16, 17]),
+            ("step 1", [19, 22]),
+            ("step 1", "2 0"),
+            ("step 0", [18]),
+            ("dump", zeros(6) + "\n- " + row(5)
+             + books("0 0 1 1 0 0", [], ["9x1"])),
+            ("step 0", "2 2"),
+            ("release 1 9", "0 9"),
+            ("begin 1 7", "0 7"),
+            ("step 1", TO_17 + [18]),
+            ("step 1", "2 3"),
+            ("dump", zeros(6) + "\n- " + row(5)
+             + books("0 0 3 1 1 0", ["5x1"], ["7x1"]))),
+    example("A page that one client evicts and another removes is one drop.",
+            ("setup 1 2 3 0 0", "0 1"),
+            ("begin 0 9", "0 9"),
+            ("step 0", TO_EMPTY_SLOT),
+            ("step 0", "2 0"),
+            ("release 0 9", "0 9"),
+            ("begin 0 5", "0 5"),
+            ("step 0", [4, 5, 10, 11, 12, 13, 14, 15]),
+            ("begin 1 7", "0 7"),
+            ("step 1", [4, 5, 10, 11, 12, 15, 16, 17]),
+            ("dump", zeros(5) + "\n- " + row(5)
+             + books("0 0 1 0 0 0", [], [])),
+            ("step 1", [18]),
+            ("step 1", "2 2"),
+            ("step 0", [11, 12]),
+            ("step 0", "115 0"),
+            ("dump", zeros(5) + "\n- " + row(5)
+             + books("0 0 2 0 1 1", [], ["7x1"]))),
     example("A count stays at its largest value.",
-            ("setup 1 1 3 0 0", "0 1"),
+            ("setup 1 1 1 0 0", "0 1"),
             ("tally 4294967294", ""),
             ("begin 0 9", "0 9"),
             ("step 0", TO_EMPTY_SLOT),
@@ -566,7 +621,20 @@ EXAMPLES = [
             ("step 0", "2 0"),
             ("dump", zeros(3) + "\n- " + row(5)
              + books("4294967295 4294967294 4294967295 4294967294 4294967294 "
-                     "4294967294", ["9x3"]))),
+                     "4294967294", ["9x3"])),
+            ("release 0 9", "0 9"),
+            ("release 0 9", "0 9"),
+            ("release 0 9", "0 9"),
+            ("begin 0 5", "0 5"),
+            ("step 0", TO_17 + [18]),
+            ("step 0", "2 1"),
+            ("release 0 5", "0 5"),
+            ("begin 0 7", "0 7"),
+            ("step 0", TO_17 + [18]),
+            ("step 0", "2 2"),
+            ("dump", zeros(3) + "\n- " + row(5)
+             + books("4294967295 4294967294 4294967295 4294967294 4294967295 "
+                     "4294967294", ["7x1"]))),
     example("A setup with a store of 257 pages is refused; nothing follows.",
             ("setup 1 1 3 0 16448", "108 0"),
             ("begin 0 0", ""),

@@ -7,7 +7,6 @@ use mathlib.Core.List.{List, [], _∷_, map}
 use Prim.Native.Nat.{ℕ, _+_, _<_}
 use lib.ListN.{length}
 use Rattle.pool.specs.Choose.{choose}
-use Rattle.pool.specs.Table.{residents}
 use Rattle.pool.specs.Holdings.{holdingsRefusal}
 use Rattle.pool.specs.Tallies.{zeroTally, tallied}
 use Rattle.pool.specs.declared.Tally.{Tally}
@@ -18,7 +17,7 @@ use Rattle.pool.specs.declared.Row.{Row}
 use Rattle.pool.specs.declared.Listed.{Listed}
 use Rattle.pool.specs.declared.Counted.the-variants.{Nothing}
 use Rattle.guarantee.specs.Runs.{At}
-use Rattle.guarantee.specs.Claims.{BelowLargest}
+use Rattle.guarantee.specs.Claims.{AddsUp}
 use Rattle.memory.specs.Memory.{storeByte}
 use Rattle.memory.specs.Requests.{Request, Asks, ReadByte, WriteByte, State, setupOn, bytesOk, callOn, stateOf, bufferPool, holdingsOn}
 use Rattle.memory.specs.Happenings.{Happening, happenings, stateAfter, SetUpOn}
@@ -109,7 +108,7 @@ abbrev pub Claim-sum : Type 0
 Claim-sum =
     (s t c h : ℕ) (store : List ℕ) (r : Reply) → Accepted s t c h store r
     → (rs : List Request) (answers : List Answer) (y : State) (u : Tally) → Plays (stateOf (r .pool) store) zeroTally rs answers y u
-    → BelowLargest u → residents (y .pool) + u .drops ≡ u .admitted + u .revived
+    → AddsUp (y .pool) u
 
 -- `ReadsLast` of crate `contents`, of nothing but what was asked and what was answered
 module _ (rs : List Request) (answers : List Answer) where

@@ -15,7 +15,7 @@ use Rattle.memory.specs.Memory.{pageBytes, byte, isFilled, filledFrom, written,
 use Rattle.memory.specs.declared.Memory.{Memory}
 use Rattle.contents.proofs.Frames.{off-same, Filled, fills, Written, writes}
 use Rattle.contents.proofs.Kept.{PageOk, Marks, PageKept, stays, frame-kept, content-filled, content-kept, page-ok-next}
-use Rattle.contents.proofs.Lookups.{lookup-low, lookup-apart, lookup-not-own}
+use Rattle.invariant.proofs.Lookups.{lookup-low, lookup-apart, lookup-not-own}
 
 module _ (p : Pool) (r : Reached p) (s : List ℕ) (g : ℕ) (z : lookup p g ≢ none) (n : Memory) (k : Marks p n s) (inside : g < n .pages) where
   abbrev f : ℕ

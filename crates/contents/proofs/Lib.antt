@@ -1,8 +1,7 @@
 -- tools: 64 bytes copied; what each frame has after a change of the memory
 pub mod Frames
--- the invariant of the bytes, over `Reached`; the look-up of each page after an entry is put
+-- the invariant of the bytes, over `Reached`
 pub mod Kept
-pub mod Lookups
 -- what each kind of move is to bytes and page numbers
 pub mod Ways
 -- page numbers over a move

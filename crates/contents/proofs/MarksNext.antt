@@ -32,7 +32,7 @@ use Rattle.memory.specs.Copying.{copied-length, page-here, page-else}
 use Rattle.contents.proofs.Frames.{Long, Off, Same, same, off-same, none-off, byte-is, none-moves, moves-to-none, Unmarked, unmarks, Moved, moves}
 use Rattle.contents.proofs.Kept.{PagesInside, Marks, SameStore, SameContent, PageKept, leaves, frame-kept, off-kept, content-filled, content-kept}
 use Rattle.contents.proofs.Kept.{page-ok-next}
-use Rattle.contents.proofs.Lookups.{low-frame, lookup-low, lookup-apart, lookup-not-own, put-lookup, put-lookup-else}
+use Rattle.invariant.proofs.Lookups.{low-frame, lookup-low, lookup-apart, lookup-not-own, put-lookup, put-lookup-else}
 use Rattle.contents.proofs.Ways.{OwnKept, apart-means, Way, idles, takes-frame, removes-entry, puts-entry}
 
 module _ {p : Pool} {c : ℕ} {m : Move} (x : Effect p c m) (rq : Reached (apply p c m)) (n : Memory) (s : List ℕ) (k : Marks p n s)

@@ -18,6 +18,7 @@ use Rattle.guarantee.proofs.Along.{throughout}
 use Rattle.guarantee.proofs.Copies.{one-copies, helds-pinned, no-held-evicted}
 use Rattle.guarantee.proofs.Sequence.{sequential}
 use Rattle.guarantee.proofs.Sum.{sum}
+use Rattle.guarantee.proofs.Drops.{drops}
 use Rattle.guarantee.proofs.Once.{taken-out-once}
 use Rattle.guarantee.proofs.OneEffect.{one-effect}
 use Rattle.guarantee.proofs.Alone.{refused-alone}
@@ -64,6 +65,7 @@ guarantee =
       turned-down = turned-down;
       refused = refused;
       busy-sweep = busy-sweep;
+      drops = drops;
       sum = sum;
       limits = limits;
       holdings = holdings;

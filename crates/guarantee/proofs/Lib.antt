@@ -20,8 +20,10 @@ pub mod Follow
 pub mod Sequence
 -- from the sequential pool: claims 2 and 3
 pub mod Copies
--- the tally's sum, over the edges
+-- claim 12: what each move does to the table, beside what it counts; the tally's sum; the pages that come and leave
+pub mod TableMoves
 pub mod Sum
+pub mod Drops
 -- claim 4: between two replacements of a frame it is taken anew
 pub mod Once
 -- a call as one client sees it; each grant takes effect once

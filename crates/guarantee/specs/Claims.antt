@@ -8,7 +8,7 @@ use Prim.Native.Nat.{ℕ, suc, _+_, _≤_, _<_}
 use lib.Dec.{T, eqb}
 use lib.ListN.{length, set, replicate}
 use Rattle.pool.specs.State.{none, evicted, pinned, clientCount, total, resting, slot, pins, client, grantPage, grantFrame}
-use Rattle.pool.specs.Table.{lookup, resident, residents}
+use Rattle.pool.specs.Table.{lookup, resident, pagesInTable}
 use Rattle.pool.specs.Grants.{held}
 use Rattle.pool.specs.Frames.{freeFrame}
 use Rattle.pool.specs.Valid.{valid}
@@ -23,7 +23,8 @@ use Rattle.pool.specs.declared.Call.{Call}
 use Rattle.pool.specs.declared.Call.the-variants.{Begin, Step, Release}
 use Rattle.pool.specs.declared.Answer.{Answer}
 use Rattle.pool.specs.declared.Answer.the-variants.{Done, Working, Granted, Refused}
-use Rattle.pool.specs.declared.Counted.the-variants.{Nothing, Refusal}
+use Rattle.pool.specs.declared.Counted.{Counted}
+use Rattle.pool.specs.declared.Counted.the-variants.{Nothing, Admitted, Drop, Refusal}
 use Rattle.guarantee.specs.Runs.{Event, events, At, Run, along, IsCall, NoneBetween, Throughout, StepAt, Begins, GrantedTo, Releases, ExactlyOne, SameRequest}
 use Rattle.guarantee.specs.Sequential.{Sequential, Keeps, seqClient, start, Rule, adding, admitting}
 use Rattle.guarantee.specs.BusySweep.{Claim-busy-sweep}
@@ -282,24 +283,38 @@ RestsRefused p x =
 abbrev pub Claim-refused : Type 0
 Claim-refused = (p : Pool) (x : Call) → callOf p x .answer ≡ Refused 15 → RestsRefused p x
 
--- ---- GUARANTEE 12: the tally's sum
+-- ---- GUARANTEE 12: pages that came and pages that left
+
+-- some page is in the table of pool p and not in that of q
+abbrev pub Lost : Pool → Pool → Type 0
+Lost p q = (g : ℕ) × (lookup p g ≢ none) × (lookup q g ≡ none)
+
+-- from pool p to q: a drop is counted exactly if a page leaves the table, and an admission exactly if one comes
+abbrev pub CountsPages : Pool → Counted → Pool → Type 0
+CountsPages p u q = ((u ≡ Drop) ↔ Lost p q) × ((u ≡ Admitted) ↔ Lost q p)
+
+-- so does each call of a run
+abbrev pub Claim-drops : Type 0
+Claim-drops =
+    (p : Pool) → SetUp p → (calls : List Call) (x : Call)
+    → let now = poolAfter p calls in
+    CountsPages now (callOf now x .counted) (callOf now x .pool)
 
 -- one tally that goes from call to call
 unfoldable pub tallyOf : Tally → List Event → Tally
 tallyOf t [] = t
 tallyOf t (e ∷ es) = tallyOf (tallied (e .counted) t) es
 
--- no count is at its largest value, where it would stay
+-- neither count of the sum is at its largest value, where it would stay
 abbrev pub BelowLargest : Tally → Type 0
-BelowLargest t =
-    (t .hits < largest) × (t .joins < largest) × (t .admitted < largest) × (t .revived < largest) × (t .drops < largest) × (t .refused < largest)
+BelowLargest t = (t .admitted < largest) × (t .drops < largest)
 
 -- SPECIFICATION 7.3, with the drops on the other side: these numbers are never negative
+abbrev pub AddsUp : Pool → Tally → Type 0
+AddsUp p t = BelowLargest t → pagesInTable p + t .drops ≡ t .admitted
+
 abbrev pub Claim-sum : Type 0
-Claim-sum =
-    (p : Pool) → SetUp p → (calls : List Call)
-    → let tally = tallyOf zeroTally (events p calls) in
-    BelowLargest tally → residents (poolAfter p calls) + tally .drops ≡ tally .admitted + tally .revived
+Claim-sum = (p : Pool) → SetUp p → (calls : List Call) → AddsUp (poolAfter p calls) (tallyOf zeroTally (events p calls))
 
 -- ---- GUARANTEE 13: the limits of steps
 
@@ -345,6 +360,7 @@ pub record Guarantee : Type 0 where
   pub turned-down : Claim-turned-down
   pub refused : Claim-refused
   pub busy-sweep : Claim-busy-sweep
+  pub drops : Claim-drops
   pub sum : Claim-sum
   pub limits : Claim-limits
   pub holdings : Claim-holdings

@@ -62,7 +62,7 @@ module _ (p : Pool) (x : Call) where
   pub never-stuck : Reached p → refusal p x ≡ 0 → refusalOf (moveOf p x .answer) ≢ 8
   never-stuck r e eight = subst NotEnding eight (never-ends r e)
 
-  reached-next : Reached p → refusal p x ≡ 0 → Reached (apply p (caller x) (moveOf p x))
+  pub reached-next : Reached p → refusal p x ≡ 0 → Reached (apply p (caller x) (moveOf p x))
   reached-next r e = let w = call-edge p x r e in reached-move p (caller x) (moveOf p x) (w .0) r (w .1)
 
   -- a call that is not turned down makes its move

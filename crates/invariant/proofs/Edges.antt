@@ -93,9 +93,9 @@ module _ (p : Pool) (c : ℕ) where
     replaces : k .stage ≡ 15 → slot p (k .place) ≡ k .victim → Edge (works k 16 (PutSlot (k .place) (k .own)))
     -- 11, 12: the S-th busy visit
     refuses : MayRefuse (k .stage) → k .busy + 1 ≡ p .size → Edge (refused15 k)
-    evicts14 : k .stage ≡ 14 → pins p (k .victim) ≡ pinned 0 → Edge (worksAs k Drop 15 (PutPins (k .victim) evicted))
+    evicts14 : k .stage ≡ 14 → pins p (k .victim) ≡ pinned 0 → Edge (works k 15 (PutPins (k .victim) evicted))
     removes : k .stage ≡ 17 → lookup p (page p (k .victim)) ≡ k .victim
-        → Edge (works (withVictim k none) 18 (PutEntry (entryOf p (page p (k .victim))) (page p (k .victim)) none))
+        → Edge (worksAs (withVictim k none) Drop 18 (PutEntry (entryOf p (page p (k .victim))) (page p (k .victim)) none))
     -- 18, 22: the page is mapped to the own frame, which is granted
     admits : k .stage ≡ 18 → lookup p (k .page) ≡ none → unusedEntry p ≢ none → Edge (grants k (k .own) (PutEntry (unusedEntry p) (k .page) (k .own)) Admitted)
     revives : k .stage ≡ 22 → lookup p (k .page) ≡ k .found → Edge (grants k (k .own) (PutEntry (entryOf p (k .page)) (k .page) (k .own)) Revived)

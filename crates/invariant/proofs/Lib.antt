@@ -36,6 +36,8 @@ pub mod PinCounts
 pub mod Knowing
 pub mod Mapping
 pub mod Evictions
+-- the look-up of each page after an entry is put
+pub mod Lookups
 -- check 8, the setup, and all calls
 pub mod Valid
 pub mod Setup

@@ -50,7 +50,7 @@ untouched n l (PutPins f x) t = absurd t
 untouched n l (TakeFrame f g x y) t = absurd t
 untouched n l (PutEntry i g f) t = absurd t
 
-table-kept : (w : Write) → T (keepsTable w) → (n : ℕ) (l : List ℕ) → (entryPagesAfter n l w ≡ l) × (entryFramesAfter n l w ≡ l)
+pub table-kept : (w : Write) → T (keepsTable w) → (n : ℕ) (l : List ℕ) → (entryPagesAfter n l w ≡ l) × (entryFramesAfter n l w ≡ l)
 unfolding entryPagesAfter entryFramesAfter
 table-kept Keep t n l = (refl, refl)
 table-kept (PutSlot i f) t n l = (refl, refl)

@@ -19,7 +19,7 @@ use Rattle.pool.specs.declared.Call.the-variants.{Begin, Step, Release}
 use Rattle.pool.specs.declared.Answer.{Answer}
 use Rattle.pool.specs.declared.Answer.the-variants.{Done, Working, Granted, Refused}
 use Rattle.pool.specs.declared.Counted.{Counted}
-use Rattle.pool.specs.declared.Counted.the-variants.{Drop, Revived}
+use Rattle.pool.specs.declared.Counted.the-variants.{Nothing, Drop, Revived}
 use Rattle.pool.specs.declared.GrantChange.the-variants.{Same, Open}
 use Rattle.pool.specs.declared.Write.the-variants.{Keep, PutPins, TakeFrame, PutEntry}
 use Rattle.memory.specs.Memory.{pageBytes, isFilled, isChanged, byte, storeByte, blank, content}
@@ -460,7 +460,7 @@ pub record Proved : Type 0 where
       Holds (revivalOf false false noMarks) × Holds (revivalOf true false justFilled) × Holds (revivalOf false true justChanged)
       × Holds (revivalOf true true bothMarks) × Holds revivalElsewhere × Holds otherBytes × Holds revivedInPlace × Holds revivalRefused
   -- what is counted is what the pool counts
-  pub counts : Counts (eviction .first) Drop × Counts (revivedInPlace .first) Revived
+  pub counts : Counts (eviction .first) Nothing × Counts (removalElsewhere .first) Drop × Counts (revivedInPlace .first) Revived
   pub takings : Holds (takingOf false false) × Holds (takingOf true false) × Holds (takingOf false true) × Holds (takingOf true true)
   -- 9, 10, 12, and then 16
   pub begin-refused :

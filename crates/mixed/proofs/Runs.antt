@@ -9,7 +9,6 @@ use lib.ListN.{replicate}
 use borrow.Author.Tests.{eq-eqb}
 use Rattle.pool.specs.Choose.{either}
 use Rattle.pool.specs.State.{client, total}
-use Rattle.pool.specs.Table.{residents}
 use Rattle.pool.specs.Frames.{freeFrame}
 use Rattle.pool.specs.Tallies.{zeroTally}
 use Rattle.pool.specs.Calls.{SetUp, callOf}
@@ -24,18 +23,19 @@ use Rattle.invariant.proofs.Reached.{Reached}
 use Rattle.invariant.proofs.Valid.{valid-reached}
 use Rattle.guarantee.specs.Runs.{Event, events, At, along, Throughout, GrantedTo}
 use Rattle.guarantee.specs.BusySweep.{BusySweep}
-use Rattle.guarantee.specs.Claims.{OneCopy, HeldPinned, tallyOf, BelowLargest, GrantedWithin, WithinLimits}
+use Rattle.guarantee.specs.Claims.{OneCopy, HeldPinned, tallyOf, CountsPages, AddsUp, GrantedWithin, WithinLimits}
 use Rattle.guarantee.proofs.TurnedDown.{same-answer, same-pool, other-answer, other-call}
 use Rattle.guarantee.proofs.Copies.{one-copies, helds-pinned}
+use Rattle.guarantee.proofs.Drops.{none-counted, call-counts}
 use Rattle.guarantee.proofs.Sequence.{start-related}
 use Rattle.guarantee.proofs.Guaranteed.{finds-frame, guarantee}
-use Rattle.memory.specs.Requests.{Request, Asks, State, Result, inside, callOn}
+use Rattle.memory.specs.Requests.{Request, Asks, ReadByte, WriteByte, State, Result, inside, callOn}
 use Rattle.memory.specs.Happenings.{Happening, happenings, stateAfter}
 use Rattle.contents.proofs.Kept.{Kept}
 use Rattle.contents.proofs.CallsNext.{kept-call}
-use Rattle.mixed.specs.Mixed.{ofCall, amid, Point3On, ListedOn, Passes8, AnsweredOn, tallyOn, GrantedWithinOn, WithinLimitsOn, outcomeOn, AsBefore}
+use Rattle.mixed.specs.Mixed.{ofCall, amid, IsByte, Point3On, ListedOn, Passes8, AnsweredOn, tallyOn, GrantedWithinOn, WithinLimitsOn, outcomeOn, AsBefore}
 use Rattle.mixed.proofs.Passes.{bytes-yes, store-yes, turned-away}
-use Rattle.mixed.proofs.Calls.{same, turned16, as-call, same-length}
+use Rattle.mixed.proofs.Calls.{same, turned16, as-call, byte-leaves, same-length}
 use Rattle.mixed.proofs.Embedded.{tally-same}
 use Rattle.mixed.proofs.Transported.{grants-in, no-held-evicted-in, taken-out-once-in, one-effect-in, refused-alone-in, busy-sweep-in}
 use Rattle.mixed.proofs.Lists.{Erased, erased, throughout-on, kept-after, bytes-apart, follows-on}
@@ -76,15 +76,31 @@ module _ (x : State) (k : Kept x) (u : SetUp (x .pool)) (rs : List Request) wher
   pub busy-sweep-from : BusySweep (x .pool .size) (amid (happenings x rs))
   busy-sweep-from = busy-sweep-in (inner .embedded) (x .pool .size) (guarantee .busy-sweep (x .pool) u (inner .calls))
 
-  abbrev Sums : Pool → Tally → Type 0
-  Sums p t = residents p + t .drops ≡ t .admitted + t .revived
-
-  pub sum-from : BelowLargest (tallyOn zeroTally (happenings x rs)) → Sums (stateAfter x rs .pool) (tallyOn zeroTally (happenings x rs))
-  sum-from low =
+  pub sum-from : AddsUp (stateAfter x rs .pool) (tallyOn zeroTally (happenings x rs))
+  sum-from =
       let t : tallyOn zeroTally (happenings x rs) ≡ tallyOf zeroTally (events (x .pool) (inner .calls)) = tally-same (inner .embedded) zeroTally in
-      subst (Sums (stateAfter x rs .pool)) (sym t)
-      (subst (λ (p : Pool). Sums p (tallyOf zeroTally (events (x .pool) (inner .calls)))) (sym (inner .after))
-      (guarantee .sum (x .pool) u (inner .calls) (subst BelowLargest t low)))
+      subst (AddsUp (stateAfter x rs .pool)) (sym t)
+      (subst (λ (p : Pool). AddsUp p (tallyOf zeroTally (events (x .pool) (inner .calls)))) (sym (inner .after))
+      (guarantee .sum (x .pool) u (inner .calls)))
+
+-- ---- pages that came and left
+
+module _ (x : State) (k : Kept x) where
+  abbrev Counts : Result → Type 0
+  Counts o = CountsPages (x .pool) (o .counted) (o .state .pool)
+
+  leaves-pages : (r : Request) → IsByte r → Counts (callOn x r)
+  leaves-pages r b = let e = byte-leaves x r b in rw (e .0, e .1) (none-counted (x .pool))
+
+  pub counts-pages : (r : Request) → Counts (callOn x r)
+  unfolding IsByte
+  counts-pages (Asks call) =
+      elim (as-call x call (turned-away x k (Asks call))) [
+        | same e ↦ subst (λ (o : Outcome). CountsPages (x .pool) (o .counted) (o .pool)) (sym e) (call-counts (x .pool) call (k .reached))
+        | turned16 _ _ _ _ e ↦ subst Counts (sym e) (none-counted (x .pool))
+      ]
+  counts-pages (ReadByte c g o) = leaves-pages (ReadByte c g o) tt
+  counts-pages (WriteByte c g o v) = leaves-pages (WriteByte c g o v) tt
 
 -- ---- answers
 

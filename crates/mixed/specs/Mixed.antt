@@ -10,7 +10,7 @@ use lib.Dec.{T}
 use lib.ListN.{length, replicate}
 use Rattle.pool.specs.Choose.{choose, member}
 use Rattle.pool.specs.State.{none, clientCount, total, resting, slot, page, entryPage, entryFrame, client, grantPage}
-use Rattle.pool.specs.Table.{lookup, resident, residents}
+use Rattle.pool.specs.Table.{lookup, resident}
 use Rattle.pool.specs.Frames.{freeFrame}
 use Rattle.pool.specs.Valid.{valid}
 use Rattle.pool.specs.Tallies.{zeroTally, tallied}
@@ -30,7 +30,7 @@ use Rattle.guarantee.specs.Runs.{Event, At, Run, GrantedTo}
 use Rattle.guarantee.specs.Sequential.{Sequential, start, seqRefusal, Rule}
 use Rattle.guarantee.specs.BusySweep.{BusySweep}
 use Rattle.guarantee.specs.Claims.{GrantLists, OneCopy, NoHeldEvicted, HeldPinned, TakenOutOnce, SamePages, SameStages, OneEffect, RefusedAlone, Listed}
-use Rattle.guarantee.specs.Claims.{withClient, BelowLargest}
+use Rattle.guarantee.specs.Claims.{withClient, CountsPages, AddsUp}
 use Rattle.memory.specs.Memory.{maxPages, isFilled, isChanged, copiedPage, unmarked, moved}
 use Rattle.memory.specs.Requests.{Request, Asks, ReadByte, WriteByte, State, Result, bytesOk, storeOk, firstOf, outsideAt, byteRefusal, refusalOn, refused}
 use Rattle.memory.specs.Requests.{callOn, bufferPool, holdingsOn}
@@ -169,19 +169,22 @@ Claim-refused-on = (x : State) (r : Request) → callOn x r .answer ≡ Refused 
 abbrev pub Claim-busy-sweep-on : Type 0
 Claim-busy-sweep-on = (x : State) → SetUpOn x → (rs : List Request) → BusySweep (x .pool .size) (amid (happenings x rs))
 
--- ---- the tally's sum
+-- ---- pages that came and pages that left
 
--- one tally that goes from call to call; reads and writes count nothing (`LeavesPool`)
+-- each request of a run counts them; reads and writes, of which none comes or leaves, count nothing (`LeavesPool`)
+abbrev pub Claim-drops-on : Type 0
+Claim-drops-on =
+    (x : State) → SetUpOn x → (rs : List Request) (r : Request)
+    → let now = stateAfter x rs in
+    CountsPages (now .pool) (callOn now r .counted) (callOn now r .state .pool)
+
+-- one tally that goes from call to call
 unfoldable pub tallyOn : Tally → List Happening → Tally
 tallyOn t [] = t
 tallyOn t (h ∷ hs) = tallyOn (tallied (h .counted) t) hs
 
--- as many pages are resident as were admitted or revived and not dropped since
 abbrev pub Claim-sum-on : Type 0
-Claim-sum-on =
-    (x : State) → SetUpOn x → (rs : List Request)
-    → let tally = tallyOn zeroTally (happenings x rs) in
-    BelowLargest tally → residents (stateAfter x rs .pool) + tally .drops ≡ tally .admitted + tally .revived
+Claim-sum-on = (x : State) → SetUpOn x → (rs : List Request) → AddsUp (stateAfter x rs .pool) (tallyOn zeroTally (happenings x rs))
 
 -- ---- the limits of steps
 
@@ -302,6 +305,7 @@ pub record GuaranteeOn : Type 0 where
   pub turned-down : Claim-turned-down-on
   pub refused : Claim-refused-on
   pub busy-sweep : Claim-busy-sweep-on
+  pub drops : Claim-drops-on
   pub sum : Claim-sum-on
   pub limits : Claim-limits-on
   pub holdings : Claim-holdings-on

@@ -3,7 +3,7 @@ use mathlib.Core.Path.{refl}
 use Rattle.pool.specs.Choose.{choose, both, either, scan, howMany}
 use Rattle.pool.specs.Answers.{codeOf, valueOf, refusalOf, unreadOf}
 use Rattle.pool.specs.State.{within, slot, page, pins, count, entryPage, entryFrame, client, ofClient, grantPage, grantFrame}
-use Rattle.pool.specs.Table.{maps, entryOf, lookup, unusedEntry, resident, residents}
+use Rattle.pool.specs.Table.{maps, entryOf, lookup, unusedEntry, resident, pagesInTable}
 use Rattle.pool.specs.Grants.{grantOf, holds, held}
 use Rattle.pool.specs.Frames.{names, referenced, firstTried, freeFrame}
 use Rattle.pool.specs.Moves.{granted}
@@ -23,7 +23,7 @@ use Rattle.pool.specs.Cases.{Proved, noted, played, asStep, answersReque
 pub table : Proved
 unfolding
     choose both either scan howMany codeOf valueOf refusalOf unreadOf within slot page pins count entryPage entryFrame client
-    ofClient grantPage grantFrame maps entryOf lookup unusedEntry resident residents grantOf holds held names referenced
+    ofClient grantPage grantFrame maps entryOf lookup unusedEntry resident pagesInTable grantOf holds held names referenced
     firstTried freeFrame granted stored slotsAfter pagesAfter pinsAfter countsAfter entryPagesAfter entryFramesAfter handAfter
     freeAfter lastAfter grantPagesAfter grantFramesAfter apply around advanced growth raised busyVisit evictOwn stage1 stage2
     stage3 stage4 stage5 stage6 stage7 stage8 stage9 stage10 stage11 stage12 stage13 stage14 stage15 stage16 stage17 stage18

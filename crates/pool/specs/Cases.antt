@@ -10,11 +10,11 @@ use lib.Dec.{eqb}
 use lib.ListN.{replicate}
 use Rattle.pool.specs.Choose.{choose}
 use Rattle.pool.specs.State.{none, evicted, pinned, slot, pins, count, resting, client}
-use Rattle.pool.specs.Table.{lookup}
+use Rattle.pool.specs.Table.{lookup, pagesInTable}
 use Rattle.pool.specs.Moves.{standing, withOwn, withFound, withVictim, withSeen, withPlace, sweeping, completes}
 use Rattle.pool.specs.Apply.{apply}
 use Rattle.pool.specs.Valid.{valid}
-use Rattle.pool.specs.Calls.{fresh, setupOf, callOf, poolAfter}
+use Rattle.pool.specs.Calls.{fresh, setupOf, caller, callOf, poolAfter}
 use Rattle.pool.specs.Tallies.{up, tallied}
 use Rattle.pool.specs.Holdings.{listed, holdingsOf}
 use Rattle.pool.specs.Schedule.{ran}
@@ -46,6 +46,11 @@ pub record Setup : Type 0 where
   pub c : ℕ
   pub hand : ℕ
 
+-- what an action counts, and by which stage
+infix 90 _by_
+pub data Count : Type 0 where
+  _by_ : Counted → ℕ → Count
+
 pub record Case : Type 0 where
   pub numbers : Setup
   -- the setup's answer
@@ -55,7 +60,7 @@ pub record Case : Type 0 where
   -- how many of the case's own calls are steps up to the first answer to a request
   pub steps : ℕ
   -- what its own calls count, one after the other
-  pub counted : List Counted
+  pub counted : List Count
   pub lines : List Line
 
 -- ---- shorthands
@@ -65,7 +70,7 @@ setup s t c hand = record { s = s; t = t; c = c; hand = hand }
 
 -- a case whose setup is accepted
 infix 10 _after_takes_counts_shows_
-abbrev pub _after_takes_counts_shows_ : Setup → List Call → ℕ → List Counted → List Line → Case
+abbrev pub _after_takes_counts_shows_ : Setup → List Call → ℕ → List Count → List Line → Case
 x after before takes steps counts counted shows lines =
     record { numbers = x; accepted = Done (x .s); before = before; steps = steps; counted = counted; lines = lines }
 
@@ -159,51 +164,52 @@ free p = p .free
 -- The third frame is as at setup.
 abbrev pub P1 : Case
 P1 =
-    setup 1 1 3 0 after [] takes 8 counts Admitted ∷ [] shows
+    setup 1 1 3 0 after [] takes 8 counts Admitted by 18 ∷ [] shows
     asks 0 9 fills (Granted 0) ++ Step 0 gets Refused 11 ∷ Release 0 9 gets Done 9
     ∷ slot at 0 is 0 ∷ free is 0 ∷ hand is 1 ∷ pins at 0 is pinned 0 ∷ lookup at 9 is 0
     ∷ pins at 2 is evicted ∷ count at 2 is 0 ∷ []
 
 abbrev pub P2 : Case
 P2 =
-    setup 1 1 3 0 after admitAndRelease 9 takes 3 counts Hit ∷ [] shows
+    setup 1 1 3 0 after admitAndRelease 9 takes 3 counts Hit by 3 ∷ [] shows
     asks 0 9 (2 ∷ 3 ∷ []) (Granted 0) ++ count at 0 is 2 ∷ pins at 0 is pinned 1 ∷ []
 
 abbrev pub P3 : Case
 P3 =
-    setup 1 1 3 0 after admitAndRelease 9 takes 12 counts Drop ∷ Admitted ∷ [] shows
+    setup 1 1 3 0 after admitAndRelease 9 takes 12 counts Drop by 17 ∷ Admitted by 18 ∷ [] shows
     asks 0 5 (sweeps ++ evicts) (Granted 1)
-    ++ hand is 2 ∷ slot at 0 is 1 ∷ pins at 0 is evicted ∷ lookup at 9 is none ∷ lookup at 5 is 1 ∷ []
+    ++ hand is 2 ∷ slot at 0 is 1 ∷ pins at 0 is evicted ∷ lookup at 9 is none ∷ lookup at 5 is 1 ∷ pagesInTable is 1 ∷ []
 
 -- SPECIFICATION 3.9: the frame that the refused request took keeps what stage 4 gave it, and the next search starts after it.
 abbrev pub P4 : Case
 P4 =
-    setup 1 1 3 0 after admit 9 takes 6 counts Refusal ∷ [] shows
+    setup 1 1 3 0 after admit 9 takes 6 counts Refusal by 12 ∷ [] shows
     asks 0 5 (sweeps ++ 12 ∷ []) (Refused 15) ++ Step 0 gets Refused 11
     ∷ slot at 0 is 0 ∷ pins at 0 is pinned 1 ∷ lookup at 5 is none ∷ held at 0 is 1 ∷ own at 0 is none
     ∷ pins at 1 is pinned 1 ∷ count at 1 is 1 ∷ begins 0 5 (4 ∷ 5 ∷ []) ++ own at 0 is 2 ∷ []
 
 abbrev pub P5 : Case
 P5 =
-    setup 2 2 3 0 after Begin 0 9 ∷ Begin 1 9 ∷ [] takes 15 counts Admitted ∷ Join ∷ [] shows
+    setup 2 2 3 0 after Begin 0 9 ∷ Begin 1 9 ∷ [] takes 15 counts Admitted by 18 ∷ Join by 21 ∷ [] shows
     inTurn 0 1 (4 ∷ 4 ∷ 5 ∷ 5 ∷ 6 ∷ 6 ∷ 7 ∷ 5 ∷ 8 ∷ 6 ∷ 9 ∷ 7 ∷ 18 ∷ 8 ∷ [])
     ++ Step 0 gets Granted 0 ∷ goes 1 (9 ∷ 18 ∷ 19 ∷ 20 ∷ 21 ∷ []) ++ own at 1 is none ∷ Step 1 gets Granted 0
     ∷ pins at 0 is pinned 2 ∷ count at 0 is 2 ∷ pins at 1 is evicted ∷ free is 0 ∷ slot at 1 is 1 ∷ []
 
+-- Client 1's 17 drops page 5. Client 0's drops nothing: page 9, which it evicted, was revived by then, and stays in the table.
 abbrev pub P6 : Case
 P6 =
-    setup 2 2 3 0 after admitAndRelease 9 ++ admitAndRelease 5 ++ Begin 0 7 ∷ steps 0 10 takes 15 counts Drop ∷ Revived ∷ Admitted ∷ [] shows
+    setup 2 2 3 0 after admitAndRelease 9 ++ admitAndRelease 5 ++ Begin 0 7 ∷ steps 0 10 takes 15 counts Drop by 17 ∷ Revived by 22 ∷ Admitted by 18 ∷ [] shows
     asks 1 9 (2 ∷ sweeps ++ evicts ++ 19 ∷ 22 ∷ []) (Granted 3) ++ goes 0 (18 ∷ []) ++ victim at 0 is none ∷ Step 0 gets Granted 2
-    ∷ lookup at 9 is 3 ∷ lookup at 7 is 2 ∷ lookup at 5 is none ∷ slot at 0 is 2 ∷ slot at 1 is 3 ∷ []
+    ∷ lookup at 9 is 3 ∷ lookup at 7 is 2 ∷ lookup at 5 is none ∷ pagesInTable is 2 ∷ slot at 0 is 2 ∷ slot at 1 is 3 ∷ []
 
 abbrev pub P7a : Case
 P7a =
-    setup 3 1 3 4294967295 after [] takes 8 counts Admitted ∷ [] shows
+    setup 3 1 3 4294967295 after [] takes 8 counts Admitted by 18 ∷ [] shows
     asks 0 9 fills (Granted 0) ++ Release 0 9 gets Done 9 ∷ slot at 0 is 0 ∷ slot at 1 is none ∷ slot at 2 is none ∷ hand is 0 ∷ []
 
 abbrev pub P7b : Case
 P7b =
-    setup 3 1 3 4294967295 after admitAndRelease 9 takes 9 counts Admitted ∷ [] shows
+    setup 3 1 3 4294967295 after admitAndRelease 9 takes 9 counts Admitted by 18 ∷ [] shows
     asks 0 5 (4 ∷ 5 ∷ 6 ∷ 7 ∷ 8 ∷ 8 ∷ 9 ∷ 18 ∷ []) (Granted 1)
     ++ slot at 0 is 0 ∷ slot at 1 is 1 ∷ slot at 2 is none ∷ hand is 1 ∷ []
 
@@ -223,35 +229,35 @@ P8 =
 -- As P3 with a start of 4,294,967,295, which stage 16 has to reduce before it compares: the hand grows by 1, and goes to 0.
 abbrev pub reducedStart : Case
 reducedStart =
-    setup 1 1 3 4294967294 after admitAndRelease 9 takes 12 counts Drop ∷ Admitted ∷ [] shows
+    setup 1 1 3 4294967294 after admitAndRelease 9 takes 12 counts Drop by 17 ∷ Admitted by 18 ∷ [] shows
     asks 0 5 (sweeps ++ evicts) (Granted 1) ++ hand is 0 ∷ []
 
 -- A sweep from hand 5, at slot 2, leaves a count above 0 there and passes on round the end to slot 0, which is below where it started: the hand
 -- grows by 2. It forgets its victim where it passes on, and again at 17.
 abbrev pub roundTheEnd : Case
 roundTheEnd =
-    setup 3 1 3 2 after admitAndRelease 9 ++ hitAndRelease 9 ++ admitAndRelease 5 ++ admitAndRelease 6 takes 15 counts Drop ∷ Admitted ∷ [] shows
+    setup 3 1 3 2 after admitAndRelease 9 ++ hitAndRelease 9 ++ admitAndRelease 5 ++ admitAndRelease 6 takes 15 counts Drop by 17 ∷ Admitted by 18 ∷ [] shows
     begins 0 7 (sweeps ++ 12 ∷ 13 ∷ 11 ∷ []) ++ victim at 0 is none ∷ goes 0 evicts ++ victim at 0 is none ∷ Step 0 gets Granted 3
     ∷ hand is 7 ∷ slot at 0 is 3 ∷ slot at 2 is 0 ∷ count at 0 is 1 ∷ lookup at 5 is none ∷ []
 
 -- A count rises to C and stays there. A sweep lowers it by one each time that it comes round, passes on while it is above 0, and evicts then.
 abbrev pub countAtCap : Case
 countAtCap =
-    setup 1 1 3 0 after admitAndRelease 9 ++ hitAndRelease 9 ++ hitAndRelease 9 ++ hitAndRelease 9 takes 18 counts Drop ∷ Admitted ∷ [] shows
+    setup 1 1 3 0 after admitAndRelease 9 ++ hitAndRelease 9 ++ hitAndRelease 9 ++ hitAndRelease 9 takes 18 counts Drop by 17 ∷ Admitted by 18 ∷ [] shows
     count at 0 is 3 ∷ begins 0 5 (sweeps ++ 12 ∷ 13 ∷ 11 ∷ []) ++ count at 0 is 2 ∷ goes 0 (12 ∷ 13 ∷ 11 ∷ []) ++ count at 0 is 1 ∷ goes 0 evicts
     ++ count at 0 is 0 ∷ Step 0 gets Granted 1 ∷ []
 
 -- Refusal 15 comes at S busy visits and not before: two held slots, 4 + 2S steps.
 abbrev pub twoHeld : Case
 twoHeld =
-    setup 2 1 3 0 after admit 9 ++ admit 5 takes 8 counts Refusal ∷ [] shows
+    setup 2 1 3 0 after admit 9 ++ admit 5 takes 8 counts Refusal by 12 ∷ [] shows
     asks 0 7 (sweeps ++ 12 ∷ 11 ∷ 12 ∷ []) (Refused 15) ++ held at 0 is 2 ∷ pins at 0 is pinned 1 ∷ pins at 1 is pinned 1 ∷ []
 
 -- The slots' pages are held, not held with count 2, held. The sweep passes the second on after one busy visit, and its run starts anew: two more
 -- busy visits are no refusal, and the second slot is taken. A busy visit forgets the victim.
 abbrev pub busyRunReset : Case
 busyRunReset =
-    setup 3 1 3 0 after admit 9 ++ admitAndRelease 5 ++ hitAndRelease 5 ++ admit 6 takes 21 counts Drop ∷ Admitted ∷ [] shows
+    setup 3 1 3 0 after admit 9 ++ admitAndRelease 5 ++ hitAndRelease 5 ++ admit 6 takes 21 counts Drop by 17 ∷ Admitted by 18 ∷ [] shows
     begins 0 7 (sweeps ++ 12 ∷ 11 ∷ []) ++ victim at 0 is none ∷ busy at 0 is 1 ∷ goes 0 (12 ∷ 13 ∷ 11 ∷ []) ++ busy at 0 is 0
     ∷ goes 0 (12 ∷ 11 ∷ 12 ∷ 11 ∷ []) ++ busy at 0 is 2 ∷ goes 0 evicts ++ Step 0 gets Granted 3 ∷ slot at 1 is 3 ∷ hand is 5 ∷ []
 
@@ -261,21 +267,21 @@ busyRunReset =
 -- empty slot, which is a busy visit.
 abbrev pub claimedSlot : Case
 claimedSlot =
-    setup 1 2 3 0 after Begin 1 5 ∷ steps 1 3 ++ Begin 0 9 ∷ steps 0 4 takes 4 counts Refusal ∷ [] shows
+    setup 1 2 3 0 after Begin 1 5 ∷ steps 1 3 ++ Begin 0 9 ∷ steps 0 4 takes 4 counts Refusal by 11 ∷ [] shows
     goes 1 (5 ∷ 10 ∷ 11 ∷ []) ++ Step 1 gets Refused 15 ∷ slot at 0 is none ∷ free is 0 ∷ own at 1 is none ∷ goes 0 (8 ∷ 9 ∷ 18 ∷ [])
 
 -- A sweep of three slots from slot 2, which client 1 has claimed and not filled, over slot 0, whose page has two grants, and slot 1, whose page
 -- has one: an empty slot and each number of pins above 0 is one busy visit, and the third is refusal 15.
 abbrev pub threeBusy : Case
 threeBusy =
-    setup 3 2 3 0 after admit 9 ++ Begin 0 9 ∷ steps 0 3 ++ admit 5 ++ Begin 1 6 ∷ steps 1 4 takes 9 counts Refusal ∷ [] shows
+    setup 3 2 3 0 after admit 9 ++ Begin 0 9 ∷ steps 0 3 ++ admit 5 ++ Begin 1 6 ∷ steps 1 4 takes 9 counts Refusal by 12 ∷ [] shows
     begins 0 7 (sweeps ++ 11 ∷ []) ++ busy at 0 is 1 ∷ goes 0 (12 ∷ 11 ∷ []) ++ busy at 0 is 2 ∷ goes 0 (12 ∷ []) ++ Step 0 gets Refused 15 ∷ []
 
 -- Refusal 15 comes at S busy visits one after the other, wherever the sweep then stands: client 1 passes slot 0 on with a count above 0, meets
 -- slot 1 held, and slot 0 held by then, too, halfway through its second lap.
 abbrev pub midLap : Case
 midLap =
-    setup 2 2 3 0 after admitAndRelease 9 ++ hitAndRelease 9 ++ admit 5 ++ Begin 1 7 ∷ steps 1 4 takes 8 counts Hit ∷ Refusal ∷ [] shows
+    setup 2 2 3 0 after admitAndRelease 9 ++ hitAndRelease 9 ++ admit 5 ++ Begin 1 7 ∷ steps 1 4 takes 8 counts Hit by 3 ∷ Refusal by 12 ∷ [] shows
     goes 1 (12 ∷ 13 ∷ 11 ∷ 12 ∷ 11 ∷ []) ++ asks 0 9 (2 ∷ 3 ∷ []) (Granted 0) ++ goes 1 (12 ∷ []) ++ Step 1 gets Refused 15 ∷ []
 
 -- Both clients have read slot 1 for their place. Client 1 fills it; client 0's place moves on round the end, to slot 0.
@@ -298,61 +304,62 @@ stalledFound =
     takes 3 counts [] shows
     begins 0 3 (4 ∷ 5 ∷ []) ++ own at 0 is 2 ∷ goes 1 (4 ∷ []) ++ found at 1 is none ∷ pins at 0 is evicted ∷ []
 
--- Client 1 stands at 14 when client 0 has its victim's page again, which raises the count from 0: nothing is evicted or counted as a drop, and
--- client 1 passes on to the next slot without its victim.
+-- Client 1 stands at 14 when client 0 has its victim's page again, which raises the count from 0: nothing is evicted, and client 1 passes on to the
+-- next slot without its victim.
 abbrev pub pinnedMeanwhile : Case
 pinnedMeanwhile =
-    setup 2 2 3 0 after admitAndRelease 9 ++ admitAndRelease 5 ++ Begin 1 7 ∷ steps 1 7 takes 3 counts Hit ∷ [] shows
+    setup 2 2 3 0 after admitAndRelease 9 ++ admitAndRelease 5 ++ Begin 1 7 ∷ steps 1 7 takes 3 counts Hit by 3 ∷ [] shows
     asks 0 9 (2 ∷ 3 ∷ []) (Granted 0) ++ goes 1 (11 ∷ [])
     ++ victim at 1 is none ∷ place at 1 is 1 ∷ pins at 0 is pinned 1 ∷ count at 0 is 1 ∷ busy at 1 is 0 ∷ []
 
 -- Client 1 stands at 14 when client 0 evicts its victim: a count of 0 is low enough for 13. Client 1 does not take the slot of a frame that it has
--- not evicted, but passes on. At 16 it moves the hand by 2 from where client 0 left it, and not from where its own sweep started.
+-- not evicted, but passes on. At 16 it moves the hand by 2 from where client 0 left it, and not from where its own sweep started. Both pages are
+-- evicted and still in the table: no drop yet.
 abbrev pub evictedMeanwhile : Case
 evictedMeanwhile =
-    setup 2 2 3 0 after admitAndRelease 9 ++ admitAndRelease 5 ++ Begin 1 7 ∷ steps 1 7 takes 17 counts Drop ∷ Drop ∷ [] shows
+    setup 2 2 3 0 after admitAndRelease 9 ++ admitAndRelease 5 ++ Begin 1 7 ∷ steps 1 7 takes 17 counts [] shows
     count at 0 is 0 ∷ begins 0 6 (sweeps ++ 12 ∷ 13 ∷ 14 ∷ 15 ∷ 16 ∷ 17 ∷ []) ++ hand is 3
-    ∷ goes 1 (11 ∷ 12 ∷ 13 ∷ 14 ∷ 15 ∷ 16 ∷ 17 ∷ []) ++ hand is 5 ∷ slot at 1 is 2 ∷ []
+    ∷ goes 1 (11 ∷ 12 ∷ 13 ∷ 14 ∷ 15 ∷ 16 ∷ 17 ∷ []) ++ hand is 5 ∷ slot at 1 is 2 ∷ pagesInTable is 2 ∷ []
 
--- Client 0 has evicted the frame in slot 0 and stands at 15. Client 1 meets the frame evicted and puts its own there, which counts no drop; client
--- 0 then finds another frame in the slot and passes on to the next.
+-- Client 0 has evicted the frame in slot 0 and stands at 15. Client 1 meets the frame evicted and puts its own there, so that the drop is client 1's;
+-- client 0 then finds another frame in the slot and passes on to the next.
 abbrev pub swappedMeanwhile : Case
 swappedMeanwhile =
-    setup 2 2 3 0 after admitAndRelease 9 ++ admitAndRelease 5 ++ Begin 0 7 ∷ steps 0 8 takes 10 counts Admitted ∷ [] shows
+    setup 2 2 3 0 after admitAndRelease 9 ++ admitAndRelease 5 ++ Begin 0 7 ∷ steps 0 8 takes 10 counts Drop by 17 ∷ Admitted by 18 ∷ [] shows
     asks 1 6 (sweeps ++ 12 ∷ 15 ∷ 16 ∷ 17 ∷ 18 ∷ []) (Granted 3) ++ goes 0 (11 ∷ []) ++ victim at 0 is none ∷ place at 0 is 1 ∷ slot at 0 is 3 ∷ []
 
--- As P6 up to client 1's 22, but client 0's removal comes first: the page is no longer mapped to the frame that client 1 found. It forgets that
--- frame, gives its own up, which then is evicted, and takes another. Its second sweep starts from the hand as that is now.
+-- As P6 up to client 1's 22, but client 0's removal comes first: page 9 is dropped, too, and no longer mapped to the frame that client 1 found. It
+-- forgets that frame, gives its own up, which then is evicted, and takes another. Its second sweep starts from the hand as that is now.
 abbrev pub foundRemoved : Case
 foundRemoved =
-    setup 2 2 3 0 after admitAndRelease 9 ++ admitAndRelease 5 ++ Begin 0 7 ∷ steps 0 10 takes 20 counts Drop ∷ [] shows
+    setup 2 2 3 0 after admitAndRelease 9 ++ admitAndRelease 5 ++ Begin 0 7 ∷ steps 0 10 takes 20 counts Drop by 17 ∷ Drop by 17 ∷ [] shows
     begins 1 9 (2 ∷ sweeps ++ evicts ++ 19 ∷ 22 ∷ []) ++ goes 0 (18 ∷ []) ++ goes 1 (23 ∷ []) ++ found at 1 is none ∷ own at 1 is 3
     ∷ goes 1 (4 ∷ []) ++ own at 1 is none ∷ pins at 3 is evicted ∷ goes 1 (5 ∷ []) ++ own at 1 is 4
-    ∷ goes 1 (10 ∷ 11 ∷ []) ++ start at 1 is 4 ∷ place at 1 is 0 ∷ []
+    ∷ goes 1 (10 ∷ 11 ∷ []) ++ start at 1 is 4 ∷ place at 1 is 0 ∷ pagesInTable is 0 ∷ []
 
 -- ---- what a case comes to
 
 -- the lines with the answers and values that a pool gives, and what its calls count
 pub record Played : Type 0 where
   pub lines : List Line
-  pub counted : List Counted
+  pub counted : List Count
 
--- an action's count before those of the actions after it
-unfoldable pub noted : Counted → List Counted → List Counted
-noted Nothing rest = rest
-noted Hit rest = Hit ∷ rest
-noted Join rest = Join ∷ rest
-noted Admitted rest = Admitted ∷ rest
-noted Revived rest = Revived ∷ rest
-noted Drop rest = Drop ∷ rest
-noted Refusal rest = Refusal ∷ rest
+-- what a client counts at stage i, if anything, before what comes after it
+unfoldable pub noted : ℕ → Counted → List Count → List Count
+noted i Nothing rest = rest
+noted i Hit rest = Hit by i ∷ rest
+noted i Join rest = Join by i ∷ rest
+noted i Admitted rest = Admitted by i ∷ rest
+noted i Revived rest = Revived by i ∷ rest
+noted i Drop rest = Drop by i ∷ rest
+noted i Refusal rest = Refusal by i ∷ rest
 
 unfoldable pub played : Pool → List Line → Played
 played p [] = record { lines = []; counted = [] }
 played p (call gets a ∷ lines) =
     let o = callOf p call in
     let rest = played (o .pool) lines in
-    record { lines = call gets o .answer ∷ rest .lines; counted = noted (o .counted) (rest .counted) }
+    record { lines = call gets o .answer ∷ rest .lines; counted = noted (client p (caller call) .stage) (o .counted) (rest .counted) }
 played p (number is v ∷ lines) =
     let rest = played p lines in
     record { lines = number is number p ∷ rest .lines; counted = rest .counted }

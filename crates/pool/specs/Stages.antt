@@ -120,7 +120,7 @@ module _ (k : Client) where
 
   -- stage 14: evict the victim
   unfoldable pub stage14 : ℕ → ℕ → Move
-  stage14 n size = choose (eqb n (pinned 0)) (worksAs k Drop 15 (PutPins (k .victim) evicted)) (nextSlot k size Keep)
+  stage14 n size = choose (eqb n (pinned 0)) (works k 15 (PutPins (k .victim) evicted)) (nextSlot k size Keep)
 
   -- stage 15: put the own frame in the victim's place
   unfoldable pub stage15 : ℕ → ℕ → Move
@@ -130,9 +130,13 @@ module _ (k : Client) where
   unfoldable pub stage16 : ℕ → ℕ → Move
   stage16 hand size = works k 17 (PutHand (advanced hand (growth size (k .place) (k .start % size))))
 
-  -- stage 17: remove the victim's table entry. Read: the victim's page, the place of its entry, and the frame there.
+  -- stage 17: remove the victim's table entry, which drops its page (SPECIFICATION 7.1). Read: the victim's page, the place of its entry, and the
+  -- frame there.
   unfoldable pub stage17 : ℕ → ℕ → ℕ → Move
-  stage17 g i f = choose (eqb f (k .victim)) (works (withVictim k none) 18 (PutEntry i g none)) (works (withVictim k none) 18 Keep)
+  stage17 g i f =
+      choose (eqb f (k .victim))
+      (worksAs (withVictim k none) Drop 18 (PutEntry i g none))
+      (works (withVictim k none) 18 Keep)
 
   -- stage 18: map the page to the own frame. SPECIFICATION 4.30: the table may be full. Read: the frame that the table has for the page, and the
   -- first unused place.

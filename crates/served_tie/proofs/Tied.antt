@@ -18,7 +18,6 @@ use Rattle.pool.specs.Calls.{caller, moveOf, releaseMove}
 use Rattle.pool.specs.Tallies.{zeroTally, tallied}
 use Rattle.pool.specs.State.{none, evicted, pins, client}
 use Rattle.pool.specs.Grants.{held}
-use Rattle.pool.specs.Table.{residents}
 use Rattle.pool.specs.Holdings.{holdingsOf}
 use Rattle.pool.specs.Valid.{numbersOk}
 use Rattle.pool.specs.declared.Answer.{Answer}
@@ -50,7 +49,7 @@ use Rattle.whole_check.specs.Checked.{checkedOf}
 use Rattle.counting.specs.Counts.{tallyFrom}
 use Rattle.holding.specs.Holds.{Keeps}
 use Rattle.in_place.specs.Held.{Held, heldRefusal, heldOf, heldState, byteHeldRefusal, byteHeld, heldOn}
-use Rattle.guarantee.specs.Claims.{BelowLargest}
+use Rattle.guarantee.specs.Claims.{AddsUp}
 use Rattle.held_claims.specs.HeldClaims.{Tells}
 use Rattle.held_claims.proofs.Claimed.{held-claims}
 use Rattle.served.specs.Words.{wordOf}
@@ -314,11 +313,8 @@ sum : Claim-sum
 sum x y z a t u zero qs rs s =
     let g = from-setup x y z a t u qs rs s in
     let total = tally x y z a t u qs rs s ∙ ap (λ (w : Tally). tallyOn w (happenings (stateIn y) qs)) zero in
-    subst (λ (w : Tally). BelowLargest w → residents (poolIn z) + w .drops ≡ w .admitted + w .revived) (sym total)
-    (subst (λ (m : State). BelowLargest (tallyOn zeroTally (happenings (stateIn y) qs))
-    → residents (m .pool) + tallyOn zeroTally (happenings (stateIn y) qs) .drops
-    ≡ tallyOn zeroTally (happenings (stateIn y) qs) .admitted + tallyOn zeroTally (happenings (stateIn y) qs) .revived)
-    (sym (g .state)) (guarantee-on .sum (stateIn y) (set-up x y a) qs))
+    subst (AddsUp (poolIn z)) (sym total)
+    (subst (λ (m : State). AddsUp (m .pool) (tallyOn zeroTally (happenings (stateIn y) qs))) (sym (g .state)) (guarantee-on .sum (stateIn y) (set-up x y a) qs))
 
 holdings : Claim-holdings
 holdings x y z a t u qs rs s κs l c rows r left says =

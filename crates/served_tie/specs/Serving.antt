@@ -9,7 +9,6 @@ use Prim.Native.Nat.{ℕ, _+_, _<_}
 use contract.Lifetimes.{Lfts}
 use lib.ListN.{length}
 use Rattle.pool.specs.State.{clientCount, client}
-use Rattle.pool.specs.Table.{residents}
 use Rattle.pool.specs.Grants.{held}
 use Rattle.pool.specs.Holdings.{holdingsOf}
 use Rattle.pool.specs.Valid.{numbersOk, valid}
@@ -21,7 +20,7 @@ use Rattle.pool.specs.declared.Client.{Client}
 use Rattle.pool.specs.declared.Pool.{Pool}
 use Rattle.pool.specs.declared.Row.{Row}
 use Rattle.pool.specs.declared.Call.the-variants.{Begin, Step, Release}
-use Rattle.guarantee.specs.Claims.{BelowLargest}
+use Rattle.guarantee.specs.Claims.{AddsUp}
 use Rattle.memory.specs.Requests.{Request, Asks, ReadByte, WriteByte, State, refused, lengthOk, setupOn, callOn}
 use Rattle.memory.specs.Happenings.{Happening, happenings, stateAfter, SetUpOn}
 use Rattle.mixed.specs.Mixed.{tallyOn, Point3On, Passes8, Removes, Remaps}
@@ -174,7 +173,7 @@ Claim-spared =
 abbrev pub Claim-sum : Type 0
 Claim-sum =
     (x y z : Server) → Accepted x y → (t u : List ℕ) → tallyFrom t ≡ zeroTally → (qs : List Request) (rs : List ℕ) → ServesAll OneTally y t qs rs z u
-    → BelowLargest (tallyFrom u) → residents (poolIn z) + tallyFrom u .drops ≡ tallyFrom u .admitted + tallyFrom u .revived
+    → AddsUp (poolIn z) (tallyFrom u)
 
 -- SPECIFICATION 14.6: so are its holdings, on a list of rows in numbers; and the whole check passes
 abbrev pub Claim-holdings : Type 0

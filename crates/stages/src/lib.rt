@@ -201,12 +201,7 @@ pub fn stage14(client: Client, pins: u8, size: u8) -> Move
     ensures { λ r. ⌜ r ≡ stage14 client pins size ⌝ }
 {
     if pins == NO_PIN {
-        return moves::works_as(
-            client,
-            Counted::Drop,
-            15,
-            Write::PutPins(client.victim, EVICTED),
-        );
+        return moves::works(client, 15, Write::PutPins(client.victim, EVICTED));
     }
     moves::next_slot(client, size, Write::Keep)
 }
@@ -234,14 +229,15 @@ pub fn stage16(client: Client, hand: u32, size: u8) -> Move
     moves::works(client, 17, Write::PutHand(moved))
 }
 
-// By frame and not by page: the page may have been mapped anew (stage 22). Read: the victim's page, the place of its entry, and the frame there.
+// By frame and not by page: the page may have been mapped anew (stage 22), and then it is not dropped. Read: the victim's page, the place of its
+// entry, and the frame there.
 pub fn stage17(client: Client, page: u32, i: u8, mapped: u8) -> Move
     ensures { λ r. ⌜ r ≡ stage17 client page i mapped ⌝ }
 {
     let mut next = client;
     next.victim = NONE;
     if mapped == client.victim {
-        return moves::works(next, 18, Write::PutEntry(i, page, NONE));
+        return moves::works_as(next, Counted::Drop, 18, Write::PutEntry(i, page, NONE));
     }
     moves::works(next, 18, Write::Keep)
 }

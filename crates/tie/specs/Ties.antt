@@ -6,7 +6,6 @@ use mathlib.Core.Logic.{_≢_}
 use mathlib.Core.List.{List, [], _∷_, map}
 use Prim.Native.Nat.{ℕ, _+_}
 use lib.ListN.{length, take, drop}
-use Rattle.pool.specs.Table.{residents}
 use Rattle.pool.specs.Calls.{setupOf, SetUp, callOf, poolAfter}
 use Rattle.pool.specs.Tallies.{zeroTally, tallied}
 use Rattle.pool.specs.Holdings.{holdingsRefusal, holdingsOf}
@@ -23,7 +22,7 @@ use Rattle.calls.specs.declared.Stepped.{Stepped}
 use Rattle.step.specs.declared.Answered.{Answered}
 use Rattle.collecting.specs.Rows.{blank}
 use Rattle.guarantee.specs.Runs.{Event, events}
-use Rattle.guarantee.specs.Claims.{Point3, tallyOf, BelowLargest, Listing}
+use Rattle.guarantee.specs.Claims.{Point3, tallyOf, AddsUp, Listing}
 use Rattle.tie.specs.Contracts.{SetupSays, BeginSays, ReleaseSays, StepTalliedSays, StepOfSays, StepSays}
 use Rattle.tie.specs.Contracts.{HoldingsOnSays, HoldingsOfSays, HoldingsSays, Unasked, Kept}
 
@@ -89,7 +88,7 @@ abbrev pub Claim-sum : Type 0
 Claim-sum =
     (s t c h : ℕ) (r : Outcome) → Accepted s t c h r
     → (calls : List Call) (answers : List Answer) (q : Pool) (u : Tally) → Plays (r .pool) zeroTally calls answers q u
-    → BelowLargest u → residents q + u .drops ≡ u .admitted + u .revived
+    → AddsUp q u
 
 -- Holdings is answered with n on these rows and leaves those. k is the number of the first check that turns it down, 0 if none does.
 module _ (p : Pool) (c n k : ℕ) (rows left : List Row) where

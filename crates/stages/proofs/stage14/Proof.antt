@@ -9,7 +9,7 @@ use Rattle.stages.proofs.stage14.Tie as tie
 
 returns : tie.Need-returns
 unfolding stage14 choose
-returns c = c .works-as .ensures ∙ search tests
+returns c = c .works .ensures ∙ search tests
 
 returns-2 : tie.Need-returns-2
 unfolding stage14 choose

@@ -9,11 +9,11 @@ use Rattle.stages.proofs.stage17.Tie as tie
 
 returns : tie.Need-returns
 unfolding stage17 choose
-returns c = c .works .ensures ∙ search tests
+returns c = c .works-as .ensures ∙ search tests
 
 returns-2 : tie.Need-returns-2
 unfolding stage17 choose
-returns-2 c = c .works2 .ensures ∙ search tests
+returns-2 c = c .works .ensures ∙ search tests
 
 pub stage17-spec : {M : Type 1} → statement M
 stage17-spec = tie.close (tie.spec (λ c κs. search needs) returns (λ c κs. search needs) returns-2)
