@@ -8,7 +8,7 @@ the seeds from FIRST up to but not with END, plays them with second_store.py
 and prints how often each of PATHS was taken. Its exit status is 1 if one
 never was, or if one of FAULTS was met: a read gave another byte than the last
 one written there (than the store's at setup, if none was), or the tally of a
-whole run did not add up to the resident pages.
+whole run did not add up to the pages in the table.
 
 What kind of script a seed gives goes by a fixed rotation (ROTATION); all
 else is drawn from the seed.
@@ -406,7 +406,7 @@ PATHS = (
     "setup, S 64 and T 16",
     *("one more: %s" % name for name in COUNTS),
     *("at the largest count: %s" % name for name in COUNTS),
-    "14 finds it pinned, no drop", "18 finds a frame, nothing admitted",
+    "14 evicts, no drop", "18 finds a frame, nothing admitted",
     *("%d at step" % number for number in (9, 11)),
     *("a list of %s" % rows for rows in ("no row", "one row", "2 to 7 rows",
                                          "8 rows")),
@@ -548,14 +548,12 @@ class Watch(Player):
     def watch_tally(self, stage, code, value):
         """What was not counted, and the sum of what was."""
         tally, table = self.tally, self.pool.cache.HASHTBL
-        resident = sum(frame.pinning >= 0 for frame in table.values())
-        if self.sums and (tally.admitted + tally.revived - tally.drops
-                          != resident):
+        if self.sums and tally.admitted - tally.drops != len(table):
             self.take(WRONG_SUM)
         if code == 111:
             self.take("11 at step")
-        elif (stage, code, value) == (14, 1, 11):
-            self.take("14 finds it pinned, no drop")
+        elif (stage, code, value) == (14, 1, 15):
+            self.take("14 evicts, no drop")
         elif (stage, code, value) == (18, 1, 19):
             self.take("18 finds a frame, nothing admitted")
 

@@ -103,7 +103,7 @@ abbrev pub Claim-point3 : Type 0
 Claim-point3 =
     (s t c h : ℕ) (store : List ℕ) (r : Reply) → Accepted s t c h store r → (rs : List Request) → Point3On (stateOf (r .pool) store) rs
 
--- the tally's sum (SPECIFICATION 7.3)
+-- GUARANTEE 12, SPECIFICATION 7.4: the tally's sum
 abbrev pub Claim-sum : Type 0
 Claim-sum =
     (s t c h : ℕ) (store : List ℕ) (r : Reply) → Accepted s t c h store r

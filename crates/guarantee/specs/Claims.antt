@@ -289,11 +289,11 @@ Claim-refused = (p : Pool) (x : Call) → callOf p x .answer ≡ Refused 15 → 
 abbrev pub Lost : Pool → Pool → Type 0
 Lost p q = (g : ℕ) × (lookup p g ≢ none) × (lookup q g ≡ none)
 
--- from pool p to q: a drop is counted exactly if a page leaves the table, and an admission exactly if one comes
+-- SPECIFICATION 7.3, from pool p to q: a drop is counted exactly if a page leaves the table, and an admission exactly if one comes
 abbrev pub CountsPages : Pool → Counted → Pool → Type 0
 CountsPages p u q = ((u ≡ Drop) ↔ Lost p q) × ((u ≡ Admitted) ↔ Lost q p)
 
--- so does each call of a run
+-- SPECIFICATION 7.3: so does each call of a run
 abbrev pub Claim-drops : Type 0
 Claim-drops =
     (p : Pool) → SetUp p → (calls : List Call) (x : Call)
@@ -305,14 +305,15 @@ unfoldable pub tallyOf : Tally → List Event → Tally
 tallyOf t [] = t
 tallyOf t (e ∷ es) = tallyOf (tallied (e .counted) t) es
 
--- neither count of the sum is at its largest value, where it would stay
+-- SPECIFICATION 7.4: neither count of the sum is at its largest value, where it would stay
 abbrev pub BelowLargest : Tally → Type 0
 BelowLargest t = (t .admitted < largest) × (t .drops < largest)
 
--- SPECIFICATION 7.3, with the drops on the other side: these numbers are never negative
+-- SPECIFICATION 7.4, with the drops on the other side: these numbers are never negative
 abbrev pub AddsUp : Pool → Tally → Type 0
 AddsUp p t = BelowLargest t → pagesInTable p + t .drops ≡ t .admitted
 
+-- SPECIFICATION 7.4: of a tally that is lent throughout
 abbrev pub Claim-sum : Type 0
 Claim-sum = (p : Pool) → SetUp p → (calls : List Call) → AddsUp (poolAfter p calls) (tallyOf zeroTally (events p calls))
 

@@ -130,13 +130,10 @@ module _ (k : Client) where
   unfoldable pub stage16 : ℕ → ℕ → Move
   stage16 hand size = works k 17 (PutHand (advanced hand (growth size (k .place) (k .start % size))))
 
-  -- stage 17: remove the victim's table entry, which drops its page (SPECIFICATION 7.1). Read: the victim's page, the place of its entry, and the
+  -- stage 17: remove the victim's table entry, which drops its page (SPECIFICATION 7.3). Read: the victim's page, the place of its entry, and the
   -- frame there.
   unfoldable pub stage17 : ℕ → ℕ → ℕ → Move
-  stage17 g i f =
-      choose (eqb f (k .victim))
-      (worksAs (withVictim k none) Drop 18 (PutEntry i g none))
-      (works (withVictim k none) 18 Keep)
+  stage17 g i f = choose (eqb f (k .victim)) (worksAs (withVictim k none) Drop 18 (PutEntry i g none)) (works (withVictim k none) 18 Keep)
 
   -- stage 18: map the page to the own frame. SPECIFICATION 4.30: the table may be full. Read: the frame that the table has for the page, and the
   -- first unused place.

@@ -26,6 +26,6 @@ unusedEntry p = scan (λ i. eqb (entryFrame p i) none) (λ i. i) none 0 (total p
 unfoldable pub resident : Pool → ℕ → Bool
 resident p g = not (eqb (pins p (lookup p g)) evicted)
 
--- SPECIFICATION 7.3: how many pages are in the table, evicted ones too. No two entries are of one page (SPECIFICATION 1.6).
+-- SPECIFICATION 7.4: how many pages are in the table, evicted ones too. No two entries are of one page (SPECIFICATION 1.6).
 unfoldable pub pagesInTable : Pool → ℕ
 pagesInTable p = howMany (λ i. not (eqb (entryFrame p i) none)) (total p)

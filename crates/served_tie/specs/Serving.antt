@@ -169,7 +169,7 @@ Claim-spared =
     (x y z : Server) → Accepted x y → (t u : List ℕ) (qs : List Request) (rs : List ℕ) → ServesAll AnyTally y t qs rs z u
     → (c : ℕ) → Spares (stateIn z) (client (poolIn z) c)
 
--- the tally's sum (SPECIFICATION 7.3), of one tally
+-- GUARANTEE 12, SPECIFICATION 7.4: the tally's sum, of one tally
 abbrev pub Claim-sum : Type 0
 Claim-sum =
     (x y z : Server) → Accepted x y → (t u : List ℕ) → tallyFrom t ≡ zeroTally → (qs : List Request) (rs : List ℕ) → ServesAll OneTally y t qs rs z u

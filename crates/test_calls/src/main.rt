@@ -6,7 +6,6 @@
 use pool::Answer;
 use pool::Call;
 use pool::Client;
-use pool::EVICTED;
 use pool::FRAMES;
 use pool::NONE;
 use pool::Pool;
@@ -57,10 +56,6 @@ fn fact(name: &[u8], n: u32) {
 
 fn wide(x: u8) -> u32 {
     x as u32
-}
-
-fn index(x: u8) -> usize {
-    x as usize
 }
 
 // One number more into a sum that tells the order of its numbers.
@@ -144,15 +139,12 @@ fn mapped_twice<'a>(pages: &'a [u32; FRAMES], frames: &'a [u8; FRAMES]) -> u32 {
     places
 }
 
-// How many pages are resident: mapped to a frame that is not evicted.
-fn resident<'a>(frames: &'a [u8; FRAMES], pins: &'a [u8; FRAMES]) -> u32 {
+// How many pages are in the table. By SPECIFICATION 7.4 they are as many as were admitted and not dropped.
+fn pages_in_table<'a>(frames: &'a [u8; FRAMES]) -> u32 {
     let mut pages = 0;
     for i in 0..FRAMES {
-        let f = index(frames[i]);
-        if f < FRAMES {
-            if pins[f] != EVICTED {
-                pages = wrapping_add_u32(pages, 1);
-            }
+        if frames[i] != NONE {
+            pages = wrapping_add_u32(pages, 1);
         }
     }
     pages
@@ -176,7 +168,7 @@ fn facts(run: Run) {
     );
     fact(b"calls turned down that changed the pool", run.changed);
     tally_facts(tally);
-    fact(b"resident pages", resident(&pool.table_frames, &pool.pins));
+    fact(b"pages in the table", pages_in_table(&pool.table_frames));
 }
 
 // ---- calls

@@ -65,7 +65,7 @@ fn count() {
     print_holdings(state, 2);
     print_tally(state);
 
-    // Page 5 is not held any more, its count is 1: stages 1, 4, 5, 10, 11, 12 (busy), 11 to 18. Drops 1, admitted 3.
+    // Page 5 is not held any more, its count is 1: stages 1, 4, 5, 10, 11, 12 (busy), 11 to 18. At 17 page 5 goes: drops 1; admitted 3.
     state = release(state, 0, 5);
     state = request(state, 1, 7, 14);
 
@@ -76,14 +76,14 @@ fn count() {
     state = release(state, 1, 9);
     state = release(state, 1, 7);
 
-    // As case P6: client 0 swaps 7 out for 5 by stages 1, 4, 5, 10 to 13, 11 to 16, and stands at 17. Drops 2. Client 1 wants 7: stages 1, 2, 4, 5,
-    // 10 to 13 (page 9's count is 1 now), 11, 12 (busy), 11 to 17 (9 goes), 18, 19, 22. Drops 3, revived 1. Client 0's removal then removes
-    // nothing, and it is granted at 18. Admitted 4.
+    // As case P6: client 0 swaps 7 out for 5 by stages 1, 4, 5, 10 to 13, 11 to 16, and stands at 17: page 7 is evicted, and no drop yet. Client 1
+    // wants 7: stages 1, 2, 4, 5, 10 to 13 (page 9's count is 1 now), 11, 12 (busy), 11 to 17 (9 goes), 18, 19, 22. Drops 2, revived 1. Client 0's 17
+    // then removes nothing, which is no drop, and it is granted at 18. Admitted 4.
     state = request(state, 0, 5, 13);
     state = request(state, 1, 7, 20);
     state = steps(state, 0, 2);
 
-    // Client 0 holds 5, client 1 holds 7: two resident pages, and by SPECIFICATION 7.3 there are 4 + 1 - 3.
+    // Client 0 holds 5, client 1 holds 7: two pages are in the table, and by SPECIFICATION 7.4 there are 4 - 2.
     print_holdings(state, 0);
     print_holdings(state, 1);
     print_tally(state);

@@ -83,7 +83,7 @@ Claim-set-up = (s t c h : ℕ) (r : Outcome) → Accepted s t c h r → SetUp (r
 abbrev pub Claim-point3 : Type 0
 Claim-point3 = (s t c h : ℕ) (r : Outcome) → Accepted s t c h r → (calls : List Call) → Point3 (r .pool) calls
 
--- the tally's sum (SPECIFICATION 7.3)
+-- GUARANTEE 12, SPECIFICATION 7.4: the tally's sum
 abbrev pub Claim-sum : Type 0
 Claim-sum =
     (s t c h : ℕ) (r : Outcome) → Accepted s t c h r

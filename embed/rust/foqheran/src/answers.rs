@@ -222,7 +222,7 @@ pub(crate) fn stepped(answer: u64, duty: u64) -> Result<Step, Refusal> {
 
 /// What the steps of a pool came to since its setup. A count that is as large as it can be stays so.
 ///
-/// As long as none is, `admitted + revived - drops` is the number of pages in the pool.
+/// While neither `admitted` nor `drops` is, `admitted - drops` is the number of pages in the pool.
 #[derive(Clone, Copy, Debug, Default, PartialEq, Eq, Hash)]
 pub struct Tally {
     /// Grants of a page that was there.
@@ -231,9 +231,9 @@ pub struct Tally {
     pub joins: u32,
     /// Grants of a page that the client brought in.
     pub admitted: u32,
-    /// Grants of a page that was being dropped, and was kept in another frame.
+    /// Grants of a page that was evicted and had not left yet: it is kept, in another frame.
     pub revived: u32,
-    /// Pages dropped.
+    /// Pages that left the pool. A page that is evicted and then revived never left.
     pub drops: u32,
     /// Requests that ended with [`Refusal::AllBusy`].
     pub refused: u32,

@@ -47,7 +47,7 @@ fn rows_that_are_not_listed_stay() {
 }
 
 #[test]
-fn a_page_that_is_being_dropped_is_moved() {
+fn a_page_that_is_evicted_and_revived_is_moved_and_not_dropped() {
     // two slots have pages 9 and 5; client 0 wants 7 and has evicted 9 when client 1 asks for 9 again
     let mut pool = Pool::new(2, 2, 3, 0).unwrap();
     let first = pool.request(0, 9).unwrap();
@@ -56,12 +56,16 @@ fn a_page_that_is_being_dropped_is_moved() {
     pool.release(0, 5).unwrap();
     pool.begin(0, 7).unwrap();
     while pool.step(0).unwrap().answer != Answer::Working(17) {}
+    assert_eq!((pool.tally().admitted, pool.tally().drops), (2, 0));
     let mut duties = Vec::new();
     let second = pool.request_with(1, 9, |duty| duties.push(duty)).unwrap();
     assert_eq!(duties[1..], [Duty::Move { frame: first, target: second }]);
     assert!(matches!(duties[0], Duty::WriteBack { page: 5, .. }));
     // what is no longer page 9's frame is not to be written back
     assert_eq!(pool.step(0), Ok(Step { answer: Answer::Working(18), duty: None }));
+    // of the two pages that were evicted, only 5 has left
+    let tally = pool.tally();
+    assert_eq!((tally.admitted, tally.revived, tally.drops), (2, 1, 1));
     assert_eq!(pool.check(), Ok(()));
 }
 
