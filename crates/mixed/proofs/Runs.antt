@@ -13,7 +13,6 @@ use Rattle.pool.specs.Frames.{freeFrame}
 use Rattle.pool.specs.Tallies.{zeroTally}
 use Rattle.pool.specs.Calls.{SetUp, callOf}
 use Rattle.pool.specs.declared.Pool.{Pool}
-use Rattle.pool.specs.declared.Tally.{Tally}
 use Rattle.pool.specs.declared.Call.{Call}
 use Rattle.pool.specs.declared.Call.the-variants.{Begin, Step}
 use Rattle.pool.specs.declared.Answer.the-variants.{Done}

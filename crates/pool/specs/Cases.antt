@@ -467,15 +467,19 @@ Check8 pools answer = map valid pools ≡ map (λ _. answer) pools
 
 pub record HandedCase : Type 0 where
   pub pool : Pool
-  pub lines : List Line
+  pub said : Played
 
-infix 10 _plays_
+infix 10 _counts_plays_ _plays_
+abbrev pub _counts_plays_ : Pool → List Count → List Line → HandedCase
+p counts counted plays lines = record { pool = p; said = record { lines = lines; counted = counted } }
+
+-- one that counts nothing
 abbrev pub _plays_ : Pool → List Line → HandedCase
-p plays lines = record { pool = p; lines = lines }
+p plays lines = p counts [] plays lines
 
--- the lines are what the pool gives
+-- what is said is what the pool gives
 abbrev pub Plays : HandedCase → Type 0
-Plays x = played (x .pool) (x .lines) .lines ≡ x .lines
+Plays x = played (x .pool) (x .said .lines) ≡ x .said
 
 -- A frame with 128 pins gets none more: stage 2's action would break a range, so the call is refused as 8 and changes nothing.
 abbrev pub fullyPinned : HandedCase
@@ -501,17 +505,30 @@ searchedRound =
 
 -- Stage 21 raises a count by one, as stage 3 does.
 abbrev pub joinRaises : HandedCase
-joinRaises = handed (standing (withFound (resting 0) 0) 21) Same (PutCount 0 2) plays Step 0 gets Granted 0 ∷ count at 0 is 3 ∷ []
+joinRaises =
+    handed (standing (withFound (resting 0) 0) 21) Same (PutCount 0 2) counts Join by 21 ∷ [] plays Step 0 gets Granted 0 ∷ count at 0 is 3 ∷ []
+
+-- 14 evicts the frame that page 0 is mapped to. The page stays in the table, and nothing is counted. 17 removes it: a drop.
+abbrev pub onlyEvicted : HandedCase
+onlyEvicted =
+    handedOn (with-write (PutEntry 0 0 1)) (standing (withVictim (withOwn (resting 0) 0) 1) 14) Same (PutPins 1 (pinned 0)) plays
+    Step 0 gets Working 15 ∷ pins at 1 is evicted ∷ lookup at 0 is 1 ∷ pagesInTable is 1 ∷ []
+
+abbrev pub dropped : HandedCase
+dropped =
+    handed (standing (withVictim (withOwn (resting 0) 0) 1) 17) Same (PutEntry 0 0 1) counts Drop by 17 ∷ [] plays
+    Step 0 gets Working 18 ∷ lookup at 0 is none ∷ pagesInTable is 0 ∷ []
 
 -- The page is mapped to a third frame, neither the client's own nor the one it found or evicted: 22 does not replace that, and 17 does not remove
--- it, though its frame is evicted.
+-- it, though its frame is evicted, and counts no drop.
 abbrev pub notReplaced : HandedCase
 notReplaced =
     handed (standing (withFound (withOwn (resting 0) 0) 1) 22) Same (PutEntry 0 0 2) plays Step 0 gets Working 23 ∷ lookup at 0 is 2 ∷ []
 
 abbrev pub notRemoved : HandedCase
 notRemoved =
-    handed (standing (withVictim (withOwn (resting 0) 0) 1) 17) Same (PutEntry 0 0 2) plays Step 0 gets Working 18 ∷ lookup at 0 is 2 ∷ []
+    handed (standing (withVictim (withOwn (resting 0) 0) 1) 17) Same (PutEntry 0 0 2) plays
+    Step 0 gets Working 18 ∷ lookup at 0 is 2 ∷ pagesInTable is 1 ∷ []
 
 -- ---- holdings
 
@@ -581,7 +598,7 @@ file = 0x46 ∷ 0x43 ∷ 0 ∷ 1 ∷ 1 ∷ 3 ∷ 0 ∷ 0 ∷ 0 ∷ 0 ∷ record8
 abbrev pub listing : String
 listing = "0 0 0 1\n1 0 0 9\n2 0 1 4\n3 0 1 5\n4 0 1 6\n5 0 1 7\n6 0 1 8\n7 0 1 9\n8 0 1 18\n9 0 2 0\n10 0 111 0\n11 0 0 9\n"
 
--- What is proved of the table: each case holds; check 8 passes the sound pools and no broken one; calls on handed pools answer as said; holdings
+-- What is proved of the table: each case holds; check 8 passes the sound pools and no broken one; calls on handed pools answer and count as said; holdings
 -- lists rows in page order, or leaves the list as it was; each kind raises its own number of a tally, which stays at its largest value; and the
 -- file's run of 12 records has the listing for its report.
 pub record Proved : Type 0 where
@@ -592,7 +609,8 @@ pub record Proved : Type 0 where
   pub meanwhile : Holds pinnedMeanwhile × Holds evictedMeanwhile × Holds swappedMeanwhile × Holds foundRemoved
   pub check8 : Check8 sound true × Check8 broken false
   pub handed-calls :
-      Plays fullyPinned × Plays ownPinnedTwice × Plays takenAgain × Plays searchedRound × Plays joinRaises × Plays notReplaced × Plays notRemoved
+      Plays fullyPinned × Plays ownPinnedTwice × Plays takenAgain × Plays searchedRound × Plays joinRaises × Plays onlyEvicted × Plays dropped
+      × Plays notReplaced × Plays notRemoved
   pub in-page-order :
       Lists outOfOrder 0 (filler 4) (Done 3) (risen ++ filler 1) × Lists outOfOrder 0 (filler 3) (Done 3) risen
       × Lists eightPages 0 (filler 8) (Done 8) (map (λ g. rowOf g 1) (1 ∷ 2 ∷ 3 ∷ 4 ∷ 5 ∷ 6 ∷ 7 ∷ 8 ∷ [])) × Lists (holder []) 0 [] (Done 0) []
