@@ -192,11 +192,11 @@ static_assert(offsetof(struct foqheran_pool, pages) == 4 && offsetof(struct foqh
               "the pool has to be laid out without gaps");
 
 // What steps came to. It starts with zeros, and whoever wants the counts of a pool lends the same one to every step. A
-// count that is as large as it can be stays so; while admitted and drops are not, admitted less drops is the number of
-// pages in the pool. The names below are places: tally.counts[FOQHERAN_HITS].
+// count that is as large as it can be stays so; while neither admitted nor drops is, admitted less drops is how many
+// pages are in the pool. The names below are places: tally.counts[FOQHERAN_HITS].
 enum {
     FOQHERAN_HITS, // grants of a page that was there
-    FOQHERAN_JOINS, // grants of a page that another client brought in meanwhile
+    FOQHERAN_JOINS, // grants of a page that another client brought in or revived meanwhile
     FOQHERAN_ADMITTED, // grants of a page that this client brought in
     FOQHERAN_REVIVED, // grants of a page that was evicted and had not left yet: it is kept, in another frame
     FOQHERAN_DROPS, // pages that left the pool; a page that is evicted and then revived never left

@@ -372,6 +372,12 @@ WRONG_BYTE = "a read gave another byte"
 WRONG_SUM = "the tally does not add up"
 FAULTS = (WRONG_BYTE, WRONG_SUM)
 COUNTS = tuple(vars(Tally(0)))
+UNCOUNTED = {  # by stage and the stage answered: what counts nothing
+    (14, 15): "14 evicts, no drop",
+    (14, 11): "14 finds it pinned, no drop",
+    (17, 18): "17 removes nothing, no drop",
+    (18, 19): "18 finds a frame, nothing admitted",
+}
 PATHS = (
     "read fills", "read finds it filled",
     "write fills", "write finds it filled",
@@ -406,7 +412,7 @@ PATHS = (
     "setup, S 64 and T 16",
     *("one more: %s" % name for name in COUNTS),
     *("at the largest count: %s" % name for name in COUNTS),
-    "14 evicts, no drop", "18 finds a frame, nothing admitted",
+    *UNCOUNTED.values(),
     *("%d at step" % number for number in (9, 11)),
     *("a list of %s" % rows for rows in ("no row", "one row", "2 to 7 rows",
                                          "8 rows")),
@@ -517,8 +523,9 @@ class Watch(Player):
         mapped = old and cache.HASHTBL.get(page) is old
         stored = self.space[place(page)]
         before = [marks(frame) for frame in cache.frames]
+        tally = self.tally.line()
         code, value = self.make(name, number)
-        self.watch_tally(stage, code, value)
+        self.watch_tally(stage, code, value, self.tally.line() == tally)
         if code == 108 and stage in (17, 22) and mapped and old.changed:
             self.take("8 at %d with a changed page", stage)
         elif code == 115 and "a changed" in before:
@@ -545,17 +552,16 @@ class Watch(Player):
             self.take("%d finds another frame or none", stage)
         return code, value
 
-    def watch_tally(self, stage, code, value):
+    def watch_tally(self, stage, code, value, same):
         """What was not counted, and the sum of what was."""
         tally, table = self.tally, self.pool.cache.HASHTBL
         if self.sums and tally.admitted - tally.drops != len(table):
             self.take(WRONG_SUM)
         if code == 111:
             self.take("11 at step")
-        elif (stage, code, value) == (14, 1, 15):
-            self.take("14 evicts, no drop")
-        elif (stage, code, value) == (18, 1, 19):
-            self.take("18 finds a frame, nothing admitted")
+        elif (self.sums and same and code == 1
+              and (stage, value) in UNCOUNTED):
+            self.take(UNCOUNTED[stage, value])
 
     def holdings(self):
         """The lists of a dump."""

@@ -78,13 +78,16 @@ class ByteFrame(Frame):
 class ByteTable(HashTable):
     """The table; where a frame leaves it, its bytes are looked after."""
 
-    store = None  # what the running step was lent
+    store = tally = None  # what the running step was lent
 
     def remove(self, key, frame):
-        """Stage 17: a changed frame that is removed goes to the store."""
-        if self.get(key) is frame and frame.changed:
+        """Stage 17: a removal is a drop; a changed frame is stored first."""
+        if self.get(key) is not frame:
+            return
+        if frame.changed:
             self.store[place(key)] = frame.bytes
         super().remove(key, frame)
+        self.tally.add("drops")
 
     def replace(self, key, old, new):
         """Stage 22: with the entry, bytes and marks go to the new frame."""
@@ -115,17 +118,15 @@ class Tally:
         self.hits = self.joins = self.admitted = start
         self.revived = self.drops = self.refused = start
 
-    def count(self, stage, answer, removed):
-        """Bring it up to date after a step at the stage.
+    def count(self, stage, answer):
+        """Bring it up to date after a step at the stage, but for drops.
 
-        Stages 18 and 22 count only where they grant, 17 only where it removed
-        the entry. The answer is the same if it did not; removed tells.
+        Stages 18 and 22 count only where they grant. The answer of 17 does
+        not tell if the entry was removed: the table counts drops itself.
         """
         granted = {3: "hits", 21: "joins", 18: "admitted", 22: "revived"}
         if answer[0] == GRANTED:
             self.add(granted[stage])
-        elif removed:
-            self.add("drops")
         elif answer[0] == REFUSAL + 15:
             self.add("refused")
 
@@ -167,21 +168,17 @@ class StorePool(Pool):
         return super().begin(number, page)
 
     def step(self, number, tally, store):
-        """As in second.py, and the tally is brought up to date.
-
-        Only a 17 that removes an entry leaves fewer pages in the table.
-        """
+        """As in second.py, and the tally is brought up to date."""
         self.check(store)
         table = self.cache.HASHTBL
-        table.store = store
-        before = len(table)
+        table.store, table.tally = store, tally
         stage = self.client(number).stage
         try:
             answer = super().step(number)
         except Refused as refused:
-            tally.count(stage, (REFUSAL + refused.number, 0), False)
+            tally.count(stage, (REFUSAL + refused.number, 0))
             raise
-        tally.count(stage, answer, len(table) < before)
+        tally.count(stage, answer)
         return answer
 
     def read(self, number, page, offset, store):

@@ -30,7 +30,7 @@ use Rattle.invariant.proofs.Steps.{call-edge}
 use Rattle.invariant.proofs.Setup.{entry-none, first-reached}
 use Rattle.invariant.proofs.Calls.{outcomeOf, by-refusal, reached-call}
 use Rattle.guarantee.specs.Runs.{events}
-use Rattle.guarantee.specs.Claims.{tallyOf, BelowLargest, Claim-sum}
+use Rattle.guarantee.specs.Claims.{tallyOf, AddsUp, Claim-sum}
 use Rattle.guarantee.proofs.TableMoves.{lost, gained, there, TableMove, keeps, puts, table-move}
 
 -- ---- the pages in the table, by its places
@@ -87,21 +87,17 @@ up-exact n =
     by-test (λ (x : ℕ). x < largest → (x ≡ n + 1) × (n < largest))
     (λ t h. (refl, ltb-true n largest t)) (λ t h. absurd (omega (arith, ltb-false n largest t)))
 
--- the sum, of n pages in the table
-abbrev Sum : ℕ → Tally → Type 0
-Sum n t = BelowLargest t → n + t .drops ≡ t .admitted
-
-sum-next : (u : Counted) (t : Tally) (a b : ℕ) → b + lost u ≡ a + gained u → Sum a t → Sum b (tallied u t)
+sum-next : (u : Counted) (t : Tally) (p q : Pool) → pagesInTable q + lost u ≡ pagesInTable p + gained u → AddsUp p t → AddsUp q (tallied u t)
 unfolding tallied up choose
-sum-next Nothing t a b e s h = omega (arith, s h)
-sum-next Hit t a b e s h = omega (arith, s h)
-sum-next Join t a b e s h = omega (arith, s h)
-sum-next Admitted t a b e s h = let n = up-exact (t .admitted) (h .0) in omega (arith, s (n .1, h .1), n .0)
-sum-next Revived t a b e s h = omega (arith, s h)
-sum-next Drop t a b e s h = let n = up-exact (t .drops) (h .1) in omega (arith, s (h .0, n .1), n .0)
-sum-next Refusal t a b e s h = omega (arith, s h)
+sum-next Nothing t p q e s h = omega (arith, s h)
+sum-next Hit t p q e s h = omega (arith, s h)
+sum-next Join t p q e s h = omega (arith, s h)
+sum-next Admitted t p q e s h = let n = up-exact (t .admitted) (h .0) in omega (arith, s (n .1, h .1), n .0)
+sum-next Revived t p q e s h = omega (arith, s h)
+sum-next Drop t p q e s h = let n = up-exact (t .drops) (h .1) in omega (arith, s (h .0, n .1), n .0)
+sum-next Refusal t p q e s h = omega (arith, s h)
 
-sum-run : (p : Pool) (calls : List Call) (t : Tally) → Reached p → Sum (pagesInTable p) t → Sum (pagesInTable (poolAfter p calls)) (tallyOf t (events p calls))
+sum-run : (p : Pool) (calls : List Call) (t : Tally) → Reached p → AddsUp p t → AddsUp (poolAfter p calls) (tallyOf t (events p calls))
 unfolding events tallyOf poolAfter
 sum-run p [] t r s = s
 sum-run p (y ∷ calls) t r s = sum-run (callOf p y .pool) calls _ (reached-call p y r) (sum-next (callOf p y .counted) t _ _ (call-summed p y r) s)

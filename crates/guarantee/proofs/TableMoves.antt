@@ -1,6 +1,6 @@
 -- What each kind of move does to the table, beside what it counts. A move puts one entry or none: 18 puts the own frame where none stood, 17 puts none
 -- where the victim stood, and 22 puts one frame in the place of another. The proofs of `Point3` read no count, so who changes what is counted mends the
--- moves in `Edges` and this file; `Sum` and `Drops` follow from the one equation of `puts`. Assumes nothing.
+-- moves in `Edges` and this file; `Sum` and `Drops` follow from the equations of `keeps` and `puts`. Assumes nothing.
 use mathlib.Core.Path.{_≡_, refl, sym, _∙_}
 use mathlib.Core.Logic.{_≢_}
 use mathlib.Core.Bool.{not}

@@ -54,7 +54,7 @@ module _ {p : Pool} {c : ℕ} {m : Move} (x : Effect p c m) where
   open Scene (scene x) using (r, here, k, q)
 
   -- the own frame is in no entry, so no two have it where one gets it
-  pub own-only : k .own ≢ none → (i : ℕ) → entryFrame p i ≢ k .own
+  own-only : k .own ≢ none → (i : ℕ) → entryFrame p i ≢ k .own
   own-only z = mapped-none p (k .own) z (r .private .own-unmapped c z)
 
   own-mapped : (i g f : ℕ) → f ≡ k .own → f ≢ none → m .write ≡ PutEntry i g f → i < total p → mapped q f ≡ suc g

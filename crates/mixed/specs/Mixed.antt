@@ -171,7 +171,7 @@ Claim-busy-sweep-on = (x : State) → SetUpOn x → (rs : List Request) → Busy
 
 -- ---- pages that came and pages that left
 
--- each request of a run counts them; reads and writes, of which none comes or leaves, count nothing (`LeavesPool`)
+-- each request of a run counts them; reads and writes, by which no page comes or leaves, count nothing (`LeavesPool`)
 abbrev pub Claim-drops-on : Type 0
 Claim-drops-on =
     (x : State) → SetUpOn x → (rs : List Request) (r : Request)
@@ -183,6 +183,7 @@ unfoldable pub tallyOn : Tally → List Happening → Tally
 tallyOn t [] = t
 tallyOn t (h ∷ hs) = tallyOn (tallied (h .counted) t) hs
 
+-- the tally's sum
 abbrev pub Claim-sum-on : Type 0
 Claim-sum-on = (x : State) → SetUpOn x → (rs : List Request) → AddsUp (stateAfter x rs .pool) (tallyOn zeroTally (happenings x rs))
 

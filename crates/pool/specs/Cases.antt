@@ -59,7 +59,7 @@ pub record Case : Type 0 where
   pub before : List Call
   -- how many of the case's own calls are steps up to the first answer to a request
   pub steps : ℕ
-  -- what its own calls count, one after the other
+  -- what its own calls count, one after the other, and by which stage
   pub counted : List Count
   pub lines : List Line
 
@@ -195,7 +195,7 @@ P5 =
     ++ Step 0 gets Granted 0 ∷ goes 1 (9 ∷ 18 ∷ 19 ∷ 20 ∷ 21 ∷ []) ++ own at 1 is none ∷ Step 1 gets Granted 0
     ∷ pins at 0 is pinned 2 ∷ count at 0 is 2 ∷ pins at 1 is evicted ∷ free is 0 ∷ slot at 1 is 1 ∷ []
 
--- Client 1's 17 drops page 5. Client 0's drops nothing: page 9, which it evicted, was revived by then, and stays in the table.
+-- Client 1's 17 drops page 5. Client 0's 17 drops nothing: page 9, which it evicted, was revived by then, and stays in the table.
 abbrev pub P6 : Case
 P6 =
     setup 2 2 3 0 after admitAndRelease 9 ++ admitAndRelease 5 ++ Begin 0 7 ∷ steps 0 10 takes 15 counts Drop by 17 ∷ Revived by 22 ∷ Admitted by 18 ∷ [] shows
@@ -508,12 +508,13 @@ abbrev pub joinRaises : HandedCase
 joinRaises =
     handed (standing (withFound (resting 0) 0) 21) Same (PutCount 0 2) counts Join by 21 ∷ [] plays Step 0 gets Granted 0 ∷ count at 0 is 3 ∷ []
 
--- 14 evicts the frame that page 0 is mapped to. The page stays in the table, and nothing is counted. 17 removes it: a drop.
+-- 14 evicts the frame that page 0 is mapped to. The page stays in the table, and nothing is counted.
 abbrev pub onlyEvicted : HandedCase
 onlyEvicted =
     handedOn (with-write (PutEntry 0 0 1)) (standing (withVictim (withOwn (resting 0) 0) 1) 14) Same (PutPins 1 (pinned 0)) plays
     Step 0 gets Working 15 ∷ pins at 1 is evicted ∷ lookup at 0 is 1 ∷ pagesInTable is 1 ∷ []
 
+-- 17 removes the page, which is a drop.
 abbrev pub dropped : HandedCase
 dropped =
     handed (standing (withVictim (withOwn (resting 0) 0) 1) 17) Same (PutEntry 0 0 1) counts Drop by 17 ∷ [] plays

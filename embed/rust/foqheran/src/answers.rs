@@ -227,7 +227,7 @@ pub(crate) fn stepped(answer: u64, duty: u64) -> Result<Step, Refusal> {
 pub struct Tally {
     /// Grants of a page that was there.
     pub hits: u32,
-    /// Grants of a page that another client brought in meanwhile.
+    /// Grants of a page that another client brought in or revived meanwhile.
     pub joins: u32,
     /// Grants of a page that the client brought in.
     pub admitted: u32,
