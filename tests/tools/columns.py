@@ -25,6 +25,14 @@ TIPS = {"in use": "slot {0}: frame {1} with page {2}, in use",
         "not held": "slot {0}: frame {1} with page {2}, not held",
         "candidate": "slot {0}: frame {1}, a candidate for page {2}",
         "evicted": "slot {0}: frame {1}, evicted, which was for page {2}"}
+GIVEN_UP = "diamond", "gives up the candidate for page %d, frame %d"
+MARKS = {  # by stage: the form of a mark, and what it says
+    14: ("cross", "evicts page %d in frame %d"),
+    17: ("arrow down", "drops page %d, which frame %d had"),
+    20: GIVEN_UP,
+    22: ("arrow up", "maps page %d anew, to frame %d"),
+    23: GIVEN_UP,
+}
 
 
 def number(shape, name):
@@ -34,6 +42,23 @@ def number(shape, name):
 def tip_of(shape):
     title = shape.find(SVG + "title")
     return None if title is None else title.text
+
+
+def corners(shape):
+    """Where a polygon or a path has its corners: across, and down."""
+    points = re.findall(r"(-?[\d.]+),(-?[\d.]+)",
+                        shape.get("points") or shape.get("d"))
+    return [list(map(float, places)) for places in zip(*points)]
+
+
+def form_of(shape):
+    """What a mark looks like; an arrow has one corner at its point."""
+    if shape.get("class") == "cross":
+        return "cross"
+    _, down = corners(shape)
+    if len(down) == 4:
+        return "diamond"
+    return "arrow up" if down.count(min(down)) == 1 else "arrow down"
 
 
 class Drawing:
@@ -138,34 +163,49 @@ class Drawing:
                  "the count that is written in column %d" % column)
 
     def check_marks(self):
-        due, shown = [], []
-        for slot in self.drawn_slots:
-            for shape in self.groups["slot-%d" % slot].iter():
-                found = re.match(r"record (\d+): stage (\d+) .*page (\d+).* "
-                                 r"(?:to )?frame (\d+)$", tip_of(shape) or "")
-                if found:
-                    shown.append((slot, *map(int, found.groups())))
-                    same(self.column_of(shape), shown[-1][1], "a mark's place")
+        """Each mark in its place; the stages that have one."""
+        shown = [(slot, self.column_of(shape), form_of(shape), tip_of(shape))
+                 for slot in self.drawn_slots
+                 for shape in self.groups["slot-%d" % slot].iter()
+                 if (tip_of(shape) or "").startswith("record ")]
+        due, stages = [], set()
         for column in self.columns(self.first):
-            who, stage, code, value = self.step(column)
-            own = self.run.pools[max(column - 1, 0)]["clients"][who] \
-                if stage else None
-            frame = (own["victim"] if (stage, code, value) == (14, 1, 15)
-                     else own["own"] if stage in (20, 23)
-                     or (stage, code) == (22, 2) else None)
+            stage, frame = self.marked(column)
             if frame is not None:
-                slots = self.run.pools[column]["slots"]
-                slot = next(place for place, content in enumerate(slots)
-                            if content and content[0] == frame)
+                slot, page = self.stood(frame, column)
                 if slot in self.drawn_slots:
-                    due.append((slot, column, stage, slots[slot][1], frame))
+                    form, said = MARKS[stage]
+                    due.append((slot, column, form, "record %d: stage %d %s"
+                                % (column, stage, said % (page, frame))))
+                    stages.add(stage)
         same(sorted(shown), sorted(due), "the marks")
+        return stages
+
+    def marked(self, column):
+        """The stage that was done, and the frame that a mark is due for."""
+        who, stage, code, value = self.step(column)
+        if not stage:
+            return None, None
+        before, now = self.run.pools[column - 1], self.run.pools[column]
+        client = before["clients"][who]
+        if (stage, code, value) == (14, 1, 15):
+            return stage, client["victim"]
+        if stage in (20, 23) or (stage, code) == (22, 2):
+            return stage, client["own"]
+        left = {page for page, _, _ in now["table"]}
+        return stage, next((frame for page, frame, _ in before["table"]
+                            if page not in left), None)
+
+    def stood(self, frame, column):
+        """The slot where a frame stands or stood last, and its page."""
+        return next((slot, content[1])
+                    for pool in self.run.pools[column::-1]
+                    for slot, content in enumerate(pool["slots"])
+                    if content and content[0] == frame)
 
     def column_of(self, shape):
         """The column in the middle of a polygon or a path."""
-        points = re.findall(r"(-?[\d.]+),(-?[\d.]+)",
-                            shape.get("points") or shape.get("d"))
-        across = [float(x) for x, _ in points]
+        across, _ = corners(shape)
         return self.column_at((min(across) + max(across)) / 2)
 
     def check_copies(self):
@@ -250,8 +290,8 @@ class Drawing:
         for client in self.drawn_clients:
             self.check_client(client)
         self.check_copies()
-        self.check_marks()
         self.check_calls()
+        return self.check_marks()
 
 
 def parts_of(schedule, dice):
@@ -267,15 +307,16 @@ def parts_of(schedule, dice):
 
 
 def columns():
-    dice, count = generate.Dice(1), 0
+    dice, count, marked = generate.Dice(1), 0, set()
     schedules = [example("example.txt"), example("two-clients.txt"),
                  crowded(64, 16, 900, pages=80, greed=3),
                  *map(generate.generate, SEEDS)]
     for schedule in schedules:
         if second.run(schedule)[1]:
             for part in parts_of(schedule, dice):
-                Drawing(schedule, **part).check()
+                marked |= Drawing(schedule, **part).check()
                 count += 1
+    same(marked, set(MARKS), "the stages that had a mark")
     return ("draw, every column of %d pictures: contents, counts, hand, "
             "labels, stages, grants, marks" % count)
 

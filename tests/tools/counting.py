@@ -300,6 +300,7 @@ def other_reports():
                            "from record 5 on the answers are not those")):
         found = stats.table(schedule, report.read_report(written, schedule))
         need("\n" + said in found, "no line %r in %r" % (said, found))
+        need("drops" not in found, "a word on drops, which are not shown")
     return "stats, a short report and a strange one"
 
 

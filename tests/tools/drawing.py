@@ -6,7 +6,7 @@ import xml.etree.ElementTree
 import generate
 import second
 from checking import need, same
-from columns import SVG, Drawing
+from columns import SVG, Drawing, corners, form_of, tip_of
 from common import crowded, example
 from scheduling import BadInput, picture, sheet, svg, symbols, text
 
@@ -45,6 +45,20 @@ def check_apart(boxes, width):
                 break
             if x < other_end and other_x < end:
                 raise AssertionError("%r runs into %r" % (words_here, other))
+
+
+def check_marks_apart(root):
+    """In a slot's row no mark runs into a label or into another mark."""
+    for row in rows_of(root, "slot"):
+        marks = sorted((min(across), max(across)) for across, _ in (
+            corners(shape) for shape in row.iter()
+            if (tip_of(shape) or "").startswith("record ")))
+        labels = [(x, end) for _, size, x, end, _ in text_boxes(row)
+                  if size == sheet.SMALL]
+        for place, (x, end) in enumerate(marks):
+            for other_x, other_end in marks[place + 1:] + labels:
+                need(end < other_x or other_end < x, "in %s a mark at %d runs "
+                     "into something" % (row.get("id"), x))
 
 
 def rows_of(root, name):
@@ -91,6 +105,26 @@ def check_legend(root):
                          for text in texts), "no word on missing numbers")
 
 
+NAMES = {  # of marks, and what they name
+    "page evicted (14)": "cross", "page revived (22)": "arrow up",
+    "page dropped (17)": "arrow down",
+    "candidate given up (20, 23)": "diamond"}
+
+
+def check_names(root):
+    """Each name of a mark in the legend stands right of it."""
+    samples = [(max(across), sum(down) / len(down), form_of(shape))
+               for shape in root if shape.get("class") in ("cross", "mark")
+               for across, down in (corners(shape),)]
+    names = [text for text in root.iter(SVG + "text") if text.text in NAMES]
+    same({text.text for text in names}, set(NAMES), "the names of marks")
+    for text in names:
+        x, y = float(text.get("x")), float(text.get("y"))
+        _, form = max((right, form) for right, middle, form in samples
+                      if right < x and abs(middle - y) < 8)
+        same(form, NAMES[text.text], "what is named %r" % text.text)
+
+
 def check_looks(root):
     """Whatever has a look has it on light and on dark backgrounds."""
     used = {element.get("class") for element in root.iter()} - {None}
@@ -101,14 +135,21 @@ def check_looks(root):
              "looks without a rule")
 
 
+def check_around(root):
+    """Whatever stands around the columns, and that there is room for all."""
+    check_legend(root)
+    check_names(root)
+    check_looks(root)
+    check_apart(text_boxes(root), float(root.get("width")))
+    check_marks_apart(root)
+
+
 def check_picture(schedule, **options):
     """The picture is sound."""
     root = Drawing(schedule, **options).root
     same({element.tag for element in root.iter()} - ELEMENTS, set(),
          "elements that are not expected")
-    check_legend(root)
-    check_looks(root)
-    check_apart(text_boxes(root), float(root.get("width")))
+    check_around(root)
     return root
 
 
@@ -164,6 +205,24 @@ def candidates():
     return "draw, a candidate is not drawn as a page"
 
 
+def pushed_aside():
+    """A label that has no room before a drop's mark stands after it."""
+    script = generate.Script(1, 2, 1, 0)
+    script.fix(0, 9)
+    script.release(0, 9)
+    script.begin(0, 7)
+    script.until(0, 18)
+    for _ in range(300):  # so many make columns narrow
+        script.step(1)
+    drawing = Drawing(bytes(script.data))
+    drawing.check()
+    drop, = drawing.run.drops()
+    same([column > drop for column, words
+          in drawing.texts("slot-0", "ink", sheet.SMALL) if words == "for 7"],
+         [True], "where a candidate is named")
+    return "draw, a label beside the mark of a drop"
+
+
 PARTS = (  # options, and the clients and slots that are drawn
     (dict(first=100, last=160), range(5), range(8)),
     (dict(first=100, last=160, clients="0,3", slots="0-2"), (0, 3), range(3)),
@@ -204,9 +263,7 @@ def check_part(schedule, options, clients, slots):
     same(any(line.get("class") == "before" for line in
              root.iter(SVG + "line")), first > 0, "the line after it")
     need(said_of(root, "Drawn: record"), "nothing says what is drawn")
-    check_legend(root)
-    check_looks(root)
-    check_apart(text_boxes(root), float(root.get("width")))
+    check_around(root)
 
 
 def parts():
@@ -247,4 +304,4 @@ def greys():
     return "draw, the phases of stages can be told apart in grey"
 
 
-TESTS = (pictures, candidates, parts, greys)
+TESTS = (pictures, candidates, pushed_aside, parts, greys)

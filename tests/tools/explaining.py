@@ -144,7 +144,12 @@ def owner(line, clients):
     return str(client) if number and not ended and client < clients else "none"
 
 
-def counts_of(schedule, lines):
+def drops_of(schedule):
+    """The records that dropped a page: the lines do not tell."""
+    return played(schedule).drops() if second.run(schedule)[1] else []
+
+
+def counts_of(schedule, lines, drops):
     """The seven counts of some lines, and the refusals by number."""
     edges = collections.Counter(generate.edges_taken(
         b"".join(second.line(*line) for line in lines)))
@@ -156,22 +161,23 @@ def counts_of(schedule, lines):
                    for number, times in sorted(refusals.items()))
     return [begun, *(edges[stage, generate.GRANT] for stage in (3, 21, 18,
                                                                 22)),
-            edges[14, 15], sum(refusals.values())], by and "(%s)" % by
+            sum(number in drops for number, _, _, _ in lines),
+            sum(refusals.values())], by and "(%s)" % by
 
 
 def due_totals(schedule):
     """Of each client, of no client and of all: what the lines add up to."""
-    lines = lines_of(schedule)
+    lines, drops = lines_of(schedule), drops_of(schedule)
     clients = schedule[4] if lines[0][2] == second.DONE else 0
     parts = {str(client): [] for client in range(clients)}
     for line in lines:
         parts.setdefault(owner(line, clients), []).append(line)
     # Those of no client stand before the sum, if any were refused.
     strays = parts.pop("none", [])
-    if counts_of(schedule, strays)[1]:
+    if counts_of(schedule, strays, drops)[1]:
         parts["none"] = strays
     parts["all"] = lines
-    return [(name, *counts_of(schedule, part))
+    return [(name, *counts_of(schedule, part, drops))
             for name, part in parts.items()]
 
 
@@ -185,6 +191,10 @@ def check_totals(schedule, totals):
         name, *counts = counts.split()
         found.append((name, list(map(int, counts)), bracket + by))
     same(found, due_totals(schedule), "the totals")
+    _, (_, _, _, admitted, _, drops, _), _ = found[-1]
+    if second.run(schedule)[1]:  # by SPECIFICATION 7.4
+        same(admitted - drops, len(played(schedule).pools[-1]["table"]),
+             "admitted less drops")
 
 
 def explanations():
@@ -206,6 +216,89 @@ def explanations():
     same(sorted(words.REFUSALS), list(range(1, 18)), "the refusals in words")
     return ("explain, seeds 0 to %d: %d rows, totals by client and in all"
             % (SEEDS[-1], len(rows)))
+
+
+# Drops, which the report does not tell.
+
+
+def removed_by_another():
+    """Client 0 evicts page 9, and client 1 takes its place."""
+    script = generate.Script(1, 2, 1, 0)
+    script.fix(0, 9)
+    script.release(0, 9)
+    for client, page in ((0, 7), (1, 5)):
+        script.begin(client, page)
+        script.until(client, 15)
+    for client in 1, 0:
+        script.finish(client)
+    return bytes(script.data)
+
+
+def never_mapped():
+    """Client 0 takes the place of a candidate that was given up."""
+    script = generate.Script(2, 2, 1, 0)
+    for client in 0, 1:
+        script.begin(client, 9)
+        script.until(client, 18)
+    for client in 0, 1:
+        script.finish(client)
+    script.fix(0, 7)
+    return bytes(script.data)
+
+
+DROPS = (  # a run, what its 17s did, drops of the two clients and in all
+    (example("two-clients.txt"),
+     ["dropped: page 5 leaves the table",
+      "the entry was already replaced: nothing removed"], [0, 1, 1]),
+    (removed_by_another(), ["dropped: page 9 leaves the table"], [0, 1, 1]),
+    (never_mapped(),
+     ["frame 1 was given up and has no entry: nothing removed"], [0, 0, 0]),
+)
+LEFT = ("from record %d on the answers are not those of this schedule's run; "
+        "drops are counted up to there")
+
+
+def drops_shown(found):
+    """The drops of each row of the totals."""
+    place = found.totals[0].split().index("drops")
+    return [int(row.split()[place]) for row in found.totals[1:]]
+
+
+def leaving(schedule, number):
+    """The answers to a schedule, with another value at a record."""
+    lines = [list(line) for line in lines_of(schedule)]
+    lines[number][-1] += 1
+    return report.read_report(b"".join(second.line(*line) for line in lines),
+                              schedule)
+
+
+def check_leaving(schedule):
+    """Where a report leaves the run, drops are known up to there."""
+    clients, left = schedule[4], range(len(lines_of(schedule)))
+    for number in left:
+        found = explained(schedule, leaving(schedule, number))
+        same(found.notes, [LEFT % number], "what is said of the report")
+        owners = [played(schedule).who[drop] for drop in drops_of(schedule)
+                  if drop < number]
+        same(drops_shown(found), [*map(owners.count, range(clients)),
+                                  len(owners)],
+             "drops up to record %d" % number)
+    return len(left)
+
+
+def drops():
+    """By whom, for what, and as far as it is known."""
+    for schedule, happened, due in DROPS:
+        found = explained(schedule, answers_to(schedule))
+        same([row.happened for row in found.rows
+              if row.asked == "step at 17"], happened, "what 17 did")
+        same(drops_shown(found), due, "drops")
+    count = sum(check_leaving(schedule) for schedule, _, _ in DROPS)
+    refused = generate.setup_record(65, 1, 1, 0)  # there is no pool
+    found = explained(refused, report.read_report(b"0 0 0 65\n", refused))
+    same(found.notes, [LEFT % 0], "what is said of a setup that is refused")
+    return "explain, drops of %d runs and of %d reports that leave them" % (
+        len(DROPS), count + 1)
 
 
 # The pool behind the words.
@@ -289,4 +382,4 @@ def given_reports():
             % len(WRONG_REPORTS))
 
 
-TESTS = (explanations, pools, given_reports)
+TESTS = (explanations, drops, pools, given_reports)

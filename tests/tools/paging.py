@@ -16,15 +16,17 @@ import browser
 import generate
 import second
 from checking import need, same
-from common import crowded, example
+from common import answers_to, crowded, example
+from explaining import explained
 from played import played
 from scheduling import BadInput, happenings, moments, page, words
-from visiting import (LINKS, Visitor, check_history, check_keys,
-                      check_layout)
+from visiting import (LINKS, Visitor, check_apart, check_history, check_keys,
+                      check_layout, looks_of)
 
 MOST_BYTES = 600_000
 SEEDS = range(24)
 NOT_TRIED = "page, NOT tried in a browser: %s"
+KINDS = ("refusal", "eviction", "revival", "drop")
 
 
 # Runs.
@@ -60,21 +62,24 @@ def check_pool(found, expected, what):
 
 
 class Scanner(html.parser.HTMLParser):
-    """The data of a page, and all its attributes."""
+    """The data of a page, its totals, and all its attributes."""
 
     def __init__(self, text):
         super().__init__()
-        self.attributes, self.inside, self.data = [], None, ""
+        self.attributes, self.inside = [], None
+        self.data, self.totals = "", ""
         self.feed(text)
         self.close()
 
     def handle_starttag(self, tag, attributes):
         self.attributes += [(tag, *pair) for pair in attributes]
-        self.inside = dict(attributes).get("type")
+        self.inside = dict(attributes).get("type", tag)
 
     def handle_data(self, data):
         if self.inside == "application/json":
             self.data += data
+        elif self.inside == "pre":
+            self.totals += data
 
     def handle_endtag(self, tag):
         self.inside = None
@@ -106,12 +111,18 @@ def pool_in(data):
 
 def check_data(schedule):
     """The data of a page tell the same run; how many records."""
-    text, run = page_of(schedule), played(schedule)
-    data = json.loads(Scanner(text).data)
+    scanned, run = Scanner(page_of(schedule)), played(schedule)
+    same(scanned.totals.splitlines(),
+         explained(schedule, answers_to(schedule)).totals, "the totals")
+    data = json.loads(scanned.data)
     same(len(data["records"]), run.last + 1, "records")
     same([tuple(mark[:2]) for mark in data["notable"]], run.notable,
          "the notable records")
     happened = happenings.of_run(moments.Run(schedule))
+    same([data["texts"][what] for _, kind, what in data["notable"]
+          if kind != "refusal"],
+         [happened[number] for number, kind in run.notable
+          if kind != "refusal"], "what they did")
     pool = data["first"]
     need(all(len(client["grants"]) <= second.MOST_GRANTS
              for client in pool["clients"].values()), "too many places")
@@ -146,6 +157,10 @@ def one_file():
         same([found for found in scanned.attributes
               if found[1] in ("src", "href")],
              [("link", "href", "data:,")], "what is loaded")
+        same([all(kind in value for kind in KINDS)
+              for _, name, value in scanned.attributes
+              if name == "title" and value[-3:] in ("(p)", "(n)")],
+             [True, True], "buttons that name all kinds of notable records")
         same(text.count("</script>"), 2, "ends of scripts")
         need(len(text.encode()) <= MOST_BYTES, "the file is too large")
         sizes.append(len(text.encode()))
@@ -280,22 +295,29 @@ def in_a_browser():
 
 def try_pages(reader):
     with tempfile.TemporaryDirectory() as folder:
-        path, links = pathlib.Path(folder) / "run.html", 0
+        path, links, looks = pathlib.Path(folder) / "run.html", 0, {}
         for name, schedule in RUNS.items():
             run = played(schedule)
             reader.view(1280, 800)
             path.write_text(page_of(schedule), encoding="utf-8")
             visitor = Visitor(reader, path)
             check_page(visitor, run)
+            for dark in (False, True):
+                reader.view(1280, 800, dark)
+                looks.setdefault(dark, {}).update(looks_of(visitor, run))
             links += len(run.notable)
             if name == "two clients":
                 check_keys(visitor, run)
                 check_history(visitor, run)
+        for found in looks.values():
+            same(sorted(found), sorted(KINDS), "kinds of notable records")
+            check_apart(found)
         same(reader.complaints(), [], "complaints")
         same({address.partition("#")[0] for address in reader.requests()},
              {visitor.url}, "what was asked for")
     return ("page, %d runs in a browser: ten records of each by all ways, %d "
-            "links, keys, address, layout, nothing loaded from elsewhere"
+            "links, keys, address, layout, colours, nothing loaded from "
+            "elsewhere"
             % (len(RUNS), links))
 
 

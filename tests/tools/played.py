@@ -65,7 +65,7 @@ def pool_of(pool):
 class Played:
     """A run: the pool after each record, whose it was, its code and value.
 
-    'notable' has the number of each refusal, eviction and revival.
+    'notable' has the number of each refusal, eviction, revival and drop.
     """
 
     def __init__(self, schedule):
@@ -83,6 +83,7 @@ class Played:
 
     def play(self, pool, kind, client, page):
         evicted = [frame.pinning < 0 for frame in pool.cache.frames]
+        mapped = set(pool.cache.HASHTBL)
         stage = client < len(pool.clients) and pool.clients[client].stage
         code, _ = second.call(pool, kind, client, page)
         notable = None
@@ -93,6 +94,8 @@ class Played:
         elif any(frame.pinning < 0 and not was
                  for was, frame in zip(evicted, pool.cache.frames)):
             notable = "eviction"
+        elif mapped - set(pool.cache.HASHTBL):  # by SPECIFICATION 7.3
+            notable = "drop"
         self.note(pool_of(pool), client, notable)
 
     def note(self, pool, client, notable):
@@ -100,6 +103,10 @@ class Played:
             self.notable.append((len(self.pools), notable))
         self.pools.append(pool)
         self.who.append(client)
+
+    def drops(self):
+        """The numbers of the records that dropped a page."""
+        return [number for number, kind in self.notable if kind == "drop"]
 
 
 # Some are asked for more than once, and long ones take their time.

@@ -65,7 +65,7 @@ SENTENCES = {
     (15, 16): STANDS + ", instead of frame {was_victim}",
     (15, 11): "frame {was_victim} is not in slot {was_place} any more: slot {next_place} is next",
     (16, 17): HAND,
-    (17, 18, "there"): "page {victim_page} leaves the table",
+    (17, 18, "there"): "dropped: page {victim_page} leaves the table",
     (17, 18, "never there"): "frame {was_victim} was given up and has no entry: nothing removed",
     (17, 18, "gone"): "the entry was already replaced: nothing removed",
     (18, GRANT): "admitted: the table has page {wanted} in frame {was_own}",

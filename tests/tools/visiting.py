@@ -70,7 +70,30 @@ LAYOUT = """(() => {
   return {wide, height, away, deck: box('#deck').height};
 })()"""
 
-# Each link's own click; where it leads to is shown a moment later.
+# The marks in the strip: their records, rows and colours, and the colours of
+# the words for them in the list.
+MARKS = """(() => {
+  const box = one => one.getBoundingClientRect();
+  const strip = box(document.getElementById('strip'));
+  const colours = one => {
+    const style = getComputedStyle(one);
+    return [style.backgroundColor, style.color].map(
+      colour => colour.match(/[0-9.]+/g).map(Number));
+  };
+  const words = [...document.querySelectorAll('#links .kind')];
+  return [...document.querySelectorAll('#strip .mark')].map((mark, place) => ({
+    kind: mark.dataset.kind,
+    across: ((box(mark).left + box(mark).right) / 2 - strip.left)
+      / strip.width,
+    row: [box(mark).top - strip.top, box(mark).bottom - strip.top],
+    inside: box(mark).top >= strip.top && box(mark).bottom <= strip.bottom,
+    colour: colours(mark)[0],
+    word: colours(words[place]),
+  }));
+})()"""
+
+# Each link's own click; where it leads to is shown a moment later. Chromium
+# takes no more than 200 in ten seconds, so a run should have fewer links.
 FOLLOWED = """(async () => {
   const shown = document.getElementById('number');
   const found = [];
@@ -198,6 +221,7 @@ PRESSES = (  # from a record of the two clients, a key, with shift; where to
     (20, "PageDown", False, 30), (20, "PageUp", False, 10),
     (20, "Home", False, 0), (20, "End", False, 51),
     (45, "PageDown", False, 51), (20, "n", False, 29), (29, "n", False, 41),
+    (41, "n", False, 44), (44, "n", False, 47), (47, "p", False, 44),
     (29, "p", False, 29), (40, "p", False, 29), (0, "ArrowLeft", False, 0))
 
 
@@ -230,6 +254,45 @@ def check_history(visitor, run):
     visitor.by_address(run.last)
     visitor.evaluate("location.hash = '#none'")
     visitor.wait_for(0)
+
+
+def light(colour):
+    """How much light a colour gives, 0 to 1, by the rule for web pages."""
+    parts = [part / 255 for part in colour[:3]]
+    return sum(share * (part / 12.92 if part <= 0.04045
+                        else ((part + 0.055) / 1.055) ** 2.4)
+               for share, part in zip((0.2126, 0.7152, 0.0722), parts))
+
+
+def contrast(one, other):
+    low, high = sorted((light(one), light(other)))
+    return (high + 0.05) / (low + 0.05)
+
+
+def looks_of(visitor, run):
+    """The row and the colour of each kind of mark in the strip."""
+    found = {}
+    marks = visitor.evaluate(MARKS)
+    same([mark["kind"] for mark in marks], [kind for _, kind in run.notable],
+         "the marks in the strip")
+    for mark, (number, kind) in zip(marks, run.notable):
+        need(abs(mark["across"] * run.last - number) < 0.5 and mark["inside"],
+             "the place of record %d in the strip: %r" % (number, mark))
+        ground, letters = mark["word"]
+        same(ground, mark["colour"], "the colour of %s in the list" % kind)
+        need(contrast(ground, letters) >= 4.5, "%s cannot be read" % kind)
+        look = mark["row"], mark["colour"]
+        same(found.setdefault(kind, look), look, "the look of %s" % kind)
+    return found
+
+
+def check_apart(looks):
+    """Marks of different kinds have other rows and other colours."""
+    rows = sorted(row for row, _ in looks.values())
+    need(all(above[1] <= below[0] for above, below in zip(rows, rows[1:])),
+         "rows of the strip: %r" % rows)
+    colours = {tuple(colour) for _, colour in looks.values()}
+    same(len(colours), len(looks), "colours of marks")
 
 
 def check_layout(visitor, run, width, height):

@@ -7,7 +7,7 @@ of a report, and where they are others than in that run, only they are told.
 from . import happenings, words
 from .moments import Run
 from .records import BEGIN, LONGEST_FILE, NAMES, SETUP, STEP, read
-from .report import GRANTED, WORKING
+from .report import GRANTED, REFUSAL, WORKING
 from .tables import Column, lines_of
 from .totals import COUNTS, Client, Totals, by_number
 
@@ -43,9 +43,11 @@ def answered(record, answer, wanted):
 
 def agreed(run, answers):
     """How many of the answers, from the first on, are those of the run."""
+    due = ([(call.code, call.value) for call in run.calls]
+           or [(REFUSAL + run.refusal, 0)])  # there was no pool
     number = 0
-    for call, answer in zip(run.calls, answers):
-        if (call.code, call.value) != (answer.code, answer.value):
+    for expected, answer in zip(due, answers):
+        if expected != (answer.code, answer.value):
             break
         number += 1
     return number
@@ -67,8 +69,14 @@ def rows_of(records, answers, happened):
             client.note(record, answer)
 
 
-def totals_of(totals):
-    """Lines with what each client came to, and all of them."""
+def totals_of(run, records, answers):
+    """Lines with what each client came to, and all of them.
+
+    Drops are known as far as the answers are those of the run.
+    """
+    known = agreed(run, answers)
+    totals = Totals(records, answers, {number for number in run.drops()
+                                       if number < known})
     columns = (Column("client", right=True),
                *(Column(name, right=True) for name in COUNTS), Column(""))
     return lines_of(columns, [
@@ -96,7 +104,7 @@ def left_over(data, records, answers):
 def unlike(run, answers):
     """A line where answers leave the run that is known, if they do."""
     known = agreed(run, answers)
-    if not run.calls or known == len(answers):
+    if known == len(answers):
         return []
     return ["from record %d on the answers are not those of this schedule's "
             "run" % known]
@@ -108,6 +116,8 @@ def explain(data, answers):
     run = Run(data)
     happened = happenings.of_run(run)[:agreed(run, answers)]
     lines = [*lines_of(COLUMNS, rows_of(records, answers, happened)),
-             *left_over(data, records, answers), *unlike(run, answers), "",
-             *totals_of(Totals(records, answers))]
+             *left_over(data, records, answers),
+             *(line + "; drops are counted up to there"
+               for line in unlike(run, answers)), "",
+             *totals_of(run, records, answers)]
     return "".join(line.rstrip() + "\n" for line in lines)

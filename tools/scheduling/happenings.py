@@ -6,7 +6,7 @@ with the numbers that decided it.
 
 from . import words
 from .records import BEGIN, RELEASE, SETUP, STEP
-from .moments import EVICTED, IN_USE
+from .moments import EVICTED, IN_USE, dropped
 
 
 class Step:
@@ -167,9 +167,9 @@ stage16 = stage9
 
 def stage17(step):
     victim = step.was.victim
-    page = step.before.frames[victim].page
-    if step.before.table.get(page) == victim:
-        return "page %d leaves the table" % page
+    if dropped(step.call, step.before, step.after):
+        return ("dropped: page %d leaves the table"
+                % step.before.frames[victim].page)
     if victim in step.given_up:
         return ("frame %d was given up and has no entry: nothing removed"
                 % victim)
@@ -270,8 +270,7 @@ def happened(call, before, after, given_up):
 def of_run(run):
     """What each call of a run did, in their order."""
     told, given_up = [], set()
-    for number, call in enumerate(run.calls):
-        before, after = run.moments[max(number - 1, 0)], run.moments[number]
+    for call, before, after in run.turns():
         told.append(happened(call, before, after, given_up))
         if call.did == 4:
             given_up.discard(after.clients[call.client].own)

@@ -7,7 +7,7 @@ record left it.
 import itertools
 from typing import NamedTuple, Optional
 
-from .moments import CANDIDATE, EVICTED, run_to
+from .moments import CANDIDATE, EVICTED, dropped, run_to
 from .records import BEGIN
 from .report import DONE, GRANTED
 
@@ -56,10 +56,11 @@ class Grant(NamedTuple):
 
 
 class Mark(NamedTuple):
-    """Something that a step did to the frame in a slot.
+    """Something that a step did to a page or candidate, in a slot's row.
 
-    By stage 14 it is a drop, by 20 or 23 a candidate was given up, and by 22
-    a page was revived.
+    By stage 14 a page was evicted, by 22 revived and by 17 dropped, and by 20
+    or 23 a candidate was given up. The frame is the one that the page lost
+    or came to, or the candidate.
     """
 
     column: int
@@ -95,18 +96,23 @@ def count(moment, frame):
     return moment.frames[frame].count
 
 
+def is_marked(call, before, after):
+    """Whether a call did one of the things that have a mark."""
+    return (call.did in (20, 23) or (call.did, call.stage) == (14, 15)
+            or (call.did, call.code) == (22, GRANTED)
+            or dropped(call, before, after))
+
+
 def marks_of(run):
     """The marks of a whole run."""
-    for call, before, after in zip(run.calls[1:], run.moments,
-                                   run.moments[1:]):
-        frame = None
-        if (call.did, call.stage) == (14, 15):
-            frame = before.clients[call.client].victim
-        elif call.did in (20, 23) or call.did == 22 and call.code == GRANTED:
-            frame = before.clients[call.client].own
-        if frame is not None:
-            yield Mark(call.number, after.slot_of(frame),
-                       after.frames[frame].page, frame, call.did)
+    for call, before, after in run.turns():
+        if is_marked(call, before, after):
+            client = before.clients[call.client]
+            frame = client.victim if call.did in (14, 17) else client.own
+            # By 17 the own frame stands where the victim stood.
+            slot = after.slot_of(frame if call.did == 14 else client.own)
+            yield Mark(call.number, slot, after.frames[frame].page, frame,
+                       call.did)
 
 
 def grants_of(client, calls):

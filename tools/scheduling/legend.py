@@ -70,9 +70,10 @@ def of_slots(most_count):
         (hand, "hand's slot")]
     marks = [
         (count, "reference count, the highest is %d" % most_count),
-        (shape(symbols.drop), "drop (14 evicts)"),
-        (shape(symbols.given_up), "candidate given up (20, 23)"),
-        (shape(symbols.revival), "page revived (22)")]
+        (shape(symbols.eviction), "page evicted (14)"),
+        (shape(symbols.revival), "page revived (22)"),
+        (shape(symbols.drop), "page dropped (17)"),
+        (shape(symbols.given_up), "candidate given up (20, 23)")]
     return ("slots", contents), ("in slots", marks)
 
 

@@ -53,12 +53,16 @@ class Moment(NamedTuple):
 
     def state(self, frame):
         """What can be said of a frame that stands in a slot."""
-        page, pins, _ = self.frames[frame]
+        pins = self.frames[frame].pins
         if pins < 0:
             return EVICTED
-        if self.table.get(page) != frame:
+        if not self.maps(frame):
             return CANDIDATE
         return IN_USE if pins else UNHELD
+
+    def maps(self, frame):
+        """Whether the table has the frame's page with this very frame."""
+        return self.table.get(self.frames[frame].page) == frame
 
     def told(self, frame):
         """A frame that stands in a slot, in words.
@@ -99,6 +103,17 @@ class Call(NamedTuple):
     def stage(self):
         """Where the client stands after a step, or None."""
         return self.value if self.code == WORKING else None
+
+
+def dropped(call, before, after):
+    """Whether a call dropped a page: a 17 that removed the victim's entry.
+
+    It answers the same where it removed nothing, so the pool has to tell.
+    """
+    if call.did != 17:
+        return False
+    victim = before.clients[call.client].victim
+    return before.maps(victim) and not after.maps(victim)
 
 
 def swept(client, did, moment):
@@ -204,6 +219,17 @@ class Run:
                           self.refusal)
         self.setup = records[0].numbers
         self.calls, self.moments = player.calls, player.moments
+
+    def turns(self):
+        """Each call, with the pool before it and after it.
+
+        Before a setup there was none, so it has the same pool twice.
+        """
+        return zip(self.calls, self.moments[:1] + self.moments, self.moments)
+
+    def drops(self):
+        """The numbers of the records that dropped a page."""
+        return {turn[0].number for turn in self.turns() if dropped(*turn)}
 
 
 def run_to(purpose, data):

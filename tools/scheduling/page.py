@@ -18,13 +18,14 @@ from .picture import TITLE
 from .records import SETUP, read
 from .report import read_report, second_report
 from .text import command
-from .totals import Totals
 
 PARTS = pathlib.Path(__file__).with_suffix("")  # the folder of that name
 STYLES = ("palette.css", "deck.css", "pool.css")
 SCRIPTS = ("run.js", "cards.js", "links.js", "moves.js")
 
-REFUSAL, EVICTION, REVIVAL = "refusal", "eviction", "revival"
+REFUSAL, EVICTION, REVIVAL, DROP = "refusal", "eviction", "revival", "drop"
+KINDS = {  # of marks, by stage; a candidate that is given up is evicted, too
+    14: EVICTION, 20: EVICTION, 23: EVICTION, 22: REVIVAL, 17: DROP}
 
 
 # What is shown of the pool. A part that changes by itself is a dict, so that
@@ -116,7 +117,7 @@ def notable(run):
     """The records that are worth a link, and what they are."""
     kinds = {call.number: REFUSAL for call in run.calls if call.refusal}
     for mark in marks_of(run):
-        kinds[mark.column] = REVIVAL if mark.stage == 22 else EVICTION
+        kinds[mark.column] = KINDS[mark.stage]
     return kinds
 
 
@@ -215,7 +216,7 @@ def page(data):
     answers = read_report(second_report(data), data)
     about = "%s; %s" % (words.setup(run.setup),
                         words.count(len(run.calls), "record"))
-    totals = "\n".join(explain.totals_of(Totals(records, answers)))
+    totals = "\n".join(explain.totals_of(run, records, answers))
     parts = {
         "title": html.escape(TITLE),
         "about": html.escape(about),

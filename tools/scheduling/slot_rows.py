@@ -7,9 +7,13 @@ from .svg import Lane
 
 COUNT_HEIGHT, HAND_HEIGHT, GAP = 11, 3, 4
 COUNT_SIZE = 9  # of numbers
+# Half the size of a mark; of smaller arrows nobody sees where they point. A
+# slot's marks are at least three columns apart, so there is room for them.
+LEAST_MARK = 4
 
 MARKED = {  # what a mark says, by its stage
     14: "evicts page %d in frame %d",
+    17: "drops page %d, which frame %d had",
     20: "gives up the candidate for page %d, frame %d",
     22: "maps page %d anew, to frame %d",
     23: "gives up the candidate for page %d, frame %d",
@@ -59,7 +63,7 @@ class SlotRows:
         """What comes into the slot, and the same again at the rails."""
         sheet = self.sheet
         lane = Lane(self.canvas, bottom - 4, SMALL)
-        marked = {mark.column for mark in marks}
+        marked = [mark.column for mark in marks]
         for column in marked:
             lane.reserve(sheet.middle(column) - sheet.symbol - 2,
                          sheet.middle(column) + sheet.symbol + 2)
@@ -68,9 +72,14 @@ class SlotRows:
             if comes and column >= self.part.first:
                 self.canvas.line(x, bottom - self.page_height, x, bottom,
                                  look="comes")
-            begin = (sheet.middle(column) + sheet.symbol + 3
-                     if column in marked else x + 4)
-            lane.put(begin, right - 2, *content.labels, look="ink")
+            # At the first column, or after the first mark that has room.
+            places = [sheet.middle(mark) + sheet.symbol + 3
+                      for mark in marked if column <= mark < end]
+            if column not in marked:
+                places.insert(0, x + 4)
+            for place in places:
+                if lane.put(place, right - 2, *content.labels, look="ink"):
+                    break
             for rail in sheet.rails():
                 if x < rail < right:
                     lane.put(rail, right - 2, "slot %d: %s"
@@ -110,7 +119,7 @@ class SlotRows:
     def draw_mark(self, mark, y):
         symbols.MARKS[mark.stage](
             self.canvas, self.sheet.middle(mark.column), y,
-            self.sheet.symbol * 0.75, "record %d: stage %d %s"
+            max(self.sheet.symbol * 0.75, LEAST_MARK), "record %d: stage %d %s"
             % (mark.column, mark.stage,
                MARKED[mark.stage] % (mark.page, mark.frame)))
 

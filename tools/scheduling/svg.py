@@ -95,14 +95,15 @@ class Lane:
         self.taken.append((x, end))
 
     def put(self, x, end, *texts, look):
-        """Put the first of the texts that has room from x to the end."""
+        """Put the first text that has room from x to the end, if any has."""
         for text in texts:
             width = text_width(text, self.size)
             if x + width <= end and self.is_free(x, x + width):
                 self.reserve(x, x + width + self.GAP)
                 self.canvas.text(x, self.y, text, font_size=self.size,
                                  look=look)
-                return
+                return True
+        return False
 
     def is_free(self, x, end):
         return all(end <= begun or x >= ended for begun, ended in self.taken)

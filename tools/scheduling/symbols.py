@@ -112,7 +112,7 @@ def refusal(canvas, x, y, size, tip=None):
                    look="refusal", tip=tip)
 
 
-def drop(canvas, x, y, size, tip=None):
+def eviction(canvas, x, y, size, tip=None):
     """A cross, with a clear edge so that it is seen on any ground."""
     path = "M%.2f,%.2f L%.2f,%.2f M%.2f,%.2f L%.2f,%.2f" % (
         x - size, y - size, x + size, y + size,
@@ -127,15 +127,25 @@ def given_up(canvas, x, y, size, tip=None):
                     (x - size, y)), look="mark", tip=tip)
 
 
+def arrow(canvas, x, y, size, up, tip):
+    """An open arrow; its mirror image points down."""
+    half, ahead = size * 0.45, -1 if up else 1
+    canvas.polygon([(x + across, y + ahead * along) for across, along in (
+        (0, size * 1.1), (size, 0), (half, 0), (half, -size),
+        (-half, -size), (-half, 0), (-size, 0))], look="mark", tip=tip)
+
+
 def revival(canvas, x, y, size, tip=None):
-    """An open arrow that points up."""
-    half = size * 0.45
-    canvas.polygon(((x, y - size * 1.1), (x + size, y), (x + half, y),
-                    (x + half, y + size), (x - half, y + size),
-                    (x - half, y), (x - size, y)), look="mark", tip=tip)
+    """An arrow that points up: the page comes back."""
+    arrow(canvas, x, y, size, True, tip)
 
 
-MARKS = {14: drop, 20: given_up, 23: given_up, 22: revival}
+def drop(canvas, x, y, size, tip=None):
+    """An arrow that points down: the page leaves."""
+    arrow(canvas, x, y, size, False, tip)
+
+
+MARKS = {14: eviction, 17: drop, 20: given_up, 22: revival, 23: given_up}
 
 
 def grant(canvas, x, y, width, height, tip=None, begins=True, ends=True):

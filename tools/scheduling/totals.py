@@ -1,7 +1,8 @@
 """What the answers to a schedule's records add up to, client by client.
 
-Records and answers are enough for this: a step's answer tells where the
-client stands, and so which stage it does next.
+Records and answers are enough for all counts but one: a step's answer tells
+where the client stands, and so which stage it does next. Drops have to be
+told, since a 17 answers the same whether or not it removes an entry.
 """
 
 import collections
@@ -39,7 +40,6 @@ class Client:
             self.held[record.page] -= 1
         elif answer.code == WORKING:
             self.taken += 1
-            self.counts["drops"] += (self.stage, answer.value) == (14, 15)
             self.stage = answer.value
         elif answer.code == GRANTED or answer.refusal == 15:
             self.end(answer)
@@ -93,11 +93,12 @@ def sum_of(parts, most_held):
 class Totals:
     """What each client of the pool came to, and what all of them did.
 
-    'strays' has the refusals of records that are of no client of the pool,
-    and of the one that ended the run.
+    Drops are those of the records whose numbers are given. 'strays' has the
+    refusals of records that are of no client of the pool, and of the one that
+    ended the run.
     """
 
-    def __init__(self, records, answers):
+    def __init__(self, records, answers, drops=()):
         clients = (records[0].numbers[1]
                    if records and answers and answers[0].code == DONE else 0)
         self.clients = [Client() for _ in range(clients)]
@@ -107,7 +108,9 @@ class Totals:
             record = (records[answer.number]
                       if answer.number < len(records) else None)
             if record is not None and record.kind != SETUP:
-                self.of(record, answer).note(record, answer)
+                client = self.of(record, answer)
+                client.note(record, answer)
+                client.counts["drops"] += answer.number in drops
             elif answer.refusal:
                 self.strays.refuse(answer.refusal)
             if answer.code == GRANTED:

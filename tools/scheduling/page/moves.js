@@ -43,11 +43,13 @@ function keepHash() {
                          Math.max(written + HASH_PAUSE - Date.now(), 0));
 }
 
-// Where another address has come in between, that one is to be shown.
+// Where another address has come in between, that one is to be shown; and
+// one that is there already is not written again.
 function writeHash() {
-  if (location.hash === address) {
-    history.replaceState(null, '', '#' + current);
-    address = location.hash;
+  const due = '#' + current;
+  if (location.hash === address && address !== due) {
+    history.replaceState(null, '', due);
+    address = due;
     written = Date.now();
   }
 }
