@@ -293,7 +293,7 @@ Lost p q = (g : ℕ) × (lookup p g ≢ none) × (lookup q g ≡ none)
 abbrev pub CountsPages : Pool → Counted → Pool → Type 0
 CountsPages p u q = ((u ≡ Drop) ↔ Lost p q) × ((u ≡ Admitted) ↔ Lost q p)
 
--- SPECIFICATION 7.3: so does each call of a run
+-- SPECIFICATION 7.3: this is so of each call of a run
 abbrev pub Claim-drops : Type 0
 Claim-drops =
     (p : Pool) → SetUp p → (calls : List Call) (x : Call)
