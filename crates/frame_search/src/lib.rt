@@ -1,7 +1,9 @@
 // The search for the frame that stage 4 takes (SPECIFICATION 2.8). It is dear to prove, with a loop over the frames and one over each thing that
 // names them, so it stands apart from the reads that an action makes. Internal.
+//
+// The search's position is a byte: there are at most 96 frames, so one more than a frame's number fits as well.
 ghost use mathlib.Core.Path.{_≡_};
-ghost use Prim.Native.Nat.{_<_, _≤_};
+ghost use Prim.Native.Nat.{_+_, _%_, _<_, _≤_};
 ghost use Rattle.pool.specs.Limits.{maxClients, maxHeld};
 ghost use Rattle.pool.specs.Frames.{freeFrame};
 ghost use Rattle.frame_search.specs.Search.{Searchable, searchedIn, firstOf, namesIn};
@@ -13,15 +15,26 @@ use pool::HELD;
 use pool::NONE;
 use pool::SLOTS;
 
-// Where the search starts (SPECIFICATION 2.8).
-fn first_tried(last: u8, total: usize) -> usize
+// Where the search starts (SPECIFICATION 2.8). For a call in place `last` may be any byte, so this is the remainder and no comparison.
+fn first_tried(last: u8, total: u8) -> u8
     requires { ⌜ 0 < total ⌝ }
     ensures { λ r. ⌜ r ≡ firstOf last total ⌝ }
 {
     if last == NONE {
         return 0;
     }
-    (last as usize + 1) % total
+    (last + 1) % total
+}
+
+// The frame that is tried after frame f: frame 0 after the last one (SPECIFICATION 2.8).
+fn tried_after(f: u8, total: u8) -> u8
+    requires { ⌜ f < total ⌝ }
+    ensures { λ r. ⌜ r ≡ (f + 1) % total ⌝ }
+{
+    if f + 1 == total {
+        return 0;
+    }
+    f + 1
 }
 
 // Whether client c names frame f (SPECIFICATION 2.6).
@@ -63,16 +76,18 @@ pub fn free_frame<'a>(
 {
     let slot_count = size as usize;
     let count = client_count as usize;
-    let total = slot_count + 2 * count;
-    let first = first_tried(last, total);
-    'frames: for n in 0..total {
-        let f = ((first + n) % total) as u8;
+    let total = size + 2 * client_count;
+    let places = total as usize;
+    let mut next = first_tried(last, total);
+    'frames: for _ in 0..total {
+        let f = next;
+        next = tried_after(f, total);
         for i in 0..slot_count {
             if slots[i] == f {
                 continue 'frames;
             }
         }
-        for i in 0..total {
+        for i in 0..places {
             if table_frames[i] == f {
                 continue 'frames;
             }

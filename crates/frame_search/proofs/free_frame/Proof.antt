@@ -1,9 +1,10 @@
--- The outer invariant: what is left of the search from n on is all of it. Each inner one: so it is of the slots, the table and the clients,
--- and the turn's n has not changed. A hit in an inner loop makes the frame referenced, so both searches pass it over; a turn that reaches its end
--- has found it unreferenced. Each measure is what is left of its loop's range. Assumes nothing.
+-- The outer invariant: `next` is the frame that the definition tries after n others, and what is left of the search from n on is all of it. Each
+-- inner one: so it is of the slots, the table and the clients, and the turn's n has not changed. A hit in an inner loop makes the frame referenced,
+-- so both searches pass it over; a turn that reaches its end has found it unreferenced. Each measure is what is left of its loop's range. Assumes
+-- nothing.
 use borrow.Author.Needs.{needs}
 use native.Mathlib.Omega.{arith}
-use native.Mathlib.Nat.{mod-lt}
+use native.Mathlib.Nat.{mod-lt, mod-add-mod, mod-eq-of-lt}
 use mathlib.Core.Path.{_≡_, refl, _∙_, sym, ap}
 use mathlib.Core.Bool.{Bool, true, false, not}
 use Prim.Native.Nat.{ℕ, _<_, _-_, _+_, _%_}
@@ -11,11 +12,11 @@ use lib.Dec.{eqb}
 use lib.ListN.{getD}
 use denote.Ref.{now}
 use Rattle.pool.specs.Choose.{choose, either, some}
-use Rattle.pool.specs.Frames.{names, referenced, tried, freeFrame}
+use Rattle.pool.specs.Frames.{names, referenced, firstTried, tried, freeFrame}
 use Rattle.pool.specs.State.{none, clientCount, total, slot, entryFrame, no-client}
 use Rattle.laws.specs.Elements.{element, client-of-pool, reads-as, reads-other}
 use Rattle.laws.specs.Loops.{Left, begins, hit, misses, ends}
-use Rattle.frame_search.specs.Search.{searchedIn, first-of, first-in, namesIn, names-in}
+use Rattle.frame_search.specs.Search.{searchedIn, firstOf, first-of, first-in, namesIn, names-in}
 use Rattle.pool.specs.declared.Pool.{Pool}
 use Rattle.pool.specs.declared.Client.{Client}
 use Rattle.frame_search.proofs.free_frame.Statement.{statement}
@@ -35,41 +36,51 @@ named p f = some (names p f) (clientCount p)
 abbrev Searching : Pool → ℕ → Type 0
 Searching p n = Left (λ x. not (referenced p (tried p x))) (tried p) none (total p) n
 
+-- and the n-th frame is f
+abbrev Trying : Pool → ℕ → ℕ → Type 0
+Trying p f n = (f ≡ tried p n) × Searching p n
+
 abbrev Inv-loop : tie.InvT-loop
-Inv-loop size clientCount last slots tableFrames grantFrames clients slotCount count total first n₀ f i₀ n i =
+Inv-loop size clientCount last slots tableFrames grantFrames clients slotCount count total places next f i₀ n₀ i n =
     (n ≡ n₀) × Left (λ x. eqb (slot (searchedIn size clientCount last slots tableFrames clients grantFrames) x) f) (λ _. true) false slotCount i
 
 abbrev μ-loop : tie.MeasureT-loop
-μ-loop size clientCount last slots tableFrames grantFrames clients slotCount count total first n₀ f i₀ n i =
+μ-loop size clientCount last slots tableFrames grantFrames clients slotCount count total places next f i₀ n₀ i n =
     slotCount - i
 
 abbrev Inv-loop2 : tie.InvT-loop2
-Inv-loop2 size clientCount last slots tableFrames grantFrames clients slotCount count total first n₀ f i₀ n i =
-    (n ≡ n₀) × Left (λ x. eqb (entryFrame (searchedIn size clientCount last slots tableFrames clients grantFrames) x) f) (λ _. true) false total i
+Inv-loop2 size clientCount last slots tableFrames grantFrames clients slotCount count total places next f i₀ n₀ i n =
+    (n ≡ n₀) × Left (λ x. eqb (entryFrame (searchedIn size clientCount last slots tableFrames clients grantFrames) x) f) (λ _. true) false places i
 
 abbrev μ-loop2 : tie.MeasureT-loop2
-μ-loop2 size clientCount last slots tableFrames grantFrames clients slotCount count total first n₀ f i₀ n i =
-    total - i
+μ-loop2 size clientCount last slots tableFrames grantFrames clients slotCount count total places next f i₀ n₀ i n =
+    places - i
 
 abbrev Inv-loop3 : tie.InvT-loop3
-Inv-loop3 size clientCount last slots tableFrames grantFrames clients slotCount count total first n₀ f c₀ n c =
+Inv-loop3 size clientCount last slots tableFrames grantFrames clients slotCount count total places next f c₀ n₀ c n =
     (n ≡ n₀) × Left (names (searchedIn size clientCount last slots tableFrames clients grantFrames) f) (λ _. true) false count c
 
 abbrev μ-loop3 : tie.MeasureT-loop3
-μ-loop3 size clientCount last slots tableFrames grantFrames clients slotCount count total first n₀ f c₀ n c =
+μ-loop3 size clientCount last slots tableFrames grantFrames clients slotCount count total places next f c₀ n₀ c n =
     count - c
 
 abbrev Inv-frames : tie.InvT-frames
-Inv-frames size clientCount last slots tableFrames grantFrames clients slotCount count total first n₀ n =
-    Searching (searchedIn size clientCount last slots tableFrames clients grantFrames) n
+Inv-frames size clientCount last slots tableFrames grantFrames clients slotCount count total places next₀ n₀ next n =
+    Trying (searchedIn size clientCount last slots tableFrames clients grantFrames) next n
 
 abbrev μ-frames : tie.MeasureT-frames
-μ-frames size clientCount last slots tableFrames grantFrames clients slotCount count total first n₀ n =
+μ-frames size clientCount last slots tableFrames grantFrames clients slotCount count total places next₀ n₀ next n =
     total - n
 
--- a turn of the outer loop, and what is known after the slots and after the table
+-- what the code starts with; a turn of the outer loop; what is known once that has moved on, after the slots and after the table
+abbrev Given : Type 0
+Given = tie.Start Inv-loop μ-loop Inv-loop2 μ-loop2 Inv-loop3 μ-loop3 Inv-frames μ-frames
+
 abbrev Turn : Type 0
 Turn = tie.In-frames Inv-loop μ-loop Inv-loop2 μ-loop2 Inv-loop3 μ-loop3 Inv-frames μ-frames
+
+abbrev Moved : Type 0
+Moved = tie.After-tried-after Inv-loop μ-loop Inv-loop2 μ-loop2 Inv-loop3 μ-loop3 Inv-frames μ-frames
 
 abbrev Past-slots : Type 0
 Past-slots = tie.After-loop Inv-loop μ-loop Inv-loop2 μ-loop2 Inv-loop3 μ-loop3 Inv-frames μ-frames
@@ -77,28 +88,48 @@ Past-slots = tie.After-loop Inv-loop μ-loop Inv-loop2 μ-loop2 Inv-loop3 μ-loo
 abbrev Past-table : Type 0
 Past-table = tie.After-loop2 Inv-loop μ-loop Inv-loop2 μ-loop2 Inv-loop3 μ-loop3 Inv-frames μ-frames
 
-abbrev turn : Past-slots → Turn
-turn c = c .before .before
+abbrev moved : Past-slots → Moved
+moved c = c .before .before
 
-abbrev poolAt : Turn → Pool
-poolAt c =
-    let a = c .before .before .before .args in
+abbrev turn : Past-slots → Turn
+turn c = moved c .before
+
+abbrev given : Given → Pool
+given c =
+    let a = c .args in
     searchedIn (a .size) (a .client-count) (a .last) (now (a .slots)) (now (a .table-frames)) (a .t6) (now (a .grant-frames))
 
--- the frame of the turn, as the code has it
+abbrev poolAt : Turn → Pool
+poolAt c = given (c .before .before .before)
+
+-- the frame of the turn: the code's, which by the invariant is the definition's
 abbrev frameAt : Turn → ℕ
-frameAt c = (c .before .before .first-tried .result + c .before .frames .n) % total (poolAt c)
+frameAt c = c .before .frames .next
 
--- it is the one that the definition tries
-same : (c : Turn) → tried (poolAt c) (c .before .frames .n) ≡ frameAt c
-same c = ap (λ (x : ℕ). (x + c .before .frames .n) % total (poolAt c)) (sym (c .before .before .first-tried .ensures ∙ first-of (poolAt c)))
+same : (c : Turn) → frameAt c ≡ tried (poolAt c) (c .before .frames .counter)
+same c = c .before .frames .inv .0
 
-tested : (c : Turn) (b : Bool) → referenced (poolAt c) (frameAt c) ≡ b → not (referenced (poolAt c) (tried (poolAt c) (c .before .frames .n))) ≡ not b
-tested c b e = ap (λ (f : ℕ). not (referenced (poolAt c) f)) (same c) ∙ ap not e
+tested : (c : Turn) (b : Bool) → referenced (poolAt c) (frameAt c) ≡ b → not (referenced (poolAt c) (tried (poolAt c) (c .before .frames .counter))) ≡ not b
+tested c b e = ap (λ (f : ℕ). not (referenced (poolAt c) f)) (sym (same c)) ∙ ap not e
+
+-- the search starts with the frame that is tried after no other
+starts-at : (p : Pool) {r : ℕ} → 0 < total p → r ≡ firstOf (p .last) (total p) → r ≡ tried p 0
+starts-at p h e = e ∙ sym (mod-eq-of-lt (first-in (p .last) (total p) h)) ∙ ap (λ (x : ℕ). x % total p) (omega (arith, first-of p))
+
+-- after the frame that is tried n-th comes the one that is tried next
+goes-on : (p : Pool) (n : ℕ) {f r : ℕ} → f ≡ tried p n → r ≡ (f + 1) % total p → r ≡ tried p (n + 1)
+goes-on p n e m =
+    m ∙ ap (λ (x : ℕ). (x + 1) % total p) e ∙ mod-add-mod (firstTried p + n) (total p) 1 ∙ ap (λ (x : ℕ). x % total p) (omega arith)
 
 -- a frame that is referenced is passed over
-past : (c : Turn) (n : ℕ) → n ≡ c .before .frames .n → referenced (poolAt c) (frameAt c) ≡ true → Searching (poolAt c) (n + 1)
-past c n e u = rw e (misses (c .before .frames .inv) (c .frames-test .taken) refl (tested c true u))
+past : (c : Moved) (n : ℕ) → n ≡ c .before .before .frames .counter → referenced (poolAt (c .before)) (frameAt (c .before)) ≡ true →
+    Trying (poolAt (c .before)) (c .tried-after .result) (n + 1)
+past c n e u =
+    let t = c .before in
+    rw e (
+      goes-on (poolAt t) (t .before .frames .counter) (same t) (c .tried-after .ensures),
+      misses (t .before .frames .inv .1) (t .frames-test .taken) refl (tested t true u),
+    )
 
 no-slot : (c : Past-slots) → inSlots (poolAt (turn c)) (frameAt (turn c)) ≡ false
 no-slot c = sym (ends (c .before .loop .inv .1) (c .loop-test .left))
@@ -125,13 +156,13 @@ first-tried-requires c κs = let h = c .pre .some-slot in omega arith
 
 frames-holds :
     tie.Need-frames-holds Inv-loop μ-loop Inv-loop2 μ-loop2 Inv-loop3 μ-loop3 Inv-frames μ-frames
-frames-holds c = begins _ _ _ _
+frames-holds c =
+    let h = c .before .pre .some-slot in
+    (starts-at (given (c .before)) (omega arith) (c .first-tried .ensures), begins _ _ _ _)
 
-add-f : tie.Need-add-f Inv-loop μ-loop Inv-loop2 μ-loop2 Inv-loop3 μ-loop3 Inv-frames μ-frames
-add-f c = let h = first-in (poolAt c .last) (total (poolAt c)) (omega arith) in omega (arith, c .before .before .first-tried .ensures)
-
-cast-f : tie.Need-cast-f Inv-loop μ-loop Inv-loop2 μ-loop2 Inv-loop3 μ-loop3 Inv-frames μ-frames
-cast-f c = let h : frameAt c < total (poolAt c) = mod-lt _ (omega arith) in omega arith
+tried-after-requires :
+    tie.Need-tried-after-requires Inv-loop μ-loop Inv-loop2 μ-loop2 Inv-loop3 μ-loop3 Inv-frames μ-frames
+tried-after-requires c κs = let h : tried (poolAt c) (c .before .frames .counter) < total (poolAt c) = mod-lt _ (omega arith) in omega (arith, same c)
 
 loop-holds :
     tie.Need-loop-holds Inv-loop μ-loop Inv-loop2 μ-loop2 Inv-loop3 μ-loop3 Inv-frames μ-frames
@@ -142,11 +173,11 @@ frames-again :
 unfolding referenced slot either choose
 frames-again c =
     let l = c .before .before .before in
-    let t = l .before in
+    let t = l .before .before in
     let h = c .before .before .loop-test .taken in
     let hit : inSlots (poolAt t) (frameAt t) ≡ true =
     sym (hit (l .loop .inv .1) h refl (reads-as (element (poolAt t .slots) _ none _ h) (c .if1 .taken))) in
-    past t (l .loop .n) (l .loop .inv .0) (simp hit)
+    past (l .before) (l .loop .counter) (l .loop .inv .0) (simp hit)
 
 loop-again :
     tie.Need-loop-again Inv-loop μ-loop Inv-loop2 μ-loop2 Inv-loop3 μ-loop3 Inv-frames μ-frames
@@ -154,7 +185,7 @@ unfolding slot
 loop-again c =
     let l = c .before .before .before in
     let h = c .before .before .loop-test .taken in
-    let other = reads-other (element (poolAt (l .before) .slots) _ none _ h) (c .if1 .left) in
+    let other = reads-other (element (poolAt (l .before .before) .slots) _ none _ h) (c .if1 .left) in
     (l .loop .inv .0, misses (l .loop .inv .1) h refl other)
 
 loop2-holds :
@@ -171,7 +202,7 @@ frames-again-2 c =
     let h = c .before .before .loop2-test .taken in
     let hit : inTable (poolAt t) (frameAt t) ≡ true =
     sym (hit (l .loop2 .inv .1) h refl (reads-as (element (poolAt t .«table_frames») _ none _ h) (c .if2 .taken))) in
-    past t (l .loop2 .n) (l .loop2 .inv .0 ∙ s .before .loop .inv .0) (simp (no-slot s, hit))
+    past (moved s) (l .loop2 .counter) (l .loop2 .inv .0 ∙ s .before .loop .inv .0) (simp (no-slot s, hit))
 
 loop2-again :
     tie.Need-loop2-again Inv-loop μ-loop Inv-loop2 μ-loop2 Inv-loop3 μ-loop3 Inv-frames μ-frames
@@ -206,7 +237,7 @@ frames-again-3 c =
     let hit : named (poolAt t) (frameAt t) ≡ true =
     sym (hit (l .loop3 .inv .1) h refl (answered (poolAt t) (frameAt t) (l .loop3 .c) h (c .before .names .ensures) (c .if3 .taken))) in
     let same-turn = l .loop3 .inv .0 ∙ e .before .loop2 .inv .0 ∙ s .before .loop .inv .0 in
-    past t (l .loop3 .n) same-turn (simp (no-slot s, no-entry e, hit))
+    past (moved s) (l .loop3 .counter) same-turn (simp (no-slot s, no-entry e, hit))
 
 loop3-again :
     tie.Need-loop3-again Inv-loop μ-loop Inv-loop2 μ-loop2 Inv-loop3 μ-loop3 Inv-frames μ-frames
@@ -225,19 +256,19 @@ returns c =
     let t = turn s in
     let nobody : named (poolAt t) (frameAt t) ≡ false = sym (ends (c .before .loop3 .inv .1) (c .loop3-test .left)) in
     let free : referenced (poolAt t) (frameAt t) ≡ false = simp (no-slot s, no-entry e, nobody) in
-    sym (same t) ∙ hit (t .before .frames .inv) (t .frames-test .taken) refl (tested t false free)
+    same t ∙ hit (t .before .frames .inv .1) (t .frames-test .taken) refl (tested t false free)
 
 returns-2 :
     tie.Need-returns-2 Inv-loop μ-loop Inv-loop2 μ-loop2 Inv-loop3 μ-loop3 Inv-frames μ-frames
 unfolding freeFrame
-returns-2 c = ends (c .before .frames .inv) (c .frames-test .left)
+returns-2 c = ends (c .before .frames .inv .1) (c .frames-test .left)
 
 pub free-frame-spec : {M : Type 1} → statement M
 free-frame-spec =
     tie.close
     (tie.spec
-    Inv-loop μ-loop Inv-loop2 μ-loop2 Inv-loop3 μ-loop3 Inv-frames μ-frames (λ c. search needs) (λ c. search needs)
-    first-tried-requires frames-holds add-f (λ c. search needs) cast-f loop-holds (λ c. search needs) (λ c. search needs)
+    Inv-loop μ-loop Inv-loop2 μ-loop2 Inv-loop3 μ-loop3 Inv-frames μ-frames (λ c. search needs) (λ c. search needs) (λ c. search needs)
+    first-tried-requires frames-holds tried-after-requires loop-holds (λ c. search needs) (λ c. search needs)
     (λ c. search needs) frames-again (λ c. search needs) (λ c. search needs) loop-again loop2-holds (λ c. search needs) (λ c. search needs)
     (λ c. search needs) frames-again-2 (λ c. search needs) (λ c. search needs) loop2-again loop3-holds (λ c. search needs) (λ c. search needs)
     names-requires (λ c. search needs) (λ c. search needs) frames-again-3 (λ c. search needs) (λ c. search needs) loop3-again returns returns-2)
