@@ -15,7 +15,8 @@ use pool::HELD;
 use pool::NONE;
 use pool::SLOTS;
 
-// Where the search starts (SPECIFICATION 2.8). For a call in place `last` may be any byte, so this is the remainder and no comparison.
+// Where the search starts (SPECIFICATION 2.8). In a step in place `last` may be any byte, so a comparison would not do; one more than it fits, as
+// 255 is NONE.
 fn first_tried(last: u8, total: u8) -> u8
     requires { ⌜ 0 < total ⌝ }
     ensures { λ r. ⌜ r ≡ firstOf last total ⌝ }
@@ -80,6 +81,7 @@ pub fn free_frame<'a>(
     let places = total as usize;
     let mut next = first_tried(last, total);
     'frames: for _ in 0..total {
+        // The position moves on first, since the loops below leave the turn by its label.
         let f = next;
         next = tried_after(f, total);
         for i in 0..slot_count {

@@ -36,7 +36,7 @@ named p f = some (names p f) (clientCount p)
 abbrev Searching : Pool → ℕ → Type 0
 Searching p n = Left (λ x. not (referenced p (tried p x))) (tried p) none (total p) n
 
--- and the n-th frame is f
+-- and frame f is the one that is tried then
 abbrev Trying : Pool → ℕ → ℕ → Type 0
 Trying p f n = (f ≡ tried p n) × Searching p n
 
@@ -94,13 +94,13 @@ moved c = c .before .before
 abbrev turn : Past-slots → Turn
 turn c = moved c .before
 
-abbrev given : Given → Pool
-given c =
+abbrev poolGiven : Given → Pool
+poolGiven c =
     let a = c .args in
     searchedIn (a .size) (a .client-count) (a .last) (now (a .slots)) (now (a .table-frames)) (a .t6) (now (a .grant-frames))
 
 abbrev poolAt : Turn → Pool
-poolAt c = given (c .before .before .before)
+poolAt c = poolGiven (c .before .before .before)
 
 -- the frame of the turn: the code's, which by the invariant is the definition's
 abbrev frameAt : Turn → ℕ
@@ -116,7 +116,7 @@ tested c b e = ap (λ (f : ℕ). not (referenced (poolAt c) f)) (sym (same c)) �
 starts-at : (p : Pool) {r : ℕ} → 0 < total p → r ≡ firstOf (p .last) (total p) → r ≡ tried p 0
 starts-at p h e = e ∙ sym (mod-eq-of-lt (first-in (p .last) (total p) h)) ∙ ap (λ (x : ℕ). x % total p) (omega (arith, first-of p))
 
--- after the frame that is tried n-th comes the one that is tried next
+-- one frame further is the one that is tried after n + 1 others
 goes-on : (p : Pool) (n : ℕ) {f r : ℕ} → f ≡ tried p n → r ≡ (f + 1) % total p → r ≡ tried p (n + 1)
 goes-on p n e m =
     m ∙ ap (λ (x : ℕ). (x + 1) % total p) e ∙ mod-add-mod (firstTried p + n) (total p) 1 ∙ ap (λ (x : ℕ). x % total p) (omega arith)
@@ -158,7 +158,7 @@ frames-holds :
     tie.Need-frames-holds Inv-loop μ-loop Inv-loop2 μ-loop2 Inv-loop3 μ-loop3 Inv-frames μ-frames
 frames-holds c =
     let h = c .before .pre .some-slot in
-    (starts-at (given (c .before)) (omega arith) (c .first-tried .ensures), begins _ _ _ _)
+    (starts-at (poolGiven (c .before)) (omega arith) (c .first-tried .ensures), begins _ _ _ _)
 
 tried-after-requires :
     tie.Need-tried-after-requires Inv-loop μ-loop Inv-loop2 μ-loop2 Inv-loop3 μ-loop3 Inv-frames μ-frames
