@@ -3,8 +3,8 @@
 usage: python3 bench/schedules.py SLOTS CLIENTS > schedule
 
 Clients are stepped in random order; a resting one begins on one of a third
-more pages than there are slots, or releases a page it holds. The same numbers
-always give the same bytes.
+more pages than there are slots, one that it does not hold, or releases a page
+it holds. The same numbers always give the same bytes.
 """
 
 import pathlib
@@ -27,7 +27,7 @@ def schedule(slots, clients):
         elif held and (len(held) > 2 or dice.chance(1, 2)):
             script.release(client, dice.pick(held))
         else:
-            script.begin(client, dice.below(slots * 4 // 3 + 1))
+            script.begin(client, dice.pick([page for page in range(slots * 4 // 3 + 1) if page not in held]))
     return bytes(script.data)
 
 

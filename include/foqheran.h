@@ -83,7 +83,8 @@ enum {
     FOQHERAN_FEW_ROWS = 14,
     FOQHERAN_ALL_BUSY = 15, // every slot was in use when the client came by: to be tried again after some release
     FOQHERAN_OUTSIDE_STORE = 16,
-    FOQHERAN_OUTSIDE_PAGE = 17 // the offset is
+    FOQHERAN_OUTSIDE_PAGE = 17, // the offset is
+    FOQHERAN_HELD_ALREADY = 18 // the page can be used as it is, and is to be released once
 };
 
 static inline uint32_t foqheran_code(foqheran_answer answer)
@@ -116,7 +117,7 @@ static inline int foqheran_is_refused(foqheran_answer answer)
     return foqheran_code(answer) > FOQHERAN_REFUSED;
 }
 
-// The number of the refusal, 8 to 17; 0 where nothing was refused.
+// The number of the refusal, 8 to 18; 0 where nothing was refused.
 static inline uint32_t foqheran_refusal(foqheran_answer answer)
 {
     return foqheran_is_refused(answer) ? foqheran_code(answer) - FOQHERAN_REFUSED : 0;
@@ -148,6 +149,8 @@ static inline const char *foqheran_refusal_text(foqheran_answer answer)
         return "the page is outside the store";
     case FOQHERAN_OUTSIDE_PAGE:
         return "the offset is 64 or more";
+    case FOQHERAN_HELD_ALREADY:
+        return "the client holds this page already";
     default:
         return "no such refusal";
     }
@@ -208,7 +211,7 @@ struct foqheran_tally {
     uint32_t counts[FOQHERAN_COUNTS];
 };
 
-// A row of a holdings list: a page, and how many grants of it the client has, 1 to 8.
+// A row of a holdings list: a page, and how many grants of it the client has, which is always 1.
 struct foqheran_row {
     uint32_t page;
     uint32_t times;
@@ -340,7 +343,7 @@ static inline size_t foqheran_frames(const struct foqheran_pool *pool)
     return FOQHERAN_FRAMES((size_t)pool->size, (size_t)pool->client_count);
 }
 
-// The client, so far at rest, wants a page. Done with the page, or refused by 8, 9, 10, 12 or 16. Steps do the rest.
+// The client, so far at rest, wants a page. Done with the page, or refused by 8, 9, 10, 12, 16 or 18. Steps do the rest.
 static inline foqheran_answer foqheran_begin(struct foqheran_pool *pool, uint8_t client, uint32_t page)
 {
     return foqheran_parts_begin(client, page, pool->store_pages, FOQHERAN_LEND(pool));
@@ -365,15 +368,14 @@ static inline foqheran_answer foqheran_step(struct foqheran_pool *pool, uint8_t 
                                pool->changed, FOQHERAN_LEND(pool));
 }
 
-// Of the client's grants of a page one ends. Done with the page, or refused by 8, 9, 10 or 13. A page that was granted
-// twice is released twice.
+// The client's grant of a page ends. Done with the page, or refused by 8, 9, 10 or 13.
 static inline foqheran_answer foqheran_release(struct foqheran_pool *pool, uint8_t client, uint32_t page)
 {
     return foqheran_parts_release(client, page, FOQHERAN_LEND(pool));
 }
 
 // A begin, and steps until they are answered: granted with the frame, or refused by the first number that refuses: 8,
-// 9, 10, 12, 15 or 16. A store of another length than at setup is refused by 8 before the begin. Nobody else can be
+// 9, 10, 12, 15, 16 or 18. A store of another length than at setup is refused by 8 before the begin. Nobody else can be
 // stepped meanwhile. It carries out no duty: it is for programs whose pages are in the store. That there is an answer
 // in the end is what the method is made for, but so far no part of what is proved; on a pool from elsewhere it may step
 // for ever.

@@ -89,23 +89,31 @@ def must_be(found, expected, what):
         sys.exit("%s is %s and not %s: the edge file is not what it says" % (what, found, expected))
 
 
-def most_pins():
-    """16 clients hold 8 grants each of one page, pins 128: the most there can be.
+def pins(script):
+    """The pins of the frame in each slot."""
+    return [frame.pinning for frame in script.pool.cache.CLOCKBUF.POOL]
 
-    Each is refused one more by 12, and then gives its grants back. The page
-    is swapped out after all, once a sweep has lowered its count to 0.
+
+def most_pins():
+    """16 clients hold the same 8 pages, 16 pins each and 128 grants: the most there can be.
+
+    Each begins a page again as soon as it has it: 18 refuses the first seven,
+    12 the eighth. All give theirs back, and a page is swapped out after all,
+    once a sweep has lowered its count to 0.
     """
-    script = generate.Script(1, 16, 100, 0)
-    for client in 8 * tuple(range(16)):
-        script.fix(client, 9)
-    must_be(script.pool.cache.frames[0].pinning, 128, "the pins")
-    for client in range(16):
-        script.begin(client, 9)
-    for client in 8 * tuple(range(16)):
-        script.release(client, 9)
-    must_be(script.pool.cache.frames[0].pinning, 0, "the pins")
-    script.fix(0, 5)
-    must_be(script.held(0), [5], "the held pages")
+    script = generate.Script(8, 16, 100, 0)
+    grants = [(client, page) for page in range(8) for client in range(16)]
+    for client, page in grants:
+        script.fix(client, page)
+        script.begin(client, page)
+    must_be(pins(script), 8 * [16], "the pins")
+    for client, page in grants:
+        script.release(client, page)
+    must_be(pins(script), 8 * [0], "the pins")
+    script.fix(0, 9)
+    must_be(script.held(0), [9], "the held pages")
+    lines = report(script.data).decode()
+    must_be([lines.count(" %d 0\n" % code) for code in (118, 112)], [7 * 16, 16], "the refusals by 18 and 12")
     return bytes(script.data)
 
 
@@ -136,7 +144,7 @@ def edge_files():
     yield "16,384 zero bytes", bytes(16384)
     yield "hand wraps", hand_wraps()
     yield "frames go round", frames_go_round()
-    yield "128 pins", most_pins()
+    yield "16 pins and 128 grants", most_pins()
     yield "count 100", most_references()
 
 

@@ -159,7 +159,7 @@ def header():
         run([compiler, *language, *WARNINGS, "-I", READY / "include", "-fsyntax-only", "-"],
             input=b'#include "foqheran.h"\n')
     text = (READY / "include" / "foqheran.h").read_text()
-    for number in range(8, 18):
+    for number in range(8, 19):
         if '"%s"' % words.REFUSALS[number] not in text:
             raise Failed("the header has no text '%s' for refusal %d" % (words.REFUSALS[number], number))
     for way in (MEMORY_CHECKED, AS_CPP):

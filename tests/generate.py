@@ -16,6 +16,7 @@ What kind of file a seed gives goes by a fixed rotation of 60 (ROTATION), so
 that the rare kinds come up regularly; all else is drawn from the seed.
 """
 
+import collections
 import random
 import struct
 import sys
@@ -96,7 +97,7 @@ class Script:
         return self.clients[client].request is not None
 
     def held(self, client):
-        """The pages the client holds, one twice if granted twice."""
+        """The pages the client holds."""
         return [page for page, _ in self.clients[client].grants]
 
     def until(self, client, stage):
@@ -208,16 +209,20 @@ def sensible_call(dice, script, client, pages, greed):
     """A step if the client works, else a begin or a release.
 
     The greed, 0 to 10, says how willingly a client that holds a page wants
-    another one before it gives any back.
+    another one before it gives any back. One time in ten it forgets what it
+    holds and begins that again, which is refused by 18.
     """
-    held = script.held(client)
     if script.works(client):
         script.step(client)
-    elif held and (len(held) == second.MOST_GRANTS
-                   or not dice.chance(greed, 10)):
+        return
+    held = script.held(client)
+    others = [page for page in pages if page not in held]
+    if held and (len(held) == second.MOST_GRANTS or not others
+                 or not dice.chance(greed, 10)):
         script.release(client, dice.pick(held))
     else:
-        script.begin(client, dice.pick(pages))
+        again = held and dice.chance(1, 10)
+        script.begin(client, dice.pick(held if again else others))
 
 
 def silly_call(dice, script, pages):
@@ -333,7 +338,8 @@ def race_for_slots(dice):
     """All want one page of an empty pool, in lockstep.
 
     One lowers the number of free slots and the others try again (6 to 5);
-    one maps the page and the others join it (18 to 21).
+    one maps the page and the others join it (18 to 21). Then all want it once
+    more, and those that have it are refused by 18.
     """
     script = draw_script(dice, slots=dice.between(1, 8),
                          clients=dice.between(2, 16))
@@ -344,6 +350,8 @@ def race_for_slots(dice):
         for client in range(len(script.clients)):
             if script.works(client):
                 script.step(client)
+    for client in range(len(script.clients)):
+        script.begin(client, page)
     return play_on(dice, script)
 
 
@@ -380,22 +388,22 @@ def pinned_at_the_last_moment(dice):
 def two_lower_one_count(dice):
     """Two sweeps lower the count of one frame, the second finds it at 0.
 
-    Then the frame is pinned and its count raised twice, and both sweeps go
-    on; how far shows whether the count stayed at 0.
+    Then two others pin the frame and raise its count, and both sweeps go on;
+    how far shows whether the count stayed at 0.
     """
     script = draw_script(dice, slots=dice.between(1, 3),
-                         clients=dice.between(3, 5), cap=dice.between(2, 4))
+                         clients=dice.between(4, 6), cap=dice.between(2, 4))
     pages = fill(dice, script, 2)
     for client in (0, 1):
         script.begin(client, pages[client])
         script.until(client, 14)
     wanted = script.clients[0].e.key
-    for _ in range(2):
-        script.fix(2, wanted)
+    for client in (2, 3):
+        script.fix(client, wanted)
     script.step(0)
     script.step(1)
-    for _ in range(2):
-        script.release(2, wanted)
+    for client in (2, 3):
+        script.release(client, wanted)
     script.finish(dice.below(2))
     return play_on(dice, script)
 
@@ -486,15 +494,23 @@ def all_held(dice):
 
 
 def eight_grants(dice):
-    """A client gets as many grants as it may hold, and wants one more."""
-    script = draw_script(dice, slots=dice.between(1, 9))
-    pages = draw_pages(dice, min(script.slots, dice.between(1, 8)))
+    """A client gets as many grants as it may hold, and wants one more.
+
+    Another page is refused by 12, and so is one that it holds. After a
+    release that one is refused by 18, and by 10 while the other is on its way.
+    """
+    script = draw_script(dice, slots=dice.between(second.MOST_GRANTS, 12))
+    *pages, ninth = draw_pages(dice, second.MOST_GRANTS + 1)
     client = dice.below(len(script.clients))
-    while len(script.held(client)) < second.MOST_GRANTS and script.room():
-        script.fix(client, dice.pick(pages))
-    script.begin(client, dice.pick(pages))
-    script.release(client, dice.pick(script.held(client)))
-    script.fix(client, dice.pick(pages))
+    for page in pages:
+        script.fix(client, page)
+    for page in (ninth, dice.pick(pages)):
+        script.begin(client, page)
+    script.release(client, dice.pick(pages))
+    again = dice.pick(script.held(client))
+    for page in (again, ninth, again):
+        script.begin(client, page)
+    script.finish(client)
     return play_on(dice, script)
 
 
@@ -527,6 +543,8 @@ def go_round(dice, script):
     for number in range(2 * frames if resting else 0):
         client = dice.pick(resting)
         page = pages[number % len(pages)]
+        if page in script.held(client):
+            continue  # the release below would end a grant that is to stay
         before = script.pool.cache.taken
         script.fix(client, page)
         script.release(client, page)
@@ -883,10 +901,14 @@ TURNED_DOWN = (
     "9 client 255",
     "10 begin at a working client",
     "10 release at a working client",
+    "10 before 18",
     "11 step at a resting client",
     "12 ninth grant",
+    "12 before 18",
     "13 release of a page not held",
     "15 pool full",
+    "18 begin of a page held",
+    "18 begin of a page others hold, too",
 )
 
 
@@ -953,27 +975,44 @@ def endings_met(schedule, records, refusal):
                 yield "8 %s too large" % name
 
 
+def in_words(refusal, kind, client, holders):
+    """A refusal in the words of TURNED_DOWN, by who holds the call's page."""
+    call = {second.BEGIN: "begin", second.STEP: "step",
+            second.RELEASE: "release"}[kind]
+    yield {9: "9 %s, client T or more" % call,
+           10: "10 %s at a working client" % call,
+           11: "11 step at a resting client",
+           12: "12 ninth grant",
+           13: "13 release of a page not held",
+           15: "15 pool full",
+           18: "18 begin of a page held"}[refusal]
+    if client == 255:
+        yield "9 client 255"
+    if kind == second.BEGIN and client in holders:
+        if refusal < 18:
+            yield "%d before 18" % refusal
+        elif len(holders) > 1:
+            yield "18 begin of a page others hold, too"
+
+
 def turned_down(schedule, report):
     """The refusals a run went on after, in the words of TURNED_DOWN."""
+    wanted, holders = {}, collections.defaultdict(set)  # by client, by page
     for line in report.splitlines():
         number, client, code, _ = map(int, line.split())
         refusal = code - second.REFUSAL
-        if refusal < 9:
-            continue
-        kind = record_at(schedule, number)[2]
-        name = {second.BEGIN: "begin", second.STEP: "step",
-                second.RELEASE: "release"}[kind]
-        if refusal == 9:
-            yield "9 %s, client T or more" % name
-            if client == 255:
-                yield "9 client 255"
-        elif refusal == 10:
-            yield "10 %s at a working client" % name
-        else:
-            yield {11: "11 step at a resting client",
-                   12: "12 ninth grant",
-                   13: "13 release of a page not held",
-                   15: "15 pool full"}[refusal]
+        if 0 < refusal < 9:
+            break  # the run ended, by a record that may be cut
+        kind, _, page = struct.unpack("<BBI",
+                                      record_at(schedule, number)[2:8])
+        if refusal > 0:
+            yield from in_words(refusal, kind, client, holders[page])
+        elif code == second.GRANTED:
+            holders[wanted[client]].add(client)
+        elif kind == second.BEGIN:
+            wanted[client] = page
+        elif kind == second.RELEASE:
+            holders[page].remove(client)
 
 
 class Count:

@@ -133,7 +133,7 @@ class Client:
     """
 
     def __init__(self):
-        self.grants = []  # a pair (page, frame) for each
+        self.grants = []  # a pair (page, frame) for each, no page twice
         self.rest()
 
     def rest(self):
@@ -150,6 +150,10 @@ class Client:
     def names(self):
         return (self.entry, self.newEntry, self.e, self.removed,
                 self.prevEntry)
+
+    def held(self, page):
+        """The frame of the client's grant of the page; None without one."""
+        return dict(self.grants).get(page)
 
 
 # Figure 4, right half.
@@ -352,6 +356,8 @@ class Pool:
             raise Refused(10)
         if len(client.grants) >= MOST_GRANTS:
             raise Refused(12)
+        if client.held(page) is not None:
+            raise Refused(18)
         client.page = page
         client.request = self.cache.fixEntry(client, page)
         client.stage = next(client.request)  # runs up to "yield 1"
@@ -375,28 +381,28 @@ class Pool:
         return WORKING, client.stage
 
     def release(self, number, page):
-        """End one of the client's grants of the page."""
+        """End the client's grant of the page."""
         client = self.client(number)
         if client.request is not None:
             raise Refused(10)
-        for grant in client.grants:
-            if grant[0] == page:
-                client.grants.remove(grant)
-                grant[1].unpin()
-                return DONE, page
-        raise Refused(13)
+        frame = client.held(page)
+        if frame is None:
+            raise Refused(13)
+        client.grants.remove((page, frame))
+        frame.unpin()
+        return DONE, page
 
     def holdings(self, number, rows):
         """Write the client's pages over the front of rows, lowest first.
 
-        A row is a pair (page, times). A running request counts for nothing.
+        A row is a pair (page, times), and times is always 1: begin refuses
+        a page the client holds. A running request counts for nothing.
         """
-        pages = [page for page, _ in self.client(number).grants]
-        held = [(page, pages.count(page)) for page in sorted(set(pages))]
-        if len(held) > len(rows):
+        pages = sorted(page for page, _ in self.client(number).grants)
+        if len(pages) > len(rows):
             raise Refused(14)
-        rows[:len(held)] = held
-        return len(held)
+        rows[:len(pages)] = [(page, 1) for page in pages]
+        return len(pages)
 
     def client(self, number):
         if number >= len(self.clients):

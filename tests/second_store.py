@@ -160,7 +160,7 @@ class StorePool(Pool):
         self.pages = pages
 
     def begin(self, number, page):
-        """As in second.py, which refuses by 10 and 12; then comes 16."""
+        """As in second.py, with 16 after its 10 and 12 and before its 18."""
         client = self.client(number)
         may = client.request is None and len(client.grants) < MOST_GRANTS
         if may and self.pages > 0 and page >= self.pages:
@@ -199,7 +199,7 @@ class StorePool(Pool):
         client = self.client(number)
         if client.request is not None:
             raise Refused(10)
-        frame = dict(client.grants).get(page)
+        frame = client.held(page)
         if frame is None:
             raise Refused(13)
         if page >= self.pages:
@@ -415,6 +415,15 @@ TO_17 = [4, 5, 10, 11, 12, 13, 14, 15, 16, 17]
 
 ADMITTED = books("0 0 1 0 0 0", ["0x1"])  # page 0, to the one client
 
+
+def sevenPages():
+    """Pages 6 down to 0, granted to client 0 in empty slots."""
+    for frame, page in enumerate(reversed(range(7))):
+        yield "begin 0 %d" % page, "0 %d" % page
+        yield "step 0", TO_EMPTY_SLOT
+        yield "step 0", "2 %d" % frame
+
+
 EXAMPLES = [
     example("A read fills, a write marks; refusals 10, 17, 13, 16 and 9.",
             ("setup 1 1 3 0 64", "0 1"),
@@ -520,9 +529,9 @@ EXAMPLES = [
             ("read 7 0 0", "109 0"),
             ("write 0 0 0 1", "110 0"),
             ("step 0", [4, 5])),
-    example("An admission, a join, a hit and a refusal by 15 are counted, and "
-            "rows rise; a drop is counted at 17 and not at 14, nor at a 17 "
-            "refused by 8 or one that meets a frame given up.",
+    example("An admission, a join, a hit and a refusal by 15 are counted, one "
+            "by 18 is not, and rows rise; a drop is counted at 17 and not at "
+            "14, nor at a 17 refused by 8 or one that meets a frame given up.",
             ("setup 2 2 3 0 0", "0 2"),
             ("begin 0 9", "0 9"),
             ("begin 1 9", "0 9"),
@@ -531,6 +540,8 @@ EXAMPLES = [
             ("step 0", "2 0"),
             ("step 1", [19, 20, 21]),
             ("step 1", "2 0"),
+            ("begin 0 9", "118 0"),
+            ("release 0 9", "0 9"),
             ("begin 0 9", "0 9"),
             ("step 0", [2, 3]),
             ("step 0", "2 0"),
@@ -541,28 +552,29 @@ EXAMPLES = [
             ("step 0", [4, 5, 10, 11, 12, 11, 12]),
             ("step 0", "115 0"),
             ("step 0", "111 0"),
+            ("begin 0 9", "118 0"),
             ("dump", zeros(6) + "\n- " + row(5)
-             + books("1 1 2 0 0 1", ["9x2"], ["5x1", "9x1"])),
+             + books("1 1 2 0 0 1", ["9x1"], ["5x1", "9x1"])),
             ("release 1 5", "0 5"),
             ("begin 1 7", "0 7"),
             ("step 1", [4, 5, 10, 11, 12, 11, 12, 13, 14]),
             ("lend 64", ""),
             ("step 1", "108 0"),
             ("dump", zeros(6) + "\n- " + row(5)
-             + books("1 1 2 0 0 1", ["9x2"], ["9x1"])),
+             + books("1 1 2 0 0 1", ["9x1"], ["9x1"])),
             ("lend 0", ""),
             ("step 1", [15]),
             ("dump", zeros(6) + "\n- " + row(5)
-             + books("1 1 2 0 0 1", ["9x2"], ["9x1"])),
+             + books("1 1 2 0 0 1", ["9x1"], ["9x1"])),
             ("step 1", [16, 17]),
             ("lend 64", ""),
             ("step 1", "108 0"),
             ("dump", zeros(6) + "\n- " + row(5)
-             + books("1 1 2 0 0 1", ["9x2"], ["9x1"])),
+             + books("1 1 2 0 0 1", ["9x1"], ["9x1"])),
             ("lend 0", ""),
             ("step 1", [18]),
             ("dump", zeros(6) + "\n- " + row(5)
-             + books("1 1 2 0 1 1", ["9x2"], ["9x1"]))),
+             + books("1 1 2 0 1 1", ["9x1"], ["9x1"]))),
     example("A page evicted and revived before the 17 is no drop; it is one "
             "when it leaves later.",
             ("setup 2 2 3 0 0", "0 2"),
@@ -610,17 +622,17 @@ EXAMPLES = [
             ("begin 0 9", "0 9"),
             ("step 0", TO_EMPTY_SLOT),
             ("step 0", "2 0"),
+            ("release 0 9", "0 9"),
             ("begin 0 9", "0 9"),
             ("step 0", [2, 3]),
             ("step 0", "2 0"),
+            ("release 0 9", "0 9"),
             ("begin 0 9", "0 9"),
             ("step 0", [2, 3]),
             ("step 0", "2 0"),
             ("dump", zeros(3) + "\n- " + row(5)
              + books("4294967295 4294967294 4294967295 4294967294 4294967294 "
-                     "4294967294", ["9x3"])),
-            ("release 0 9", "0 9"),
-            ("release 0 9", "0 9"),
+                     "4294967294", ["9x1"])),
             ("release 0 9", "0 9"),
             ("begin 0 5", "0 5"),
             ("step 0", TO_17 + [18]),
@@ -632,6 +644,37 @@ EXAMPLES = [
             ("dump", zeros(3) + "\n- " + row(5)
              + books("4294967295 4294967294 4294967295 4294967294 4294967295 "
                      "4294967294", ["7x1"]))),
+    example("A client cannot begin a page it holds, by 18, after 9, 10 and "
+            "12; another can, and so can the client after its release.",
+            ("setup 8 2 3 0 512", "0 8"),
+            *sevenPages(),
+            ("begin 0 2", "118 0"),
+            ("step 0", "111 0"),
+            ("begin 0 8", "116 0"),
+            ("begin 0 7", "0 7"),
+            ("begin 0 2", "110 0"),
+            ("step 0", TO_EMPTY_SLOT),
+            ("begin 0 7", "110 0"),
+            ("step 0", "2 7"),
+            ("begin 0 2", "112 0"),
+            ("begin 0 8", "112 0"),
+            ("begin 2 2", "109 0"),
+            ("begin 1 2", "0 2"),
+            ("step 1", [2, 3]),
+            ("step 1", "2 4"),
+            ("begin 1 2", "118 0"),
+            ("release 0 2", "0 2"),
+            ("release 0 2", "113 0"),
+            ("begin 0 3", "118 0"),
+            ("begin 0 2", "0 2"),
+            ("step 0", [2, 3]),
+            ("step 0", "2 4"),
+            ("release 1 2", "0 2"),
+            ("dump", zeros(12) + "".join("\n- " + row(first) for first in
+                                         (5, 210, 159, 108, 57, 6, 211, 160))
+             + books("2 0 8 0 0 0", ["%dx1" % page for page in range(8)],
+                     [])),
+            ("read 0 2 0", "0 159")),
     example("A setup with a store of 257 pages is refused; nothing follows.",
             ("setup 1 1 3 0 16448", "108 0"),
             ("begin 0 0", ""),

@@ -197,6 +197,9 @@ impl Pool {
         if client.held == 8 {
             return Answer::Refused(12);
         }
+        if client.grants[..client.held].iter().any(|g| g.page == page) {
+            return Answer::Refused(18);
+        }
         client.stage = 1;
         client.page = page;
         Answer::Done(page)

@@ -143,11 +143,12 @@ static void note_grant(uint32_t page, uint32_t frame)
     books[page].frame = frame;
 }
 
-static void begin(uint8_t client, uint32_t page)
+static foqheran_answer begin(uint8_t client, uint32_t page)
 {
     pthread_mutex_lock(&lock);
-    expect_done(foqheran_begin(&pool, client, page), page);
+    foqheran_answer answer = foqheran_begin(&pool, client, page);
     pthread_mutex_unlock(&lock);
+    return answer;
 }
 
 static foqheran_answer step(uint8_t client, uint32_t page)
@@ -206,7 +207,10 @@ struct client {
     uint8_t number;
     uint64_t chance;
     unsigned held;
-    uint32_t pages[MOST_HELD];
+    struct {
+        uint32_t page;
+        struct buffer *buffer;
+    } holds[MOST_HELD];
 };
 
 static uint32_t below(struct client *client, uint32_t bound)
@@ -217,11 +221,26 @@ static uint32_t below(struct client *client, uint32_t bound)
     return (uint32_t)(client->chance >> 33) % bound;
 }
 
+// The buffer of a page that the client holds.
+static struct buffer *held_buffer(const struct client *client, uint32_t page)
+{
+    for (unsigned i = 0; i < client->held; i++) {
+        if (client->holds[i].page == page) {
+            return client->holds[i].buffer;
+        }
+    }
+    fail("said to be held, and is not", page);
+}
+
 // The buffer with the page, or NULL where every slot is in use. Between two actions others may have their turn.
 static struct buffer *get(struct client *client, uint32_t page)
 {
-    begin(client->number, page);
-    foqheran_answer answer = step(client->number, page);
+    foqheran_answer answer = begin(client->number, page);
+    if (foqheran_refusal(answer) == FOQHERAN_HELD_ALREADY) {
+        return held_buffer(client, page);
+    }
+    expect_done(answer, page);
+    answer = step(client->number, page);
     while (foqheran_is_working(answer)) {
         sched_yield();
         answer = step(client->number, page);
@@ -234,14 +253,15 @@ static struct buffer *get(struct client *client, uint32_t page)
     }
     struct buffer *buffer = &buffers[foqheran_value(answer)];
     load_buffer(buffer, page);
-    client->pages[client->held++] = page;
+    client->holds[client->held].page = page;
+    client->holds[client->held++].buffer = buffer;
     return buffer;
 }
 
 static void give_all_back(struct client *client)
 {
     while (client->held > 0) {
-        release(client->number, client->pages[--client->held]);
+        release(client->number, client->holds[--client->held].page);
     }
 }
 

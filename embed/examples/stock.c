@@ -73,11 +73,12 @@ static void note_grant(uint32_t list, uint32_t frame)
     books[list].frame = frame;
 }
 
-static void begin(uint8_t client, uint32_t list)
+static foqheran_answer begin(uint8_t client, uint32_t list)
 {
     pthread_mutex_lock(&lock);
-    expect_done(foqheran_begin(&pool, client, list), list);
+    foqheran_answer answer = foqheran_begin(&pool, client, list);
     pthread_mutex_unlock(&lock);
+    return answer;
 }
 
 static foqheran_answer step(uint8_t client, uint32_t list)
@@ -138,8 +139,12 @@ static uint32_t below(struct client *client, uint32_t bound)
 // Whether the client has the list now. Between two actions others may have their turn.
 static int get(struct client *client, uint32_t list)
 {
-    begin(client->number, list);
-    foqheran_answer answer = step(client->number, list);
+    foqheran_answer answer = begin(client->number, list);
+    if (foqheran_refusal(answer) == FOQHERAN_HELD_ALREADY) {
+        return 1;
+    }
+    expect_done(answer, list);
+    answer = step(client->number, list);
     while (foqheran_is_working(answer)) {
         sched_yield();
         answer = step(client->number, list);

@@ -37,7 +37,7 @@ static void helpers(void)
     MUST(foqheran_is_refused(refused) && foqheran_refusal(refused) == FOQHERAN_ALL_BUSY);
     MUST(!foqheran_is_done(refused) && !foqheran_is_granted(refused) && !foqheran_is_working(refused));
     MUST(foqheran_is_done(9) && foqheran_value(9) == 9 && foqheran_is_granted((uint64_t)FOQHERAN_GRANTED << 32));
-    for (uint32_t i = 8; i <= 17; i++) {
+    for (uint32_t i = 8; i <= 18; i++) {
         for (uint32_t j = 0; j < i; j++) {
             MUST(strcmp(foqheran_refusal_text(refused_by(i)), foqheran_refusal_text(refused_by(j))) != 0);
         }
@@ -107,11 +107,8 @@ static void requests(void)
     MUST(refusal(foqheran_request(&pool, 1, 2, &tally, store, sizeof store)) == FOQHERAN_AT_WORK);
     MUST(refusal(foqheran_step(&pool, 1, NULL, NULL, NULL, sizeof store)) == 8); // no memory for the store
     MUST(foqheran_is_working(foqheran_step(&pool, 1, NULL, NULL, store, sizeof store)));
-    for (int i = 2; i < FOQHERAN_MOST_GRANTS; i++) {
-        MUST(foqheran_is_granted(foqheran_request(&pool, 0, 1, &tally, store, sizeof store)));
-    }
-    MUST(refusal(foqheran_request(&pool, 0, 1, &tally, store, sizeof store)) == FOQHERAN_HAS_EIGHT);
-    MUST(foqheran_value(foqheran_holdings(&pool, 0, rows, 2)) == 2 && rows[0].times == 7);
+    MUST(refusal(foqheran_request(&pool, 0, 1, &tally, store, sizeof store)) == FOQHERAN_HELD_ALREADY);
+    MUST(foqheran_value(foqheran_holdings(&pool, 0, rows, 2)) == 2 && rows[0].times == 1);
 }
 
 // A copy that is put back goes on as the pool did.
@@ -129,6 +126,20 @@ static void snapshots(void)
         memcpy(store, kept_store, sizeof store);
     }
     MUST(answers[0] == answers[1]);
+}
+
+// The ninth grant is refused by 12, also of a page that the client holds.
+static void eight_grants(void)
+{
+    struct foqheran_row rows[FOQHERAN_MOST_GRANTS];
+    MUST(foqheran_is_done(foqheran_setup(&pool, 8, 1, 1, 0, NULL, 0)));
+    for (uint32_t page = 0; page < FOQHERAN_MOST_GRANTS; page++) {
+        MUST(foqheran_is_granted(foqheran_request(&pool, 0, page, NULL, NULL, 0)));
+    }
+    MUST(refusal(foqheran_begin(&pool, 0, 8)) == FOQHERAN_HAS_EIGHT);
+    MUST(refusal(foqheran_begin(&pool, 0, 7)) == FOQHERAN_HAS_EIGHT);
+    MUST(foqheran_value(foqheran_holdings(&pool, 0, rows, FOQHERAN_MOST_GRANTS)) == FOQHERAN_MOST_GRANTS);
+    MUST(rows[7].page == 7 && rows[7].times == 1);
 }
 
 // What the header begins with.
@@ -154,6 +165,7 @@ int main(void)
     setups();
     requests();
     snapshots();
+    eight_grants();
     example();
     return 0;
 }

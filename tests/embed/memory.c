@@ -230,7 +230,7 @@ static _Noreturn void name_the_change(const struct call *call)
 static int may_refuse(unsigned kind, uint32_t number)
 {
     static const uint8_t numbers[KIND_COUNT][7] = {{8},
-                                                   {8, 9, 10, 12, 16},
+                                                   {8, 9, 10, 12, 16, 18},
                                                    {8, 9, 11, 15},
                                                    {8, 9, 10, 13},
                                                    {8, 9, 10, 13, 16, 17},
@@ -370,12 +370,13 @@ static const uint8_t *bytes_of(uint8_t client)
     return now.client_bytes + 8 * (client % 16);
 }
 
-// A page that the client holds, or another.
-static uint32_t some_page(uint8_t client)
+// A page that the client holds, or another: mostly one that such a call is not refused for.
+static uint32_t some_page(unsigned kind, uint8_t client)
 {
     uint8_t held = bytes_of(client)[7];
-    return held == 0 || once_in(3) ? mostly_below(once_in(2) ? 6 : 60, UINT32_MAX)
-                                   : now.grant_pages[8 * (client % 16) + below(held % 9u + 1) % 8];
+    int another = kind == BEGIN ? !once_in(3) : once_in(3);
+    return held == 0 || another ? mostly_below(once_in(2) ? 6 : 60, UINT32_MAX)
+                                : now.grant_pages[8 * (client % 16) + below(held % 9u + 1) % 8];
 }
 
 static size_t some_length(void)
@@ -465,7 +466,8 @@ static unsigned some_kind(uint8_t client)
 static void make_a_call(void)
 {
     uint8_t client = (uint8_t)mostly_below(now.client_count[0] == 0 ? 1 : now.client_count[0], 255);
-    struct call call = {some_kind(client), client, some_page(client), below(ROW_NUMBERS + 1), 0};
+    unsigned kind = some_kind(client);
+    struct call call = {kind, client, some_page(kind, client), below(ROW_NUMBERS + 1), 0};
     make(call);
 }
 

@@ -45,6 +45,19 @@ def answers_to(schedule):
     return report.read_report(second.run(schedule)[0], schedule)
 
 
+def begun_again():
+    """Two clients get one page and begin it again, which is refused; both give
+    it back, and one begins it once more."""
+    script = generate.Script(1, 2, 3, 0)
+    for client in 0, 1:
+        script.fix(client, 9)
+        script.begin(client, 9)
+    for client in 0, 1:
+        script.release(client, 9)
+    script.begin(1, 9)
+    return bytes(script.data)
+
+
 def crowded(slots, clients, calls, pages=None, greed=6):
     """A run with much of everything, on some pages or a drawn number."""
     dice = generate.Dice(slots)

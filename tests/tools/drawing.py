@@ -7,7 +7,7 @@ import generate
 import second
 from checking import need, same
 from columns import SVG, Drawing, corners, form_of, tip_of
-from common import crowded, example
+from common import begun_again, crowded, example
 from scheduling import BadInput, picture, sheet, svg, symbols, text
 
 PICTURE_SEEDS = (0, 1, 4, 7, 16, 20, 24, 25, 27, 35, 44, 50, 54, 57)
@@ -94,7 +94,8 @@ def check_legend(root):
     near([*across, width - sheet.SCREEN / 3], 1.4 * sheet.SCREEN, "a legend")
     down = [y for x, y in sorted(headings(root, "stages")
                                  + headings(root, "slots")) if x == across[0]]
-    near([*sorted(down), height], 1.7 * picture.SCREEN, "a legend")
+    # Rows stand in blocks of up to 1.5 screens, each with a legend above it.
+    near([*sorted(down), height], 1.75 * picture.SCREEN, "a legend")
     texts = list(root.iter(SVG + "text"))
     promised = any("refusal's number" in text.text for text in texts)
     numbers = any(text.get("class").startswith("in-phase") for text in texts)
@@ -205,6 +206,19 @@ def candidates():
     return "draw, a candidate is not drawn as a page"
 
 
+def held_already():
+    """A page that a client begins again: one bar, and an octagon with 18."""
+    drawing = Drawing(begun_again())
+    drawing.check()
+    for client, row in enumerate(rows_of(drawing.root, "client")):
+        same([tip for tip in tips_of([row]) if " holds page " in tip],
+             ["client %d holds page 9 in frame 0" % client], "the bars")
+        same([number for _, number in drawing.texts("client-%d" % client,
+                                                    "in-refusal")],
+             ["18"], "the numbers in octagons")
+    return "draw, a page that two clients hold and begin again"
+
+
 def pushed_aside():
     """A label that has no room before a drop's mark stands after it."""
     script = generate.Script(1, 2, 1, 0)
@@ -304,4 +318,4 @@ def greys():
     return "draw, the phases of stages can be told apart in grey"
 
 
-TESTS = (pictures, candidates, pushed_aside, parts, greys)
+TESTS = (pictures, candidates, held_already, pushed_aside, parts, greys)

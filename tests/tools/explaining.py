@@ -9,7 +9,7 @@ from typing import NamedTuple
 import generate
 import second
 from checking import need, same
-from common import LISTING, answers_to, example
+from common import LISTING, answers_to, begun_again, example
 from played import played
 from scheduling import BadInput, explain, moments, report, words
 
@@ -213,7 +213,7 @@ def explanations():
              > 2**16 for row in rows), "no page above 65535 was granted")
     need(any(row.client == "255" for row in rows), "no client 255 was met")
     same(sorted(words.STAGES), list(range(1, 24)), "the stages with a name")
-    same(sorted(words.REFUSALS), list(range(1, 18)), "the refusals in words")
+    same(sorted(words.REFUSALS), list(range(1, 19)), "the refusals in words")
     return ("explain, seeds 0 to %d: %d rows, totals by client and in all"
             % (SEEDS[-1], len(rows)))
 
@@ -301,6 +301,29 @@ def drops():
         len(DROPS), count + 1)
 
 
+# A page that is begun again.
+
+
+BEGUN = "begin page 9", "wants page 9", "done; now at 1: look up the page"
+HELD = ("begin page 9", "it holds page 9",
+        "refused by 18: the client holds this page already")
+RELEASED = "release page 9"
+
+
+def held_already():
+    """It is refused by 18, the run goes on, and one release is enough."""
+    found = explained(begun_again(), answers_to(begun_again()))
+    same([row[1:] for row in found.rows if row.asked in (BEGUN[0], RELEASED)],
+         [("0", *BEGUN), ("0", *HELD), ("1", *BEGUN), ("1", *HELD),
+          ("0", RELEASED, "frame 0 has 1 pin now", "done"),
+          ("1", RELEASED, "frame 0 has no pins now: nobody holds page 9",
+           "done"), ("1", *BEGUN)], "what is said of page 9")
+    same([row.split()[-4:] for row in found.totals[1:]],
+         [["1", "(1", "by", "18)"], ["1", "(1", "by", "18)"],
+          ["2", "(2", "by", "18)"]], "the refusals of each client and of all")
+    return "explain, a page that two clients hold and begin again"
+
+
 # The pool behind the words.
 
 
@@ -382,4 +405,4 @@ def given_reports():
             % len(WRONG_REPORTS))
 
 
-TESTS = (explanations, drops, pools, given_reports)
+TESTS = (explanations, drops, held_already, pools, given_reports)

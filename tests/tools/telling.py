@@ -27,6 +27,7 @@ STANDS = "frame {was_own} stands in slot {was_place}, a candidate for page {want
 RAISED = "the count of frame {value} is {now_found_count} now"
 AT_CAP = "the count of frame {value} stays {cap}, the cap"
 LOWERED = "the count of page {victim_page} goes from {was_victim_count} to {now_victim_count}"
+HOLDS_ONE, HOLDS_MORE = "it holds page {pages}", "it holds pages {pages}"
 
 # A stage, where its step leads, and the case where there are several.
 SENTENCES = {
@@ -86,10 +87,12 @@ SENTENCES = {
     (9,): "the pool has {clients}",
     (10,): "it stands at {was_stage} and wants page {wanted}",
     (11,): "it has no request",
-    (12,): "it holds pages {pages}",
+    (12,): HOLDS_MORE,
     (13, "none"): "it holds no page",
-    (13, "one"): "it holds page {pages}",
-    (13, "more"): "it holds pages {pages}",
+    (13, "one"): HOLDS_ONE,
+    (13, "more"): HOLDS_MORE,
+    (18, "one"): HOLDS_ONE,
+    (18, "more"): HOLDS_MORE,
     ("the run ended",): "",
 }
 
@@ -166,9 +169,9 @@ class Told:
             return "the run ended",
         if 9 <= self.refusal <= 12:
             return self.refusal,
-        if self.refusal == 13:
+        if self.refusal in (13, 18):
             grants = len(self.was["grants"])
-            return 13, ("none", "one", "more")[min(grants, 2)]
+            return self.refusal, ("none", "one", "more")[min(grants, 2)]
         if self.kind == second.BEGIN:
             return "begin",
         if self.kind == second.RELEASE:
@@ -322,12 +325,14 @@ def taken_again():
 
 
 def one_client():
-    """One client, and none beside it; it holds no page, one, and two."""
+    """One client, and none beside it; it holds no page, one, and two, and
+    begins again what it holds."""
     script = generate.Script(2, 1, 1, 0)
     script.step(1)
     for page in 5, 2**32 - 1:
         script.release(0, 9)
         script.fix(0, page)
+        script.begin(0, page)
     script.release(0, 9)
     return bytes(script.data)
 

@@ -220,7 +220,7 @@ STAGES = (stage1, stage2, stage3, stage4, stage5, stage6, stage7, stage8,
 
 
 def turned_down(call, moment):
-    """What made a refusal by 9 to 13 come about."""
+    """What made a refusal by 9 to 13 or by 18 come about."""
     if call.refusal == 9:
         return "the pool has %s" % words.count(len(moment.clients), "client")
     client = moment.clients[call.client]

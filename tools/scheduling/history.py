@@ -117,20 +117,17 @@ def marks_of(run):
 
 def grants_of(client, calls):
     """The grants of a client, in the order of their answers."""
-    ended, running, page = [], [], None
+    ended, running, page = [], {}, None  # running: by page
     for call in calls:
         if call.client != client:
             continue
         if call.kind == BEGIN and call.code == DONE:
             page = call.page
         elif call.code == GRANTED:
-            running.append(Grant(call.number, None, page, call.value))
-        elif call.code == DONE:  # a release ends the oldest of its page
-            grant = next(grant for grant in running
-                         if grant.page == call.page)
-            running.remove(grant)
-            ended.append(grant._replace(end=call.number))
-    return sorted(ended + running, key=lambda grant: grant.first)
+            running[page] = Grant(call.number, None, page, call.value)
+        elif call.code == DONE:  # a release
+            ended.append(running.pop(call.page)._replace(end=call.number))
+    return sorted([*ended, *running.values()], key=lambda grant: grant.first)
 
 
 class History:

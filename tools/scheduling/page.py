@@ -41,17 +41,12 @@ def settled(places, grants):
 
     The order of grants has no meaning, but on a page they should not move.
     """
-    rest, found = list(grants), []
-    for grant in places:
-        if grant in rest:
-            rest.remove(grant)
-            found.append(grant)
-        else:
-            found.append(None)
-    for grant in rest:
-        if None not in found:
-            found.append(None)
-        found[found.index(None)] = grant
+    found = [grant if grant in grants else None for grant in places]
+    for grant in grants:
+        if grant not in found:
+            if None not in found:
+                found.append(None)
+            found[found.index(None)] = grant
     return found
 
 

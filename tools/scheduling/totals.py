@@ -24,7 +24,7 @@ class Client:
         self.page = None  # what it wants
         self.taken = 0  # steps of the request that runs
         self.steps = []  # of each request that was answered
-        self.held = collections.Counter()  # grants of each page
+        self.held = set()  # its pages
         self.most_held = 0
         self.counts = collections.Counter()
         self.refusals = collections.Counter()
@@ -37,7 +37,7 @@ class Client:
             self.stage, self.page, self.taken = 1, record.page, 0
             self.counts["requests"] += 1
         elif record.kind == RELEASE and answer.code == DONE:
-            self.held[record.page] -= 1
+            self.held.discard(record.page)
         elif answer.code == WORKING:
             self.taken += 1
             self.stage = answer.value
@@ -53,13 +53,9 @@ class Client:
         self.steps.append(self.taken + 1)
         if answer.code == GRANTED:
             self.counts[GRANTS.get(self.stage)] += 1
-            self.held[self.page] += 1
-            self.most_held = max(self.most_held, len(self.pages()))
+            self.held.add(self.page)
+            self.most_held = max(self.most_held, len(self.held))
         self.stage = None
-
-    def pages(self):
-        """The pages that it holds."""
-        return {page for page, times in self.held.items() if times > 0}
 
     def hit_rate(self):
         """Hits among its answered requests, or None without any."""
@@ -114,8 +110,8 @@ class Totals:
             elif answer.refusal:
                 self.strays.refuse(answer.refusal)
             if answer.code == GRANTED:
-                held = (client.pages() for client in self.clients)
-                most_held = max(most_held, len(set().union(*held)))
+                held = set().union(*(client.held for client in self.clients))
+                most_held = max(most_held, len(held))
         self.all = sum_of([*self.clients, self.strays], most_held)
 
     def of(self, record, answer):

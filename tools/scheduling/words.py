@@ -51,6 +51,7 @@ REFUSALS = {
     15: "its sweep met only busy slots",
     16: "the page is outside the store",
     17: "the offset is 64 or more",
+    18: "the client holds this page already",
 }
 
 LAST_TO_END = 8  # refusals up to this number end a run

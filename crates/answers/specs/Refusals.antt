@@ -6,11 +6,11 @@ abbrev pub bySetup : List ℕ
 bySetup = 0 ∷ 8 ∷ []
 
 abbrev pub byBegin : List ℕ
-byBegin = 0 ∷ 8 ∷ 9 ∷ 10 ∷ 12 ∷ []
+byBegin = 0 ∷ 8 ∷ 9 ∷ 10 ∷ 12 ∷ 18 ∷ []
 
 -- with bytes
 abbrev pub byBeginOn : List ℕ
-byBeginOn = 0 ∷ 8 ∷ 9 ∷ 10 ∷ 12 ∷ 16 ∷ []
+byBeginOn = 0 ∷ 8 ∷ 9 ∷ 10 ∷ 12 ∷ 16 ∷ 18 ∷ []
 
 abbrev pub byByte : List ℕ
 byByte = 0 ∷ 8 ∷ 9 ∷ 10 ∷ 13 ∷ 16 ∷ 17 ∷ []

@@ -15,6 +15,7 @@ use Rattle.laws.specs.StageAnswers.{stage-answer}
 use Rattle.answers.specs.Among.{Among}
 use Rattle.answers.specs.Refusals.{bySetup, byBeginOn, byByte, byStep, byRelease}
 use Rattle.calls.specs.Refusals.{pick, turned-refusals, call-refusals, of-answer}
+use Rattle.memory.specs.Orders.{first-either, order-either}
 use Rattle.memory.specs.Requests.{Request, Asks, ReadByte, WriteByte, State, Result, setupOn, firstOf, outsideAt, byteRefusal, turnedAwayBy, refusalOn, actionOn}
 use Rattle.memory.specs.Requests.{callOn, stateOf, reply}
 use Rattle.memory.specs.declared.BufferPool.{BufferPool}
@@ -23,11 +24,6 @@ use Rattle.memory.specs.declared.Reply.{Reply}
 pub setup-refusals : (s t c h : ℕ) (store : List ℕ) → Among bySetup (refusalOf (setupOn s t c h store .answer))
 unfolding setupOn refusalOf
 setup-refusals s t c h store = pick (λ (r : Result). Among bySetup (refusalOf (r .answer))) _ refl refl
-
--- of two numbers the first that is not 0
-first : (ns : List ℕ) (n k : ℕ) → Among ns n → Among ns k → Among ns (firstOf n k)
-unfolding firstOf
-first ns n k a b = pick (Among ns) _ b a
 
 -- what turns a call down, and what its action is refused by
 module _ (ns : List ℕ) (x : State) (r : Request) (eight : Among ns 8) where
@@ -43,9 +39,10 @@ module _ (x : State) where
     pub begin-refusals : Among byBeginOn (refusalOf (callOn x (Asks (Begin c g)) .answer))
     unfolding turnedAwayBy outsideAt actionOn refusalAt moveOf refusalOf
     begin-refusals =
-        let turned : ((k : Client) → Among byBeginOn (refusalAt p k (Begin c g))) = λ k. pick (Among byBeginOn) _ (pick (Among byBeginOn) _ refl refl) refl in
+        let turned : ((k : Client) → Among byBeginOn (refusalAt p k (Begin c g))) =
+        λ k. pick (Among byBeginOn) _ (pick (Among byBeginOn) _ (pick (Among byBeginOn) _ refl refl) refl) refl in
         whole byBeginOn x (Asks (Begin c g)) refl
-        (first byBeginOn _ _ (turned-refusals byBeginOn p (Begin c g) refl refl turned) (pick (Among byBeginOn) _ refl refl))
+        (order-either _ _ (Among byBeginOn) (turned-refusals byBeginOn p (Begin c g) refl refl turned) (pick (Among byBeginOn) _ refl refl))
         (call-refusals byBeginOn p (Begin c g) refl refl turned refl)
 
     pub release-refusals : Among byRelease (refusalOf (callOn x (Asks (Release c g)) .answer))
@@ -53,14 +50,14 @@ module _ (x : State) where
     release-refusals =
         let turned : ((k : Client) → Among byRelease (refusalAt p k (Release c g))) = λ k. pick (Among byRelease) _ (pick (Among byRelease) _ refl refl) refl in
         whole byRelease x (Asks (Release c g)) refl
-        (first byRelease _ _ (turned-refusals byRelease p (Release c g) refl refl turned) refl)
+        (order-either _ _ (Among byRelease) (turned-refusals byRelease p (Release c g) refl refl turned) refl)
         (call-refusals byRelease p (Release c g) refl refl turned (pick (λ (m : Move). Among byRelease (refusalOf (m .answer))) _ refl refl))
 
     -- what turns a read or write down
     byte-turned : (o : ℕ) → Among byByte (firstOf (refusal p (Release c g)) (byteRefusal (x .memory .pages) g o))
     unfolding refusalAt byteRefusal
     byte-turned o =
-        first byByte _ _ (turned-refusals byByte p (Release c g) refl refl (λ k. pick (Among byByte) _ (pick (Among byByte) _ refl refl) refl))
+        first-either _ _ (Among byByte) (turned-refusals byByte p (Release c g) refl refl (λ k. pick (Among byByte) _ (pick (Among byByte) _ refl refl) refl))
         (pick (Among byByte) _ (pick (Among byByte) _ refl refl) refl)
 
     pub read-refusals : (o : ℕ) → Among byByte (refusalOf (callOn x (ReadByte c g o) .answer))
@@ -75,7 +72,7 @@ module _ (x : State) where
   unfolding turnedAwayBy outsideAt actionOn refusalAt moveOf
   step-refusals c =
       let turned : ((k : Client) → Among byStep (refusalAt p k (Step c))) = λ k. pick (Among byStep) _ refl refl in
-      whole byStep x (Asks (Step c)) refl (first byStep _ _ (turned-refusals byStep p (Step c) refl refl turned) refl)
+      whole byStep x (Asks (Step c)) refl (order-either _ _ (Among byStep) (turned-refusals byStep p (Step c) refl refl turned) refl)
       (call-refusals byStep p (Step c) refl refl turned (of-answer (stage-answer p (client p c))))
 
 -- the same of a reply that is a call's, whatever the store

@@ -29,7 +29,8 @@ use Rattle.memory.specs.declared.BufferPool.{BufferPool}
 use Rattle.memory.specs.declared.Memory.{Memory}
 use Rattle.memory.specs.declared.Reply.{Reply}
 use Rattle.memory.specs.Memory.{pageBytes, blank, memoryAfter, storeAfter}
-use Rattle.memory.specs.Requests.{Request, Asks, ReadByte, WriteByte, State, Result, turnedBack, bytesOk, storeOk, firstOf, outsideAt, byteRefusal}
+use Rattle.memory.specs.Orders.{first-some, order-some, order-alone, order-none}
+use Rattle.memory.specs.Requests.{Request, Asks, ReadByte, WriteByte, State, Result, turnedBack, bytesOk, storeOk, inOrder, outsideAt, byteRefusal}
 use Rattle.memory.specs.Requests.{lengthOk, setupOn, inside, lent, turnedAwayBy, refusalOn, refused, writeOf, actionOn, callOn, stateOf, reply}
 
 -- what a call returns that is turned down
@@ -50,25 +51,16 @@ eight n e z = let y : ⊥ = omega arith in y
 
 -- ---- check 8
 
--- what comes first is not 0
-pub first-of : (n k : ℕ) → n ≢ 0 → firstOf n k ≡ n
-unfolding firstOf
-first-of n k z = passed _ _ _ (ne-eqb n 0 z)
-
-pub then-of : (n k : ℕ) → n ≡ 0 → firstOf n k ≡ k
-unfolding firstOf
-then-of n k z = chosen _ _ _ (eq-eqb n 0 z)
-
 -- a pool that does not pass its own check 8 is turned down by it, whichever call it is
-by-8 : (p : Pool) (call : Call) (k : ℕ) → valid p ≡ false → firstOf (refusal p call) k ≡ 8
+by-8 : (p : Pool) (call : Call) → valid p ≡ false → refusal p call ≡ 8
 unfolding refusal
-by-8 p call k v = ap (λ (n : ℕ). firstOf n k) (passed _ _ _ v) ∙ first-of 8 k (eight 8 refl)
+by-8 p call v = passed _ _ _ v
 
 by-valid : (x : State) (r : Request) → valid (x .pool) ≡ false → turnedAwayBy x r ≡ 8
 unfolding turnedAwayBy
-by-valid x (Asks call) v = by-8 (x .pool) call _ v
-by-valid x (ReadByte c g o) v = by-8 (x .pool) (Release c g) _ v
-by-valid x (WriteByte c g o w) v = by-8 (x .pool) (Release c g) _ v
+by-valid x (Asks call) v = rw (by-8 (x .pool) call v) (order-some 8 _ (eight 8 refl) (λ e. let y : ⊥ = omega arith in y))
+by-valid x (ReadByte c g o) v = rw (by-8 (x .pool) (Release c g) v) (first-some 8 _ (eight 8 refl))
+by-valid x (WriteByte c g o w) v = rw (by-8 (x .pool) (Release c g) v) (first-some 8 _ (eight 8 refl))
 
 neither : (a b : Bool) → b ≡ false → both a b ≡ false
 unfolding both choose
@@ -118,9 +110,9 @@ module _ (x : State) (r : Request) where
 -- ---- begin, step, release
 
 -- without its check 8, what turns a call down
-pub by-turn : (p : Pool) (call : Call) (k : ℕ) → valid p ≡ true → firstOf (refusal p call) k ≡ firstOf (turnedBy p call) k
+pub by-turn : (p : Pool) (call : Call) → valid p ≡ true → refusal p call ≡ turnedBy p call
 unfolding refusal
-by-turn p call k v = ap (λ (n : ℕ). firstOf n k) (chosen _ _ _ v)
+by-turn p call v = chosen _ _ _ v
 
 module _ (x : State) (call : Call) (s : both (valid (x .pool)) (bytesOk (x .pool) (x .memory)) ≡ true) (l : storeOk x (Asks call) ≡ true) where
   abbrev p : Pool
@@ -139,27 +131,20 @@ module _ (x : State) (call : Call) (s : both (valid (x .pool)) (bytesOk (x .pool
   unfolding turnedAwayBy
   asks o = go (ℕ-discrete (turnedBy p call) 0)
     where
-      number : turnedAwayBy x (Asks call) ≡ firstOf (turnedBy p call) (outsideAt (x .memory .pages) call)
-      number = by-turn p call _ v
+      number : turnedAwayBy x (Asks call) ≡ turnedBy p call
+      number = order-alone _ _ o ∙ by-turn p call v
 
       go : Dec (turnedBy p call ≡ 0) → callOn x (Asks call) ≡ actionOn x (Asks call)
-      go (yes z) = acts x (Asks call) s l (number ∙ then-of _ _ z ∙ o)
-      go (no z) = turned-away x (Asks call) s l (turnedBy p call) (number ∙ first-of _ _ z) z ∙ sym (still z)
+      go (yes z) = acts x (Asks call) s l (number ∙ z)
+      go (no z) = turned-away x (Asks call) s l (turnedBy p call) number z ∙ sym (still z)
 
   -- a page outside the store
-  pub outside : (n : ℕ) → n ≡ firstOf (turnedBy p call) (outsideAt (x .memory .pages) call) → n ≢ 0 → callOn x (Asks call) ≡ turnedBack n x
+  pub outside : (n : ℕ) → n ≡ inOrder (turnedBy p call) (outsideAt (x .memory .pages) call) → n ≢ 0 → callOn x (Asks call) ≡ turnedBack n x
   unfolding turnedAwayBy
-  outside n e = turned-away x (Asks call) s l n (by-turn p call _ v ∙ sym e)
+  outside n e =
+      turned-away x (Asks call) s l n (ap (λ (i : ℕ). inOrder i (outsideAt (x .memory .pages) call)) (by-turn p call v) ∙ sym e)
 
 -- ---- what the code puts together
-
-first-16 : (n : ℕ) → firstOf n 16 ≢ 0
-unfolding firstOf choose
-first-16 n e = go (ℕ-discrete n 0)
-  where
-    go : Dec (n ≡ 0) → ⊥
-    go (yes z) = let w : firstOf n 16 ≡ 16 = then-of n 16 z in let y : ⊥ = omega arith in y
-    go (no z) = z (sym (first-of n 16 z) ∙ e)
 
 -- a begin and a release leave memory and store
 begin-keeps : (p : Pool) (m : Memory) (c g : ℕ) → memoryAfter p m (writeOf p (Begin c g)) ≡ m
@@ -194,13 +179,13 @@ module _ (b : BufferPool) (c g : ℕ) (s : List ℕ) (sound : both (valid (b .po
 
 -- a begin of a page outside the store
 pub begins-outside : (b : BufferPool) (c g : ℕ) (s : List ℕ) → both (valid (b .pool)) (bytesOk (b .pool) (b .memory)) ≡ true
-    → inside (b .memory .pages) g ≡ false → {n : ℕ} → n ≡ firstOf (turnedBy (b .pool) (Begin c g)) 16
+    → inside (b .memory .pages) g ≡ false → {n : ℕ} → n ≡ inOrder (turnedBy (b .pool) (Begin c g)) 16
     → turnedReply n b ≡ reply (callOn (stateOf b s) (Asks (Begin c g)))
 unfolding outsideAt storeOk lent either choose
 begins-outside b c g s sound i {n} e =
     sym (ap reply (outside (stateOf b s) (Begin c g) sound refl n
-    (e ∙ ap (firstOf (turnedBy (b .pool) (Begin c g))) (sym (passed (inside (b .memory .pages) g) 0 16 i)))
-    (λ z. first-16 (turnedBy (b .pool) (Begin c g)) (sym e ∙ z))))
+    (e ∙ ap (inOrder (turnedBy (b .pool) (Begin c g))) (sym (passed (inside (b .memory .pages) g) 0 16 i)))
+    (λ z. let none = order-none (turnedBy (b .pool) (Begin c g)) 16 (sym e ∙ z) .1 in let y : ⊥ = omega arith in y)))
 
 -- check 8
 pub not-sound : (b : BufferPool) (s : List ℕ) (r : Request) → both (valid (b .pool)) (bytesOk (b .pool) (b .memory)) ≡ false

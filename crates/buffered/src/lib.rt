@@ -12,7 +12,7 @@ ghost use Rattle.pool.specs.declared.Call.the-variants.{Begin, Release};
 ghost use Rattle.answers.specs.Among.{Among};
 ghost use Rattle.answers.specs.Refusals.{bySetup, byBeginOn, byRelease};
 ghost use Rattle.memory.specs.Memory.{blank};
-ghost use Rattle.memory.specs.Requests.{Asks, setupOn, firstOf, callOn, stateOf, reply};
+ghost use Rattle.memory.specs.Requests.{Asks, setupOn, inOrder, callOn, stateOf, reply};
 ghost use Rattle.buffered.specs.Ways.{turnedReply};
 use memory::BYTES;
 use memory::BufferPool;
@@ -74,10 +74,10 @@ pub fn setup(size: u8, client_count: u8, cap: u8, hand: u32, store: &[u8]) -> Re
 // By which number a begin of a page outside the store is turned down.
 fn outside(pool: Pool, call: Call) -> u8
     requires { ⌜ valid pool ≡ true ⌝ }
-    ensures { λ r. ⌜ (r ≡ firstOf (turnedBy pool call) 16) ⌝ }
+    ensures { λ r. ⌜ (r ≡ inOrder (turnedBy pool call) 16) ⌝ }
 {
     let n = checked::turned_by(pool, call);
-    if n == 0 { 16 } else { n }
+    byte_checks::outside(n)
 }
 
 // SPECIFICATION 13.5, 13.10: whatever the store has in it.

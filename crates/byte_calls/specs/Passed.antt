@@ -21,6 +21,7 @@ use Rattle.laws.specs.Choices.{by-test}
 use Rattle.laws.specs.Scans.{both-true}
 use Rattle.play.specs.Turn.{is-client}
 use Rattle.memory.specs.Memory.{pageBytes}
+use Rattle.memory.specs.Orders.{first-zero, first-some, first-none}
 use Rattle.memory.specs.Requests.{ReadByte, WriteByte, State, bytesOk, lent, storeOk, firstOf, byteRefusal, turnedAwayBy, refusalOn, heldFrame}
 use Rattle.memory.specs.Requests.{callOn, stateOf, reply}
 use Rattle.memory.specs.declared.BufferPool.{BufferPool}
@@ -32,7 +33,7 @@ use Rattle.answers.specs.Refusals.{byByte}
 use Rattle.filling.specs.Parts.{bytesFilled, marksFilled, byteIn, bytesWritten, marksWritten}
 use Rattle.filling.specs.Acting.{low-offset, reads-as, writes-as}
 use Rattle.buffered.specs.Refusals.{read-refusals, write-refusals}
-use Rattle.buffered.specs.Ways.{turnedReply, turned, goes-on, by-store, by-checks, by-turn, first-of, then-of}
+use Rattle.buffered.specs.Ways.{turnedReply, turned, goes-on, by-store, by-checks, by-turn}
 
 abbrev pub stateWith : Pool → Memory → List ℕ → State
 stateWith p m s = record { pool = p; memory = m; store = s }
@@ -45,11 +46,6 @@ pub record Passed (x : State) (c o : ℕ) : Type 0 where
   pub long : length (x .store) ≡ pageBytes * x .memory .pages
   pub offset : o < pageBytes
 
--- neither of two numbers
-neither : (n k : ℕ) → firstOf n k ≡ 0 → (n ≡ 0) × (k ≡ 0)
-unfolding firstOf
-neither n k = by-test (λ (y : ℕ). y ≡ 0 → (n ≡ 0) × (k ≡ 0)) (λ z e. (eqb-true _ _ z, e)) (λ z e. absurd (eqb-false _ _ z e))
-
 not-8 : (p : Pool) (call : Call) → refusal p call ≡ 0 → (valid p ≡ true) × (turnedBy p call ≡ 0)
 unfolding refusal
 not-8 p call = by-test (λ (y : ℕ). y ≡ 0 → (valid p ≡ true) × (turnedBy p call ≡ 0)) (λ v e. (v, e)) (λ _ e. let z : ⊥ = omega arith in absurd z)
@@ -61,7 +57,7 @@ passed x c g o = by-test (λ (y : ℕ). y ≡ 0 → Passed x c o) go (λ _ e. le
     go : both (bytesOk (x .pool) (x .memory)) (storeOk x (ReadByte c g o)) ≡ true
         → firstOf (refusal (x .pool) (Release c g)) (byteRefusal (x .memory .pages) g o) ≡ 0 → Passed x c o
     go t e =
-        let none = neither _ _ e in
+        let none = first-none _ _ e in
         let own = not-8 (x .pool) (Release c g) (none .0) in
         record {
           valid = own .0;
@@ -89,13 +85,15 @@ module _ (x : State) (c g o : ℕ) where
 
     number : refusalOn x (ReadByte c g o) ≡ firstOf (turnedBy (x .pool) (Release c g)) (byteRefusal (x .memory .pages) g o)
     unfolding turnedAwayBy
-    number = by-checks x (ReadByte c g o) s right-store ∙ by-turn (x .pool) (Release c g) _ (both-true _ _ s .0)
+    number =
+        by-checks x (ReadByte c g o) s right-store
+        ∙ ap (λ (n : ℕ). firstOf n (byteRefusal (x .memory .pages) g o)) (by-turn (x .pool) (Release c g) (both-true _ _ s .0))
 
     pub by-release : turnedBy (x .pool) (Release c g) ≢ 0 → turnedBy (x .pool) (Release c g) ≡ refusalOn x (ReadByte c g o)
-    by-release z = sym (number ∙ first-of _ _ z)
+    by-release z = sym (number ∙ first-some _ _ z)
 
     pub by-byte : turnedBy (x .pool) (Release c g) ≡ 0 → byteRefusal (x .memory .pages) g o ≡ refusalOn x (ReadByte c g o)
-    by-byte z = sym (number ∙ then-of _ _ z)
+    by-byte z = sym (number ∙ first-zero _ _ z)
 
 -- ---- what the code puts together
 

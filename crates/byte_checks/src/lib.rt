@@ -7,7 +7,7 @@ ghost use Rattle.pool.specs.Limits.{maxSize, maxClients, maxHeld, maxFrames};
 ghost use Rattle.pool.specs.Choose.{both};
 ghost use Rattle.pool.specs.Valid.{valid};
 ghost use Rattle.laws.specs.Elements.{clientIn};
-ghost use Rattle.memory.specs.Requests.{inside, bytesOk};
+ghost use Rattle.memory.specs.Requests.{inside, inOrder, bytesOk};
 ghost use Rattle.memory.specs.declared.Memory.{Memory};
 ghost use Rattle.byte_checks.specs.Parts.{framesInside, entryInsideIn, entriesInside, grantsInside, wantedInside, clientInsideIn, clientsInside, unmarkedIn, bytesOkIn, soundIn};
 use memory::MAX_PAGES;
@@ -28,6 +28,20 @@ pub fn inside(store: u16, page: u32) -> bool
         return true;
     }
     page < store as u32
+}
+
+// SPECIFICATION 13.10: by which number a begin of a page outside the store is turned down, where the pool turns it down by n, or by none of its
+// numbers, 0.
+pub fn outside(n: u8) -> u8
+    ensures { λ r. ⌜ r ≡ inOrder n 16 ⌝ }
+{
+    if n == 0 {
+        return 16;
+    }
+    if n == 18 {
+        return 16;
+    }
+    n
 }
 
 // The pages of the first n frames.

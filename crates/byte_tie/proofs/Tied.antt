@@ -266,7 +266,7 @@ module _ (b : BufferPool) (c n : ℕ) (rows left : List Row) where
   fills : HoldingsSays b c rows (Done n) left → Filled
   unfolding holdingsOn refused
   fills = by-test (λ (l : Listed). listed (Done n) left ≡ l → Filled)
-      (λ t e. let h = storeless .holdings .holdings-done (b .pool) c n rows left e in (chosen _ _ _ t ∙ h .0, h .1, h .2, h .3))
+      (λ t e. let h = storeless .holdings .holdings-done (b .pool) c n rows left e in (chosen _ _ _ t ∙ h .0, h .1, h .2, h .3, h .4))
       (λ _ e. absurd (true≢false (sym (ap (λ (l : Listed). refused (l .answer)) e))))
 
   leaves : HoldingsSays b c rows (Refused n) left → Kept-rows

@@ -47,7 +47,7 @@ module _ (ns : List ℕ) (p : Pool) (call : Call) (eight : Among ns 8) (nine : A
 module _ (p : Pool) (c g : ℕ) where
   pub begin-refusals : Among byBegin (refusalOf (callOf p (Begin c g) .answer))
   unfolding refusalAt moveOf refusalOf
-  begin-refusals = call-refusals byBegin p (Begin c g) refl refl (λ k. pick (Among byBegin) _ (pick (Among byBegin) _ refl refl) refl) refl
+  begin-refusals = call-refusals byBegin p (Begin c g) refl refl (λ k. pick (Among byBegin) _ (pick (Among byBegin) _ (pick (Among byBegin) _ refl refl) refl) refl) refl
 
   pub release-refusals : Among byRelease (refusalOf (callOf p (Release c g) .answer))
   unfolding refusalAt moveOf releaseMove refusalOf

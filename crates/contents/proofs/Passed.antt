@@ -14,6 +14,7 @@ use Rattle.pool.specs.declared.Answer.the-variants.{Done, Refused}
 use Rattle.laws.specs.Choices.{by-test, chosen, passed}
 use Rattle.laws.specs.Scans.{either-true}
 use Rattle.memory.specs.Memory.{pageBytes}
+use Rattle.memory.specs.Orders.{first-none, order-none}
 use Rattle.memory.specs.Requests.{Request, Asks, ReadByte, WriteByte, State, Result, turnedBack, inside, outsideAt, byteRefusal, firstOf, turnedAwayBy}
 use Rattle.memory.specs.Requests.{refusalOn, actionOn, callOn}
 use Rattle.contents.proofs.Kept.{Inside}
@@ -23,10 +24,6 @@ not-zero e l = absurd (let y : ⊥ = omega arith in y)
 
 pub refused-not-done : {A : Type 0} {n b : ℕ} → Refused n ≡ Done b → A
 refused-not-done e = let z : _≡_ {A = ℕ} 0 1 = cc in absurd (let y : ⊥ = omega arith in y)
-
-first-of : (n k : ℕ) → firstOf n k ≡ 0 → (n ≡ 0) × (k ≡ 0)
-unfolding firstOf
-first-of n k = by-test (λ (y : ℕ). y ≡ 0 → (n ≡ 0) × (k ≡ 0)) (λ t e. (eqb-true n 0 t, e)) (λ t e. absurd (eqb-false n 0 t e))
 
 pub inside-means : (n g : ℕ) → inside n g ≡ true → Inside n g
 unfolding inside
@@ -54,7 +51,7 @@ module _ (x : State) where
 
   pub asks-passed : (call : Call) → refusalOn x (Asks call) ≡ 0 → (refusal (x .pool) call ≡ 0) × (outsideAt (x .memory .pages) call ≡ 0)
   unfolding turnedAwayBy
-  asks-passed call e = first-of _ _ (past-8 (Asks call) e)
+  asks-passed call e = order-none _ _ (past-8 (Asks call) e)
 
   -- client c may release the page, which is inside the store, and the offset is below 64
   pub record Holds (c g o : ℕ) : Type 0 where
@@ -64,7 +61,7 @@ module _ (x : State) where
 
   holds : (c g o : ℕ) → firstOf (refusal (x .pool) (Release c g)) (byteRefusal (x .memory .pages) g o) ≡ 0 → Holds c g o
   holds c g o e =
-      let a = first-of _ _ e in
+      let a = first-none _ _ e in
       let b = byte-passed (x .memory .pages) g o (a .1) in
       record { may = a .0; inside = b .0; offset = b .1 }
 

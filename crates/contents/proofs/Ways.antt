@@ -141,5 +141,5 @@ module _ (p : Pool) (c : ℕ) (r : Reached p) where
       opening 22 _ e tt refl refl refl (puts-entry _ refl (f .inside) (sym (f .entry-frame)) (known 22 e .0 .0) refl)
   goes (evicts20 e) = quiet refl refl refl (idles tt (inl refl))
   goes (evicts23 e) = quiet refl refl refl (idles tt (inl refl))
-  goes (begins g e h) = record { way = idles tt (inr refl); page = λ _ z. absurd (z e); opens = λ _ _ y. no-open y; told = inl refl }
+  goes (begins g e h _) = record { way = idles tt (inr refl); page = λ _ z. absurd (z e); opens = λ _ _ y. no-open y; told = inl refl }
   goes (releases g e z) = record { way = idles tt (inr refl); page = λ y. absurd (y e); opens = λ _ _ y. ends-no-open y; told = inl refl }

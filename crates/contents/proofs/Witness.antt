@@ -25,7 +25,7 @@ use Rattle.guarantee.specs.Runs.{At}
 use Rattle.memory.specs.Memory.{isFrame, byte, mark, isFilled, isChanged, storeByte, copied, unmarked, moved, memoryAfter, writtenBack, storeAfter}
 use Rattle.memory.specs.Memory.{filledFrom, written}
 use Rattle.memory.specs.Requests.{Asks, ReadByte, WriteByte, State, lengthOk, setupOn, inside, entryInside, clientInside, pagesInside, unmarkedAt, marksOk}
-use Rattle.memory.specs.Requests.{bytesOk, lent, storeOk, firstOf, outsideAt, byteRefusal, turnedAwayBy, refusalOn, refused, writeOf, actionOn, callOn}
+use Rattle.memory.specs.Requests.{bytesOk, lent, storeOk, firstOf, inOrder, outsideAt, byteRefusal, turnedAwayBy, refusalOn, refused, writeOf, actionOn, callOn}
 use Rattle.memory.specs.Happenings.{Happening, happenings, SetUpOn}
 use Rattle.contents.specs.Contents.{Reads, Writes}
 
@@ -39,7 +39,7 @@ unfolding choose both either scan howMany refusalOf within slot page pins count 
     numbersOk frameOk usedOk stateOk entryOk grantOk countsOk namesOk clientOk valid
     caller refusalAt refusal releaseMove moveOf finished callOf
     isFrame byte mark isFilled isChanged storeByte copied unmarked moved memoryAfter writtenBack storeAfter filledFrom written
-    lengthOk setupOn inside entryInside clientInside pagesInside unmarkedAt marksOk bytesOk lent storeOk firstOf outsideAt byteRefusal turnedAwayBy
+    lengthOk setupOn inside entryInside clientInside pagesInside unmarkedAt marksOk bytesOk lent storeOk firstOf inOrder outsideAt byteRefusal turnedAwayBy
     refusalOn refused writeOf actionOn callOn happenings At
 computing = 0
 

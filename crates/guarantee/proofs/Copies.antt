@@ -1,4 +1,4 @@
--- Grants of one page name one frame; a held frame is pinned, and no call evicts it: the sequential pool evicts only pages without grants, so the
+-- A client holds no page twice; grants of one page name one frame; a held frame is pinned, and no call evicts it: the sequential pool evicts only pages without grants, so the
 -- page of a held frame is still there after the call, and its frame is resident. Assumes nothing.
 use mathlib.Core.Path.{_≡_, refl, sym, ap, _∙_}
 use mathlib.Core.Logic.{_≢_}
@@ -16,23 +16,29 @@ use Rattle.pool.specs.Calls.{callOf}
 use Rattle.pool.specs.declared.Pool.{Pool}
 use Rattle.pool.specs.declared.Call.{Call}
 use Rattle.pool.specs.declared.Answer.{Answer}
-use Rattle.invariant.proofs.Reached.{Reached, one}
+use Rattle.invariant.proofs.Reached.{Reached, one, grantsOf}
 use Rattle.invariant.proofs.Sums.{one-is, sum-has}
-use Rattle.invariant.proofs.Facts.{grant-pinned}
-use Rattle.invariant.proofs.Grants.{grantsOf}
+use Rattle.invariant.proofs.Facts.{single, grant-pinned}
+use Rattle.invariant.proofs.Grants.{not-held}
 use Rattle.invariant.proofs.Calls.{reached-call}
-use Rattle.guarantee.specs.Runs.{eventOf, events, along, Throughout}
+use Rattle.guarantee.specs.Runs.{eventOf, events, along}
 use Rattle.guarantee.specs.Sequential as Plain
 use Rattle.guarantee.specs.Sequential.{SeqSlot, SeqClient, Sequential, seqClient, Keeps, StepRule, adds, admits, evicts, answers, continues}
 use Rattle.guarantee.specs.Sequential.{refuses, Rule, turns-down, begins, releases, steps}
-use Rattle.guarantee.specs.Claims.{OneCopy, BecomesEvicted, HeldPinned, NoHeldEvicted}
-use Rattle.guarantee.proofs.Along.{throughout, at-each}
+use Rattle.guarantee.specs.Claims.{OneEach, OneCopy, BecomesEvicted, NoHeldEvicted}
+use Rattle.guarantee.proofs.Along.{at-each}
 use Rattle.guarantee.proofs.SimulationRelation.{ResidentFrame, is-member, SimulationRelation, view, view-related}
 use Rattle.guarantee.proofs.Follow.{Followed, followed}
-use Rattle.guarantee.proofs.Frames.{same-frame, Grant, held-grant, held-pinned}
+use Rattle.guarantee.proofs.Frames.{same-frame, Grant, held-grant}
 use Rattle.guarantee.proofs.Pages.{page-there, page-resident}
 
-one-copy : (p : Pool) → Reached p → OneCopy p
+pub one-each : (p : Pool) → Reached p → OneEach p
+one-each p r = record {
+  held-once = single p r;
+  not-begun = λ c i s h. not-held p c (client p c .page) (r .singles .wanted-unheld c s) i h;
+}
+
+pub one-copy : (p : Pool) → Reached p → OneCopy p
 one-copy p r c d i j a b e =
     let u = r .mapping .grant-named c i a in
     let v = r .mapping .grant-named d j b in
@@ -107,11 +113,3 @@ no-held-evicted p calls r f = at-each (BecomesEvicted f) (λ e. held (e .before)
     go : (p : Pool) (x : Call) → Reached p → BecomesEvicted f (eventOf p x) → (b : Bool) → held p f ≡ b → b ≡ false
     go p x r h true e = absurd (not-evicted p x f r e (h .1))
     go p x r h false e = refl
-
--- ---- throughout a run
-
-pub one-copies : (p : Pool) (calls : List Call) → Reached p → Throughout OneCopy p calls
-one-copies = throughout OneCopy one-copy
-
-pub helds-pinned : (p : Pool) (calls : List Call) → Reached p → Throughout HeldPinned p calls
-helds-pinned = throughout HeldPinned held-pinned

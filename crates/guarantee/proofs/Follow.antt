@@ -3,6 +3,7 @@
 use mathlib.Core.Path.{_≡_, refl, sym, ap, _∙_}
 use mathlib.Core.Logic.{_≢_, inl}
 use mathlib.Core.Bool.{Bool, true, false}
+use mathlib.Core.List.{List}
 use Prim.Native.Nat.{ℕ, _-_, _≤_, _<_}
 use native.Mathlib.Decide.{ℕ-discrete}
 use native.Mathlib.Omega.{arith}
@@ -25,13 +26,11 @@ use Rattle.pool.specs.declared.Outcome.{Outcome}
 use Rattle.pool.specs.declared.GrantChange.the-variants.{End}
 use Rattle.pool.specs.declared.Write.the-variants.{PutPins}
 use Rattle.laws.specs.Choices.{by-test, chosen, passed}
-use Rattle.laws.specs.Scans.{first-none}
-use Rattle.invariant.proofs.Reached.{Reached, one}
+use Rattle.invariant.proofs.Reached.{Reached, one, grantsOf}
 use Rattle.invariant.proofs.After.{pins-in}
-use Rattle.invariant.proofs.Sums.{sum-zero, sum-has}
 use Rattle.invariant.proofs.Searches.{grantOf-found}
 use Rattle.invariant.proofs.Facts.{grant-pinned}
-use Rattle.invariant.proofs.Grants.{grantsOf, grants-stay, grant-ends, grantsOf-keeps, grantsOf-ends}
+use Rattle.invariant.proofs.Grants.{ungranted, granted, grants-stay, grant-ends, grantsOf-keeps, grantsOf-ends}
 use Rattle.invariant.proofs.Valid.{valid-reached}
 use Rattle.invariant.proofs.Allowed.{Allowed, allowed, may-begin, may-step, may-release}
 use Rattle.invariant.proofs.Edges.{Edge}
@@ -59,19 +58,22 @@ choose-alike false a b = b refl
 module _ {p : Pool} {q : Sequential} (r : Reached p) (related : SimulationRelation p q) where
   -- ---- both turn the same calls down
 
-  -- a grant of a page is found where there is one
-  no-grant : (c g : ℕ) → client p c .stage ≡ 0 → grantOf p c g ≡ none → member g (seqClient q c .grants) ≡ false
-  unfolding grantOf grantsOf
-  no-grant c g s e =
-      not-member g _ (open-grants (related .clients c) (rw s refl) g ∙ sum-zero _ (client p c .held)
-      (λ i h. ap one (first-none (λ j. eqb (grantPage p c j) g) (client p c .held) (omega (arith, r .ranges .held-ok c)) e i h)))
+  -- a client at rest holds a page in the one pool if it does in the other
+  member-alike : {A : Type 0} (c g : ℕ) (x y : A) → client p c .stage ≡ 0
+      → choose (eqb (grantOf p c g) none) x y ≡ choose (member g (seqClient q c .grants)) y x
+  member-alike c g x y s = go (ℕ-discrete (grantOf p c g) none)
+    where
+      grants : List ℕ
+      grants = seqClient q c .grants
 
-  some-grant : (c g : ℕ) → grantOf p c g ≢ none → 1 ≤ grantsOf p c g
-  unfolding grantsOf
-  some-grant c g z =
-      let f = grantOf-found p c g z in
-      let h = sum-has (λ i. one (eqb (grantPage p c i) g)) (client p c .held) (grantOf p c g) (f .0) in
-      omega (arith, ap one (eq-eqb _ _ (f .1)))
+      open-on : times g grants ≡ grantsOf p c g
+      open-on = open-grants (related .clients c) (rw s refl) g
+
+      go : Dec (grantOf p c g ≡ none) → choose (eqb (grantOf p c g) none) x y ≡ choose (member g grants) y x
+      go (yes e) =
+          chosen _ _ _ (eq-eqb _ _ e) ∙ sym (passed _ _ _ (not-member g grants (open-on ∙ ungranted p c g (r .ranges .held-ok c) e)))
+      go (no z) =
+          passed _ _ _ (ne-eqb _ _ z) ∙ sym (chosen _ _ _ (is-member g grants (λ w. omega (arith, open-on, granted p c g z))))
 
   -- what they find of a client that is there and rests decides
   resting-alike : (c a b : ℕ) → (client p c .stage ≡ 0 → a ≡ b)
@@ -83,19 +85,14 @@ module _ {p : Pool} {q : Sequential} (r : Reached p) (related : SimulationRelati
   unfolding refusal refusalAt caller seqRefusal
   refusal-alike (Begin c g) = chosen _ _ _ (valid-reached p r) ∙ rw (related .count, related .clients c .stage) (resting-alike c _ _ full)
     where
-      full : client p c .stage ≡ 0 → _≡_ {A = ℕ} (choose (ltb (client p c .held) maxHeld) 0 12) (choose (ltb (length (seqClient q c .grants)) maxHeld) 0 12)
-      full s = rw (open-many (related .clients c) (rw s refl)) refl
+      full : client p c .stage ≡ 0
+          → _≡_ {A = ℕ} (choose (ltb (client p c .held) maxHeld) (choose (eqb (grantOf p c g) none) 0 18) 12)
+          (choose (ltb (length (seqClient q c .grants)) maxHeld) (choose (member g (seqClient q c .grants)) 18 0) 12)
+      full s = rw (open-many (related .clients c) (rw s refl)) (ap (λ (n : ℕ). choose (ltb (client p c .held) maxHeld) n 12) (member-alike c g 0 18 s))
   refusal-alike (Step c) = chosen _ _ _ (valid-reached p r) ∙ rw (related .count, related .clients c .stage) refl
   refusal-alike (Release c g) =
       chosen _ _ _ (valid-reached p r)
-      ∙ rw (related .count, related .clients c .stage) (resting-alike c _ _ (λ s. asked s (ℕ-discrete (grantOf p c g) none)))
-    where
-      asked : client p c .stage ≡ 0 → Dec (grantOf p c g ≡ none)
-          → _≡_ {A = ℕ} (choose (eqb (grantOf p c g) none) 13 0) (choose (member g (seqClient q c .grants)) 0 13)
-      asked s (yes e) = chosen _ _ _ (eq-eqb _ _ e) ∙ sym (passed _ _ _ (no-grant c g s e))
-      asked s (no z) =
-          passed _ _ _ (ne-eqb _ _ z)
-          ∙ sym (chosen _ _ _ (is-member g (seqClient q c .grants) (λ w. omega (arith, open-grants (related .clients c) (rw s refl) g, some-grant c g z))))
+      ∙ rw (related .count, related .clients c .stage) (resting-alike c _ _ (member-alike c g 13 0))
 
   -- ---- and make the same moves
 
@@ -162,7 +159,7 @@ module _ {p : Pool} {q : Sequential} (r : Reached p) (related : SimulationRelati
         two = grant-pinned p r c i (r .mapping .grant-named c i (found .0))
 
         some : times g (t .grants) ≢ 0
-        some w = omega (arith, open-grants (related .clients c) (rw s refl) g, some-grant c g z)
+        some w = omega (arith, open-grants (related .clients c) (rw s refl) g, granted p c g z)
 
         fewer : (h : ℕ) → times h (without g (t .grants)) ≡ grantsOf (apply p c m) c h
         fewer h =

@@ -13,7 +13,7 @@ use Rattle.pool.specs.declared.Client.{Client}
 use Rattle.invariant.proofs.Reached.{Reached, mapped, pinsFound, Knows, FoundMapped}
 use Rattle.laws.specs.Scans.{some-true}
 use Rattle.invariant.proofs.NeverFails.{know}
-use Rattle.invariant.proofs.Facts.{grant-pinned, found-pinned}
+use Rattle.invariant.proofs.Facts.{grant-pinned, found-pinned, found-mapped}
 use Rattle.invariant.proofs.Table.{mapped-lookup}
 use Rattle.guarantee.specs.Claims.{HeldPinned}
 
@@ -47,21 +47,6 @@ module _ (p : Pool) (r : Reached p) where
     abbrev k : Client
     k = client p c
 
-    -- a client for which its found frame is pinned: the frame is its page's
-    pub found-mapped : FoundMapped p k
-    found-mapped = go (eqb s 3) (eqb s 20) (eqb s 21) refl refl refl e
-      where
-        s : ℕ
-        s = k .stage
-
-        at : (i : ℕ) → eqb s i ≡ true → Knows i p k
-        at i t = know p r c i (eqb-true s i t)
-
-        go : (x y z : Bool) → eqb s 3 ≡ x → eqb s 20 ≡ y → eqb s 21 ≡ z → x || y || z ≡ true → FoundMapped p k
-        go true y z a b d u = at 3 a
-        go false true z a b d u = at 20 b .1
-        go false false true a b d u = at 21 d
-        go false false false a b d u = absurd (true≢false (sym u))
-
+    -- where its found frame is pinned for it, the frame has a pin
     pub found-has-pin : pinned 1 ≤ pins p (k .found)
-    found-has-pin = found-pinned p r c (rw e tt) (found-mapped .0)
+    found-has-pin = found-pinned p r c (rw e tt) (found-mapped p r c e .0)

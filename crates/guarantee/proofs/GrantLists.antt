@@ -22,15 +22,16 @@ use Rattle.pool.specs.declared.Call.the-variants.{Begin, Step, Release}
 use Rattle.pool.specs.declared.Answer.the-variants.{Working, Granted}
 use Rattle.pool.specs.declared.GrantChange.the-variants.{Same, Open, End}
 use Rattle.laws.specs.Choices.{by-test}
-use Rattle.invariant.proofs.Reached.{Reached}
+use Rattle.invariant.proofs.Reached.{Reached, grantsOf}
 use Rattle.invariant.proofs.After.{client-same, client-other}
 use Rattle.invariant.proofs.Searches.{grantOf-found}
-use Rattle.invariant.proofs.Grants.{GrantsOk, held-next, held-other, keep-page, keep-frame, grantPage-other, grantFrame-other}
+use Rattle.invariant.proofs.Sums.{one-is}
+use Rattle.invariant.proofs.Grants.{GrantsOk, not-held, grantsOf-ends, held-next, held-other, keep-page, keep-frame, grantPage-other, grantFrame-other}
 use Rattle.invariant.proofs.Grants.{page-open-new, page-open-old, frame-open-new, frame-open-old, page-end-moved, page-end-old, frame-end-moved, frame-end-old}
 use Rattle.invariant.proofs.Facts.{grant-pinned}
 use Rattle.invariant.proofs.Allowed.{Allowed, allowed, may-step, may-release}
-use Rattle.invariant.proofs.Edges.{Edge, released, moves-on, found1, found18, forgets2, forgets22, pins2, pins19, gets3, gets21, takes, fills, replaces}
-use Rattle.invariant.proofs.Edges.{refuses, evicts14, removes, admits, revives, evicts20, evicts23, begins, releases}
+use Rattle.invariant.proofs.Edges.{Edge, released}
+use Rattle.invariant.proofs.Told.{Told, goes-on, is-refused, opens, starts, ends, told}
 use Rattle.invariant.proofs.Effects.{effect}
 use Rattle.invariant.proofs.Steps.{call-edge}
 use Rattle.invariant.proofs.Setup.{first-rests, first-reached}
@@ -49,42 +50,6 @@ same-page e = ap (λ (k : Client). k .page) e
 -- the event of a call that leaves o
 abbrev eventWith : Pool → Call → Outcome → Event
 eventWith p x o = record { before = p; asked = x; answer = o .answer; counted = o .counted; next = o .pool }
-
--- ---- what a step tells its client, and what it does to the client's grants
-
-module _ (p : Pool) (c : ℕ) where
-  abbrev k : Client
-  k = client p c
-
-  data StepTells (m : Move) : Type 0 where
-    opens : (f : ℕ) → m .answer ≡ Granted f → m .grants ≡ Open (k .held) (k .page) f → m .next .held ≡ k .held + 1 → m .next .stage ≡ 0 → StepTells m
-    keeps : ((f : ℕ) → m .answer ≢ Granted f) → m .grants ≡ Same → m .next .held ≡ k .held → (m .next .stage ≢ 0 → m .next .page ≡ k .page) → StepTells m
-
-  goes-on : {m : Move} {j : ℕ} → m .answer ≡ Working j → m .grants ≡ Same → m .next .held ≡ k .held → m .next .page ≡ k .page → StepTells m
-  goes-on a g h w = keeps (λ f b. other-answer (sym a ∙ b) tt) g h (λ _. w)
-
-  step-tells : k .stage ≢ 0 → {m : Move} → Edge p c m → StepTells m
-  step-tells busy (moves-on n j w h) = goes-on refl refl (h .same .held) (h .same .page)
-  step-tells busy (found1 _ _) = goes-on refl refl refl refl
-  step-tells busy (found18 _ _) = goes-on refl refl refl refl
-  step-tells busy (forgets2 _ _) = goes-on refl refl refl refl
-  step-tells busy (forgets22 _ _) = goes-on refl refl refl refl
-  step-tells busy (pins2 _ _) = goes-on refl refl refl refl
-  step-tells busy (pins19 _ _) = goes-on refl refl refl refl
-  step-tells busy (gets3 _) = opens (k .found) refl refl refl refl
-  step-tells busy (gets21 _) = opens (k .found) refl refl refl refl
-  step-tells busy (takes _ _) = goes-on refl refl refl refl
-  step-tells busy (fills _ _) = goes-on refl refl refl refl
-  step-tells busy (replaces _ _) = goes-on refl refl refl refl
-  step-tells busy (refuses _ _) = keeps (λ f a. other-answer a tt) refl refl (λ z. absurd (z refl))
-  step-tells busy (evicts14 _ _) = goes-on refl refl refl refl
-  step-tells busy (removes _ _) = goes-on refl refl refl refl
-  step-tells busy (admits _ _ _) = opens (k .own) refl refl refl refl
-  step-tells busy (revives _ _) = opens (k .own) refl refl refl refl
-  step-tells busy (evicts20 _) = goes-on refl refl refl refl
-  step-tells busy (evicts23 _) = goes-on refl refl refl refl
-  step-tells busy (begins _ e _) = absurd (busy e)
-  step-tells busy (releases _ e _) = absurd (busy e)
 
 -- ---- the grants after a move of client c, which is call x
 
@@ -122,11 +87,15 @@ module _ (p : Pool) (r : Reached p) (c : ℕ) (here : c < clientCount p) (m : Mo
   ended : (i : ℕ) → m .grants ≡ End i (me .held - 1) → m .next .held ≡ me .held - 1 → i < me .held → GrantEnds c made (grantPage p c i)
   ended i g h l =
       let n : client (apply p c m) c .held ≡ me .held - 1 = held-now ∙ h in
+      let g′ : ℕ = grantPage p c i in
+      let now-none : grantsOf (apply p c m) c g′ ≡ 0 =
+      omega (arith, grantsOf-ends p c m (r .shape) here few i g h l g′, r .singles .one-each c g′, one-is g′) in
       record {
         one-less = omega arith;
         place = i;
         inside = l;
         of-page = refl;
+        gone = λ j a. not-held (apply p c m) c g′ now-none j a;
         moved = λ a.
             let b : i < me .held - 1 = omega arith in
             rw n (same-grant (page-end-moved p c m (r .shape) here few i g h l b) (frame-end-moved p c m (r .shape) here few i g h l b));
@@ -165,17 +134,12 @@ module _ (p : Pool) (r : Reached p) where
         still-wants = λ z _. absurd (z (g, refl, refl));
       }
 
-  step-told : (c : ℕ) → c < clientCount p → client p c .stage ≢ 0 → StepTells p c (moveOf p (Step c)) → GrantsAsTold c (eventWith p (Step c) (moved p (Step c)))
+  -- a step that is not granted leaves the grants, and the page that the client wants if it goes on
+  kept-told : (c : ℕ) → c < clientCount p → client p c .stage ≢ 0 → ((f : ℕ) → moveOf p (Step c) .answer ≢ Granted f) → moveOf p (Step c) .grants ≡ Same
+      → moveOf p (Step c) .next .held ≡ client p c .held
+      → (moveOf p (Step c) .next .stage ≢ 0 → moveOf p (Step c) .next .page ≡ client p c .page) → GrantsAsTold c (eventWith p (Step c) (moved p (Step c)))
   unfolding caller valueOf
-  step-told c here busy (opens f a g h s) =
-      record {
-        granted = λ e _ b. subst (GrantOpens c _) (ap valueOf (sym a ∙ b)) (opened p r c here _ (Step c) f g h (omega (arith, r .ranges .working-held c busy)));
-        released = λ h a _. other-call a tt;
-        otherwise = λ z _. absurd (z (f, refl, a));
-        begun = λ h a _. other-call a tt;
-        still-wants = λ _ z. absurd (z (same-stage (now p r c here _ (Step c)) ∙ s));
-      }
-  step-told c here busy (keeps a g h w) =
+  kept-told c here busy a g h w =
       record {
         granted = λ f _ b. absurd (a f b);
         released = λ h a _. other-call a tt;
@@ -184,9 +148,24 @@ module _ (p : Pool) (r : Reached p) where
         still-wants = λ _ z. let n = now p r c here _ (Step c) in (busy, same-page n ∙ w (λ s. z (same-stage n ∙ s)));
       }
 
+  step-told : (c : ℕ) → c < clientCount p → client p c .stage ≢ 0 → Told p c (moveOf p (Step c)) → GrantsAsTold c (eventWith p (Step c) (moved p (Step c)))
+  unfolding caller valueOf
+  step-told c here busy (opens f _ a g h s) =
+      record {
+        granted = λ e _ b. subst (GrantOpens c _) (ap valueOf (sym a ∙ b)) (opened p r c here _ (Step c) f g h (omega (arith, r .ranges .working-held c busy)));
+        released = λ h a _. other-call a tt;
+        otherwise = λ z _. absurd (z (f, refl, a));
+        begun = λ h a _. other-call a tt;
+        still-wants = λ _ z. absurd (z (same-stage (now p r c here _ (Step c)) ∙ s));
+      }
+  step-told c here busy (goes-on _ _ a g h w) = kept-told c here busy (λ f b. other-answer (sym a ∙ b) tt) g h (λ _. w)
+  step-told c here busy (is-refused a g h s) = kept-told c here busy (λ f b. other-answer (sym a ∙ b) tt) g h (λ z. absurd (z s))
+  step-told c here busy (starts s _ _ _) = absurd (busy s)
+  step-told c here busy (ends _ s _ _ _ _) = absurd (busy s)
+
   release-told : (c : ℕ) → c < clientCount p → (g : ℕ) → grantOf p c g ≢ none → GrantsAsTold c (eventWith p (Release c g) (moved p (Release c g)))
   unfolding moveOf caller releaseMove valueOf
-  release-told c here g z = by-test Told (λ t. absurd (omega (arith, two, eqb-true (pins p f) evicted t))) (λ _. told)
+  release-told c here g z = by-test Ends (λ t. absurd (omega (arith, two, eqb-true (pins p f) evicted t))) (λ _. ending)
     where
       i : ℕ
       i = grantOf p c g
@@ -194,8 +173,8 @@ module _ (p : Pool) (r : Reached p) where
       f : ℕ
       f = grantFrame p c i
 
-      Told : Move → Type 0
-      Told m = GrantsAsTold c (eventWith p (Release c g) (outcomeOf p c m))
+      Ends : Move → Type 0
+      Ends m = GrantsAsTold c (eventWith p (Release c g) (outcomeOf p c m))
 
       found : (i < client p c .held) × (grantPage p c i ≡ g)
       found = grantOf-found p c g z
@@ -203,8 +182,8 @@ module _ (p : Pool) (r : Reached p) where
       two : pinned 1 ≤ pins p f
       two = grant-pinned p r c i (r .mapping .grant-named c i (found .0))
 
-      told : Told (released p c g)
-      told =
+      ending : Ends (released p c g)
+      ending =
           record {
             granted = λ f a _. other-call a tt;
             released = λ h _ b. subst (GrantEnds c _) (found .1 ∙ ap valueOf b) (ended p r c here _ (Release c g) i refl refl (found .0));
@@ -219,7 +198,7 @@ module _ (p : Pool) (r : Reached p) where
     where
       go : (x : Call) → Allowed p x → Edge p (caller x) (moveOf p x) → GrantsAsTold (caller x) (eventWith p x (moved p x))
       go (Begin c g) a w = begin-told c (a .here) g
-      go (Step c) a w = let busy = may-step p (client p c) c (a .may) in step-told c (a .here) busy (step-tells p c busy w)
+      go (Step c) a w = let busy = may-step p (client p c) c (a .may) in step-told c (a .here) busy (told p c w)
       go (Release c g) a w = release-told c (a .here) g (may-release p (client p c) c g (a .may) .1)
 
   turned-told : (x : Call) (n c : ℕ) → GrantsAsTold c (eventWith p x (turnedDown n p))

@@ -13,9 +13,10 @@ use Rattle.invariant.proofs.After.{client-here}
 use Rattle.invariant.proofs.Setup.{first-rests, first-reached}
 use Rattle.invariant.proofs.Valid.{valid-reached}
 use Rattle.invariant.proofs.NeverFails.{finds}
-use Rattle.guarantee.specs.Claims.{Claim-point3, Claim-answers, Guarantee}
+use Rattle.guarantee.specs.Claims.{OneEach, OneCopy, HeldPinned, FewPins, Claim-point3, Claim-answers, Guarantee}
 use Rattle.guarantee.proofs.Along.{throughout}
-use Rattle.guarantee.proofs.Copies.{one-copies, helds-pinned, no-held-evicted}
+use Rattle.guarantee.proofs.Frames.{held-pinned}
+use Rattle.guarantee.proofs.Copies.{one-each, one-copy, no-held-evicted}
 use Rattle.guarantee.proofs.Sequence.{sequential}
 use Rattle.guarantee.proofs.Sum.{sum}
 use Rattle.guarantee.proofs.Drops.{drops}
@@ -27,16 +28,18 @@ use Rattle.guarantee.proofs.Listed.{listed, listed-along}
 use Rattle.guarantee.proofs.GrantLists.{grant-lists}
 use Rattle.guarantee.proofs.TurnedDown.{same-stage, turned-down, refused}
 use Rattle.guarantee.proofs.Limits.{limits}
-use Rattle.guarantee.proofs.Holdings.{holdings}
+use Rattle.guarantee.proofs.Holdings.{holdings, held-once}
 
 point3 : Claim-point3
 point3 p u calls =
     let r = first-reached u in
     record {
       grants = grant-lists p u calls;
-      one-copy = one-copies p calls r;
+      one-each = throughout OneEach one-each p calls r;
+      one-copy = throughout OneCopy one-copy p calls r;
       no-held-evicted = no-held-evicted p calls r;
-      held-pinned = helds-pinned p calls r;
+      held-pinned = throughout HeldPinned held-pinned p calls r;
+      few-pins = throughout FewPins (λ q s. s .ranges .pins-ok) p calls r;
       taken-out-once = taken-out-once p calls r;
       sequential = sequential u calls;
       one-effect = one-effect p calls r (λ c. same-stage (first-rests u c));
@@ -69,4 +72,5 @@ guarantee =
       sum = sum;
       limits = limits;
       holdings = holdings;
+      held-once = held-once;
     }

@@ -1,20 +1,24 @@
 -- Claim 14. The pages of the definition's rows are rising and are those that the client holds, by how `sorted` makes them. So are the pages of any
--- `Listing`, and two such lists are one; the times of a row are told by its page. Assumes nothing.
+-- `Listing`, and two such lists are one. In a pool that passes check 8 no page is among a client's grants twice. Assumes nothing.
 use mathlib.Core.Path.{_≡_, refl, _∙_, sym, ap}
+use mathlib.Core.Bool.{true}
 use mathlib.Core.List.{List, [], _∷_, map}
 use native.Mathlib.Omega.{arith}
-use Prim.Native.Nat.{ℕ, zero, suc, _<_}
+use Prim.Native.Nat.{ℕ, zero, suc, _≤_, _<_}
 use borrow.Author.Tests.{eq-eqb, eqb-true}
 use lib.Dec.{eqb}
 use lib.ListN.{length, getD, length-map, List·getD-map}
 use lib.Seq.{ext-getD}
-use Rattle.pool.specs.State.{client, grantPage}
+use Rattle.pool.specs.State.{clientCount, client, grantPage}
+use Rattle.pool.specs.Valid.{valid}
 use Rattle.pool.specs.Holdings.{pagesHeld, timesHeld, rowsOf, noRow, row}
 use Rattle.pool.specs.declared.Pool.{Pool}
 use Rattle.pool.specs.declared.Row.{Row}
-use Rattle.laws.specs.Counting.{counted, one-passes}
-use Rattle.laws.specs.Rising.{Rising, Has, has-at, place-of, rises, of-places, same-list, sorted-rises, sorted-has, sorted-from}
-use Rattle.guarantee.specs.Claims.{Listing, Claim-holdings}
+use Rattle.laws.specs.Counting.{counted, one-passes, once}
+use Rattle.laws.specs.Rising.{Rising, Has, has-at, place-of, rises, of-places, same-list, sorted-rises, sorted-has, sorted-from, sorted-all}
+use Rattle.ranges.specs.Ranges.{ranged}
+use Rattle.invariant.proofs.After.{client-here}
+use Rattle.guarantee.specs.Claims.{Listing, Claim-holdings, HeldOnce, Claim-held-once}
 
 abbrev pages : List Row → List ℕ
 pages rows = map (λ (r : Row). r .page) rows
@@ -24,7 +28,7 @@ page-at rows i = List·getD-map (λ (r : Row). r .page) rows i noRow
 
 module _ (p : Pool) (c : ℕ) where
   abbrev rowOf : ℕ → Row
-  rowOf g = record { page = g; times = timesHeld p c g }
+  rowOf g = record { page = g; times = 1 }
 
   long : length (rowsOf p c) ≡ length (pagesHeld p c)
   unfolding rowsOf
@@ -89,7 +93,7 @@ module _ (p : Pool) (c : ℕ) where
     into g m =
         let at = place-of 0 m in
         let right = l .right (at .0) (rw as-long at (at .1)) in
-        stands g (rw (right .0, ← (page-at rows (at .0)), at .2) at (right .1))
+        stands g (rw (← (page-at rows (at .0)), at .2) at (right .1))
 
     back : (g : ℕ) → Has (pagesHeld p c) g → Has (pages rows) g
     back g m =
@@ -105,3 +109,30 @@ module _ (p : Pool) (c : ℕ) where
 
 pub holdings : Claim-holdings
 holdings p c rows = (only p c rows, λ e. rw e (listing p c))
+
+-- ---- of a pool that passes check 8
+
+module _ (p : Pool) (c : ℕ) (v : valid p ≡ true) where
+  apart : (i j : ℕ) → i < client p c .held → j < client p c .held → grantPage p c i ≡ grantPage p c j → i ≡ j
+  apart i j a b =
+      let here : c < clientCount p = client-here p (λ k. i < k .held) c a (λ z. omega arith) in
+      ranged p v .client c here .single i j a b
+
+  at-most-one : (g : ℕ) → timesHeld p c g ≤ 1
+  unfolding timesHeld
+  at-most-one g = once (λ i. eqb (grantPage p c i) g) (client p c .held) (λ i j a b e w. apart i j a b (eqb-true _ _ e ∙ sym (eqb-true _ _ w)))
+
+  one-grant : (g : ℕ) → Has (pagesHeld p c) g → timesHeld p c g ≡ 1
+  one-grant g m = omega (arith, is-held p c g m, at-most-one g)
+
+  pub held-once-in : HeldOnce p c
+  unfolding pagesHeld
+  held-once-in = record {
+    times = λ i h.
+        let inside : i < length (pagesHeld p c) = rw (long p c) at h in
+        rw (row-at p c i inside) (sym (one-grant _ (has-at 0 (pagesHeld p c) i inside)));
+    as-many = long p c ∙ sorted-all (grantPage p c) (client p c .held) apart;
+  }
+
+pub held-once : Claim-held-once
+held-once p c v = held-once-in p c v

@@ -55,7 +55,10 @@ module _ {p : Pool} {x : Call} where
 
 numbered : (p : Pool) (x : Call) → Numbered p x (refusal p x)
 unfolding refusal refusalAt Listed
-numbered p (Begin c g) = fork _ (fork _ (fork _ (fork _ no-number (by (inr (inr (inr refl))))) (by (inr (inr (inl refl))))) (by (inr (inl refl)))) eight
+numbered p (Begin c g) =
+    fork _
+    (fork _ (fork _ (fork _ (fork _ no-number (by (inr (inr (inr (inr refl)))))) (by (inr (inr (inr (inl refl)))))) (by (inr (inr (inl refl)))))
+    (by (inr (inl refl)))) eight
 numbered p (Step c) = fork _ (fork _ (fork _ (by (inr (inr (inr (inl refl))))) no-number) (by (inr (inr (inl refl))))) eight
 numbered p (Release c g) = fork _ (fork _ (fork _ (fork _ (by (inr (inr (inr refl)))) no-number) (by (inr (inr (inl refl))))) (by (inr (inl refl)))) eight
 

@@ -22,12 +22,12 @@ use Rattle.pool.specs.declared.Client.{Client}
 use Rattle.pool.specs.declared.Move.{Move}
 use Rattle.pool.specs.declared.GrantChange.the-variants.{Same}
 use Rattle.pool.specs.declared.Write.the-variants.{PutPins, PutEntry}
-use Rattle.invariant.proofs.Reached.{Reached, one, mapped, pinsFound, InSlot, FoundMapped, Placed}
+use Rattle.invariant.proofs.Reached.{Reached, one, mapped, pinsFound, grantsOf, InSlot, FoundMapped, Placed}
 use Rattle.invariant.proofs.After.{client-same, client-other, pins-in}
 use Rattle.invariant.proofs.Writes.{countersOnly}
 use Rattle.invariant.proofs.Sums.{sum-zero}
-use Rattle.invariant.proofs.Facts.{own-pins, grant-pinned, unpinned-mapped}
-use Rattle.invariant.proofs.Grants.{grantsOf, GrantsOk, grants-stay, grant-opens, grantsOf-other, grantsOf-keeps, grantsOf-opens}
+use Rattle.invariant.proofs.Facts.{own-pins, grant-pinned, found-mapped, unpinned-mapped}
+use Rattle.invariant.proofs.Grants.{GrantsOk, grants-stay, grant-opens, grantsOf-other, grantsOf-keeps, grantsOf-opens}
 use Rattle.invariant.proofs.Table.{suc-not, some-suc}
 use Rattle.invariant.proofs.Searches.{pins-named}
 use Rattle.guarantee.specs.Sequential.{SeqSlot, empty, stores, SeqClient, Sequential, seqSlot, seqResting, seqClient, Absent, Unused, adding}
@@ -36,7 +36,7 @@ use Rattle.guarantee.proofs.SimulationRelation.{viewFrame, view-unmappe
 use Rattle.guarantee.proofs.SimulationRelation.{client-relation-as, SimulationRelation}
 use Rattle.guarantee.proofs.SeqClients.{Observable, observable, workingMove, grantedMove, refusedMove, Continuing, WorksOn, IsGranted, related-resting}
 use Rattle.guarantee.proofs.SeqClients.{related-working, related-pinned, related-answered, related-admitted}
-use Rattle.guarantee.proofs.Frames.{same-frame, found-mapped, found-has-pin}
+use Rattle.guarantee.proofs.Frames.{same-frame, found-has-pin}
 use Rattle.guarantee.proofs.Pages.{page-there, page-resident}
 use Rattle.guarantee.proofs.ViewAfter.{SameView, ViewChanged, counters-view, pins-view, evict-view, map-view}
 

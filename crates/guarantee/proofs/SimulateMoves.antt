@@ -84,5 +84,5 @@ module _ {p : Pool} {c : ℕ} {q : Sequential} (acting : Acting p c q) (busy : c
       (entryOf p (k .page)) (f .inside) (ap (pins p) (f .entry-frame ∙ l) ∙ known 22 e .1 .1) refl refl
   simulated (evicts20 e) = evicts 20 21 e tt (known 20 e .0 .0)
   simulated (evicts23 e) = evicts 23 4 e tt (known 23 e .0)
-  simulated (begins _ e _) = absurd (busy e)
+  simulated (begins _ e _ _) = absurd (busy e)
   simulated (releases _ e _) = absurd (busy e)

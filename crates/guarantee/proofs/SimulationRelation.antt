@@ -19,10 +19,9 @@ use Rattle.pool.specs.State.{none, evicted, clientCount, slot, pins, client, gr
 use Rattle.pool.specs.declared.Pool.{Pool}
 use Rattle.pool.specs.declared.Client.{Client}
 use Rattle.laws.specs.Choices.{by-test, chosen, passed}
-use Rattle.invariant.proofs.Reached.{one, sumTo, mapped, pinsFound, Shape}
+use Rattle.invariant.proofs.Reached.{one, sumTo, mapped, pinsFound, grantsOf, Shape}
 use Rattle.invariant.proofs.After.{slot-past, client-past}
 use Rattle.invariant.proofs.Searches.{none-evicted}
-use Rattle.invariant.proofs.Grants.{grantsOf}
 use Rattle.guarantee.specs.Sequential.{SeqSlot, empty, stores, SeqClient, Sequential, seqSlot, seqResting, seqClient, without}
 
 -- ---- slots

@@ -81,5 +81,5 @@ module _ (p : Pool) (c : ℕ) (r : Reached p) where
       puts _ _ (k .own) refl (f .inside) (sym (f .entry-frame)) (omega arith)
   table-move (evicts20 _) = keeps tt refl
   table-move (evicts23 _) = keeps tt refl
-  table-move (begins _ _ _) = keeps tt refl
+  table-move (begins _ _ _ _) = keeps tt refl
   table-move (releases _ _ _) = keeps tt refl

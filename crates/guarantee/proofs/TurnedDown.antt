@@ -25,7 +25,7 @@ use Rattle.pool.specs.declared.Answer.the-variants.{Done, Working, Granted, Ref
 use Rattle.laws.specs.Choices.{by-test}
 use Rattle.laws.specs.Scans.{both-true}
 use Rattle.invariant.proofs.StageTests.{differ}
-use Rattle.invariant.proofs.Allowed.{refusal-low}
+use Rattle.invariant.proofs.Allowed.{refusal-not-15}
 use Rattle.invariant.proofs.Calls.{outcomeOf}
 use Rattle.guarantee.specs.Claims.{Claim-turned-down, withClient, RestsRefused, Claim-refused}
 use Rattle.laws.specs.StageAnswers.{StageAnswer, goes, grants, refuses, sticks, stage-answer}
@@ -83,7 +83,7 @@ turned-or-move p x =
     (λ t. turned (refusal p x) (inl (refl, eqb-false _ _ t)) refl)
 
 pub turned-down-not-15 : (p : Pool) (x : Call) (n : ℕ) → TurnedDownBy p x n → n ≢ 15
-turned-down-not-15 p x n (inl r) z = omega (arith, refusal-low p x, r .0)
+turned-down-not-15 p x n (inl r) z = refusal-not-15 p x (r .0 ∙ z)
 turned-down-not-15 p x n (inr r) z = omega arith
 
 -- ---- a move that is refused

@@ -31,6 +31,12 @@ use Rattle.guarantee.specs.BusySweep.{Claim-busy-sweep}
 
 -- ---- GUARANTEE 2: one copy
 
+-- SPECIFICATION 2.2: no client has two grants of one page, and none works on a page that it holds
+pub record OneEach (p : Pool) : Type 0 where
+  pub held-once : (c i j : ℕ) → i < client p c .held → j < client p c .held → grantPage p c i ≡ grantPage p c j → i ≡ j
+  pub not-begun : (c i : ℕ) → client p c .stage ≢ 0 → i < client p c .held → grantPage p c i ≢ client p c .page
+
+-- two grants of one page, which are two clients' then, name one frame
 abbrev pub OneCopy : Pool → Type 0
 OneCopy p =
     (c d i j : ℕ) → i < client p c .held → j < client p d .held → grantPage p c i ≡ grantPage p d j → grantFrame p c i ≡ grantFrame p d j
@@ -62,12 +68,13 @@ module _ (c : ℕ) (e : Event) where
     pub new : is had ≡ record { page = client (e .before) c .page; frame = f }
     pub others : (i : ℕ) → i < had → is i ≡ was i
 
-  -- one grant less: the one at a place, of page g. The last moves to its place, if it was not the last itself.
+  -- one grant less: that of page g, at a place. The last moves to its place, if it was not the last itself.
   pub record GrantEnds (g : ℕ) : Type 0 where
     pub one-less : had ≡ has + 1
     pub place : ℕ
     pub inside : place < had
     pub of-page : was place .page ≡ g
+    pub gone : (i : ℕ) → i < has → is i .page ≢ g
     pub moved : place < has → is place ≡ was has
     pub others : (i : ℕ) → i < has → i ≢ place → is i ≡ was i
 
@@ -78,7 +85,7 @@ module _ (c : ℕ) (e : Event) where
   pub record GrantsAsTold : Type 0 where
     -- a grant begins with the answer that tells the client its frame
     pub granted : (f : ℕ) → e .asked ≡ Step c → e .answer ≡ Granted f → GrantOpens f
-    -- a release that is done ends one
+    -- a release that is done ends the one of its page
     pub released : (g : ℕ) → e .asked ≡ Release c g → e .answer ≡ Done g → GrantEnds g
     -- every other call leaves them, the client's own or another's, whatever its answer
     pub otherwise : (GrantedTo c e → ⊥) → (Releases c e → ⊥) → GrantsStay
@@ -104,6 +111,10 @@ NoHeldEvicted run = (f n : ℕ) → run (BecomesEvicted f) n → run (λ e. held
 
 abbrev pub HeldPinned : Pool → Type 0
 HeldPinned p = (f : ℕ) → held p f ≡ true → pinned 1 ≤ pins p f
+
+-- a pin for each client at most
+abbrev pub FewPins : Pool → Type 0
+FewPins p = (f : ℕ) → pins p f ≤ pinned (clientCount p)
 
 -- ---- GUARANTEE 4: taken out once
 
@@ -213,9 +224,11 @@ RefusedAlone run =
 -- from pool p on; the sequential pool starts with as many slots and clients as p has
 pub record Point3 (p : Pool) (calls : List Call) : Type 0 where
   pub grants : GrantLists p (along (events p calls))
+  pub one-each : Throughout OneEach p calls
   pub one-copy : Throughout OneCopy p calls
   pub no-held-evicted : NoHeldEvicted (along (events p calls))
   pub held-pinned : Throughout HeldPinned p calls
+  pub few-pins : Throughout FewPins p calls
   pub taken-out-once : TakenOutOnce (along (events p calls))
   pub sequential : Follows p (start (p .size) (clientCount p)) calls
   pub one-effect : OneEffect (along (events p calls))
@@ -229,7 +242,7 @@ Claim-point3 = (p : Pool) → SetUp p → (calls : List Call) → Point3 p calls
 
 -- what the call can be answered by, refusal 8 aside
 unfoldable pub Listed : Pool → Call → Answer → Type 0
-Listed p (Begin c g) a = (a ≡ Done g) ⊎ ((a ≡ Refused 9) ⊎ ((a ≡ Refused 10) ⊎ (a ≡ Refused 12)))
+Listed p (Begin c g) a = (a ≡ Done g) ⊎ ((a ≡ Refused 9) ⊎ ((a ≡ Refused 10) ⊎ ((a ≡ Refused 12) ⊎ (a ≡ Refused 18))))
 Listed p (Step c) a =
     ((j : ℕ) × (a ≡ Working j) × (1 ≤ j) × (j ≤ 23)) ⊎ (((f : ℕ) × (a ≡ Granted f) × (f < total p))
     ⊎ ((a ≡ Refused 9) ⊎ ((a ≡ Refused 11) ⊎ (a ≡ Refused 15))))
@@ -342,15 +355,23 @@ Claim-limits =
 
 -- ---- GUARANTEE 14: holdings in page order
 
--- each row is a page that client c holds, with how often; the pages rise; and each page that the client holds has a row
+-- each row is a page that client c holds, once; the pages rise; and each page that the client holds has a row
 pub record Listing (p : Pool) (c : ℕ) (rows : List Row) : Type 0 where
-  pub right : (i : ℕ) → i < length rows → (row rows i .times ≡ timesHeld p c (row rows i .page)) × (0 < row rows i .times)
+  pub right : (i : ℕ) → i < length rows → (row rows i .times ≡ 1) × (0 < timesHeld p c (row rows i .page))
   pub rising : (i j : ℕ) → i < j → j < length rows → row rows i .page < row rows j .page
   pub complete : (g : ℕ) → 0 < timesHeld p c g → (i : ℕ) × (i < length rows) × (row rows i .page ≡ g)
 
 -- the rows of the definition are a listing, and no other list is one; of every pool, from wherever it was handed
 abbrev pub Claim-holdings : Type 0
 Claim-holdings = (p : Pool) (c : ℕ) (rows : List Row) → Listing p c rows ↔ (rows ≡ rowsOf p c)
+
+-- SPECIFICATION 8.1, of every pool that passes check 8: 1 is how often the page of a row is held, and there are as many rows as grants
+pub record HeldOnce (p : Pool) (c : ℕ) : Type 0 where
+  pub times : (i : ℕ) → i < length (rowsOf p c) → row (rowsOf p c) i .times ≡ timesHeld p c (row (rowsOf p c) i .page)
+  pub as-many : length (rowsOf p c) ≡ client p c .held
+
+abbrev pub Claim-held-once : Type 0
+Claim-held-once = (p : Pool) (c : ℕ) → valid p ≡ true → HeldOnce p c
 
 -- ---- all of it
 
@@ -365,3 +386,4 @@ pub record Guarantee : Type 0 where
   pub sum : Claim-sum
   pub limits : Claim-limits
   pub holdings : Claim-holdings
+  pub held-once : Claim-held-once

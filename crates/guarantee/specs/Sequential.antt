@@ -65,7 +65,9 @@ without g (x ∷ xs) = choose (eqb x g) xs (x ∷ without g xs)
 -- SPECIFICATION 11.3: the number by which a call is turned down, 0 where it is not
 unfoldable pub seqRefusal : Sequential → Call → ℕ
 seqRefusal q (Begin c g) =
-    choose (ltb c (length (q .clients))) (choose (eqb (seqClient q c .stage) 0) (choose (ltb (length (seqClient q c .grants)) maxHeld) 0 12) 10) 9
+    let grants = seqClient q c .grants in
+    choose (ltb c (length (q .clients)))
+    (choose (eqb (seqClient q c .stage) 0) (choose (ltb (length grants) maxHeld) (choose (member g grants) 18 0) 12) 10) 9
 seqRefusal q (Step c) = choose (ltb c (length (q .clients))) (choose (eqb (seqClient q c .stage) 0) 11 0) 9
 seqRefusal q (Release c g) =
     choose (ltb c (length (q .clients))) (choose (eqb (seqClient q c .stage) 0) (choose (member g (seqClient q c .grants)) 0 13) 10) 9

@@ -16,23 +16,17 @@ use Rattle.pool.specs.declared.Move.{Move}
 use Rattle.pool.specs.declared.Pool.{Pool}
 use Rattle.pool.specs.declared.Write.the-variants.{Keep}
 use Rattle.laws.specs.Choices.{by-test}
-use Rattle.invariant.proofs.Allowed.{refusal-at}
+use Rattle.invariant.proofs.Allowed.{turned-by}
 use Rattle.invariant.proofs.StageTests.{differ}
 use Rattle.guarantee.specs.Claims.{withClient}
 use Rattle.guarantee.proofs.TurnedDown.{other-answer, refused-by, rests}
 use Rattle.memory.specs.Memory.{memoryAfter, storeAfter}
-use Rattle.memory.specs.Requests.{Request, Asks, ReadByte, WriteByte, State, Result, firstOf, outsideAt, byteRefusal, actionOn}
+use Rattle.memory.specs.Orders.{first-either, order-either}
+use Rattle.memory.specs.Requests.{Request, Asks, ReadByte, WriteByte, State, Result, outsideAt, byteRefusal, actionOn}
 use Rattle.in_place.specs.Held.{Held, heldRefusal, heldOf, byteHeldRefusal, byteHeld, heldOn}
 use Rattle.held_claims.specs.HeldClaims.{RestsBusy, Claim-busy}
 
 -- ---- no call is turned down by 15
-
-turned-low : (p : Pool) (call : Call) → turnedBy p call < 14
-turned-low p call = by-test (λ (n : ℕ). n < 14) (λ _. refusal-at p (client p (caller call)) call .0) (λ _. omega arith)
-
-first-not-15 : (n k : ℕ) → n < 14 → k ≢ 15 → firstOf n k ≢ 15
-unfolding firstOf
-first-not-15 n k h z = by-test (λ (i : ℕ). i ≢ 15) (λ _. z) (λ _ e. let y : ⊥ = omega (arith, h, e) in y)
 
 outside-not-15 : (n : ℕ) (call : Call) → outsideAt n call ≢ 15
 unfolding outsideAt
@@ -48,14 +42,13 @@ byte-not-15 n g o =
 held-not-15 : (p : Pool) (n : ℕ) (call : Call) → heldRefusal p n call ≢ 15
 unfolding heldRefusal
 held-not-15 p n call =
-    by-test (λ (i : ℕ). i ≢ 15) (λ _. first-not-15 (turnedBy p call) (outsideAt n call) (turned-low p call) (outside-not-15 n call)) (λ _. differ 8 15 tt)
+    by-test (λ (i : ℕ). i ≢ 15) (λ _. order-either _ _ (λ (i : ℕ). i ≢ 15) (turned-by p call .0) (outside-not-15 n call)) (λ _. differ 8 15 tt)
 
 byte-held-not-15 : (x : State) (c g o : ℕ) → byteHeldRefusal x c g o ≢ 15
 unfolding byteHeldRefusal
 byte-held-not-15 x c g o =
     by-test (λ (i : ℕ). i ≢ 15)
-    (λ _. first-not-15 (turnedBy (x .pool) (Release c g)) (byteRefusal (x .memory .pages) g o) (turned-low (x .pool) (Release c g))
-    (byte-not-15 (x .memory .pages) g o))
+    (λ _. first-either _ _ (λ (i : ℕ). i ≢ 15) (turned-by (x .pool) (Release c g) .0) (byte-not-15 (x .memory .pages) g o))
     (λ _. differ 8 15 tt)
 
 -- ---- the calls

@@ -25,7 +25,8 @@ use Rattle.laws.specs.Scans.{both-true}
 use Rattle.ranges.specs.Ranges.{Ranged, ClientRanged, ranged}
 use Rattle.invariant.proofs.StageTests.{differ}
 use Rattle.memory.specs.Memory.{isFrame}
-use Rattle.memory.specs.Requests.{Asks, State, Result, firstOf, outsideAt, refused, callOn}
+use Rattle.memory.specs.Orders.{order-none}
+use Rattle.memory.specs.Requests.{Asks, State, Result, inOrder, outsideAt, refused, callOn}
 use Rattle.effects.specs.Parts.{replacedIn, replacedOf}
 use Rattle.contents.proofs.Ways.{apart}
 use Rattle.mixed.proofs.StageWrites.{Puts, refuses, keeps, takes, removes, admits, remaps, stage-does}
@@ -33,7 +34,7 @@ use Rattle.play.specs.Turn.{is-client}
 use Rattle.checked.specs.Ways.{Wrote, answers, nothing, move-wrote}
 use Rattle.in_place.specs.Held.{dutyWord, dutyAt, dutyOf, dutyOn, Held, heldOf, acted, heldOn}
 use Rattle.held_claims.specs.HeldClaims.{Tells, Claim-duty, Claim-no-duty}
-use Rattle.held_claims.proofs.Same.{zero-of-first, checked, same-call, valid-pool, on-held, away, acts}
+use Rattle.held_claims.proofs.Same.{checked, same-call, valid-pool, on-held, away, acts}
 
 -- what a write that leaves bytes and marks alone tells
 quiet : (e : ℕ) (w : Write) → T (apart w) → dutyOf e w ≡ 0
@@ -84,7 +85,7 @@ module _ (x : State) (c : ℕ) (z : callOn x (Asks (Step c)) .answer ≢ Refused
 
   -- what the call answers is what its move does
   abbrev n : ℕ
-  n = firstOf (turnedBy p (Step c)) (outsideAt (x .memory .pages) (Step c))
+  n = inOrder (turnedBy p (Step c)) (outsideAt (x .memory .pages) (Step c))
 
   answer-is : {h : Held} → heldOf p (x .memory .pages) (Step c) ≡ h → callOn x (Asks (Step c)) .answer ≡ h .answer
   answer-is e =
@@ -111,7 +112,7 @@ module _ (x : State) (c : ℕ) (z : callOn x (Asks (Step c)) .answer ≢ Refused
     -- a client that acts is one of the pool's, and its frames are frames of the pool
     its : ClientRanged p c
     unfolding caller
-    its = r .client c (is-client p (Step c) (zero-of-first (turnedBy p (Step c)) (outsideAt (x .memory .pages) (Step c)) e))
+    its = r .client c (is-client p (Step c) (order-none (turnedBy p (Step c)) (outsideAt (x .memory .pages) (Step c)) e .0))
 
     by-puts : refused (moveOf p (Step c) .answer) ≡ false → Puts p k (moveOf p (Step c)) → Tells x k (dutyOn x c)
     unfolding dutyOf replacedIn entryFrame lookup

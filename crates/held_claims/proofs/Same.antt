@@ -28,7 +28,8 @@ use Rattle.laws.specs.Choices.{by-test, chosen, passed}
 use Rattle.laws.specs.Scans.{both-first, both-true, both-yes, every-yes}
 use Rattle.ranges.specs.Ranges.{Ranged, ranged, pins-low}
 use Rattle.memory.specs.Memory.{pageBytes, memoryAfter, storeAfter}
-use Rattle.memory.specs.Requests.{Request, Asks, ReadByte, WriteByte, State, Result, turnedBack, bytesOk, lent, storeOk, firstOf, outsideAt, byteRefusal}
+use Rattle.memory.specs.Orders.{first-some, order-some, order-none}
+use Rattle.memory.specs.Requests.{Request, Asks, ReadByte, WriteByte, State, Result, turnedBack, bytesOk, lent, storeOk, firstOf, inOrder, outsideAt, byteRefusal}
 use Rattle.memory.specs.Requests.{turnedAwayBy, refusalOn, refused, writeOf, actionOn, callOn}
 use Rattle.contents.proofs.Passed.{call-acts, call-turned}
 use Rattle.play.specs.Turn.{turn, played, its-number, is-client, moves}
@@ -90,13 +91,12 @@ unfolding choose
 by-choice true n k z = refl
 by-choice false n k z = absurd (z refl)
 
+-- the pool's own 8 comes first, in a call and in a read or write
 not-first : (n k : ℕ) → firstOf n k ≢ 8 → n ≢ 8
-unfolding firstOf
-not-first n k z e = z (passed _ _ _ (ne-eqb n 0 (λ w. let y : ⊥ = omega (arith, e, w) in y)) ∙ e)
+not-first n k z e = z (first-some n k (λ w. let y : ⊥ = omega (arith, e, w) in y) ∙ e)
 
-pub zero-of-first : (n k : ℕ) → firstOf n k ≡ 0 → n ≡ 0
-unfolding firstOf
-zero-of-first n k = by-test (λ (y : ℕ). y ≡ 0 → n ≡ 0) (λ t _. eqb-true n 0 t) (λ t e. absurd (eqb-false n 0 t e))
+not-in-order : (n k : ℕ) → inOrder n k ≢ 8 → n ≢ 8
+not-in-order n k z e = z (order-some n k (λ w. let y : ⊥ = omega (arith, e, w) in y) (λ w. let y : ⊥ = omega (arith, e, w) in y) ∙ e)
 
 module _ (x : State) (r : Request) (z : callOn x r .answer ≢ Refused 8) where
   not-8 : refusalOn x r ≢ 8
@@ -113,10 +113,10 @@ module _ (x : State) (r : Request) (z : callOn x r .answer ≢ Refused 8) where
   pub past-8 : turnedAwayBy x r ≢ 8
   past-8 e = not-8 (number ∙ e)
 
-module _ (p : Pool) (call : Call) (k : ℕ) (z : firstOf (refusal p call) k ≢ 8) where
+module _ (p : Pool) (call : Call) (z : refusal p call ≢ 8) where
   pub is-valid : valid p ≡ true
   unfolding refusal
-  is-valid = by-choice _ _ _ (not-first (refusal p call) k z)
+  is-valid = by-choice _ _ _ z
 
   pub own-number : refusal p call ≡ turnedBy p call
   unfolding refusal
@@ -131,19 +131,19 @@ module _ (x : State) (call : Call) (z : callOn x (Asks call) .answer ≢ Refused
   abbrev n : ℕ
   n = x .memory .pages
 
-  z′ : firstOf (refusal p call) (outsideAt n call) ≢ 8
+  z′ : refusal p call ≢ 8
   unfolding turnedAwayBy
-  z′ = past-8 x (Asks call) z
+  z′ = not-in-order (refusal p call) (outsideAt n call) (past-8 x (Asks call) z)
 
   pub valid-pool : valid p ≡ true
-  valid-pool = is-valid p call (outsideAt n call) z′
+  valid-pool = is-valid p call z′
 
   abbrev k : ℕ
-  k = firstOf (turnedBy p call) (outsideAt n call)
+  k = inOrder (turnedBy p call) (outsideAt n call)
 
   pub spec-number : refusalOn x (Asks call) ≡ k
   unfolding turnedAwayBy
-  spec-number = number x (Asks call) z ∙ ap (λ (i : ℕ). firstOf i (outsideAt n call)) (own-number p call (outsideAt n call) z′)
+  spec-number = number x (Asks call) z ∙ ap (λ (i : ℕ). inOrder i (outsideAt n call)) (own-number p call z′)
 
   pub held-number : heldRefusal p n call ≡ k
   unfolding heldRefusal
@@ -173,7 +173,7 @@ module _ (x : State) (call : Call) (z : callOn x (Asks call) .answer ≢ Refused
   -- acting
   module _ (e : k ≡ 0) where
     no-turn : turnedBy p call ≡ 0
-    no-turn = zero-of-first (turnedBy p call) (outsideAt n call) e
+    no-turn = order-none (turnedBy p call) (outsideAt n call) e .0
 
     pub acts : h ≡ acted p call
     unfolding heldOf
@@ -234,10 +234,10 @@ module _ (x : State) (r : Request) (c g o : ℕ) (z : callOn x r .answer ≢ Ref
   byte-number : byteHeldRefusal x c g o ≡ refusalOn x r
   unfolding byteHeldRefusal
   byte-number =
-      let w : firstOf (refusal (x .pool) (Release c g)) (byteRefusal (x .memory .pages) g o) ≢ 8 = λ e. past-8 x r z (by ∙ e) in
-      let v = is-valid (x .pool) (Release c g) _ w in
+      let w : refusal (x .pool) (Release c g) ≢ 8 = not-first _ _ (λ e. past-8 x r z (by ∙ e)) in
+      let v = is-valid (x .pool) (Release c g) w in
       chosen _ _ _ (both-yes _ _ (sym right ∙ both-true _ _ (checked x r z) .1) (holder-passes (x .pool) v c))
-      ∙ ap (λ (i : ℕ). firstOf i (byteRefusal (x .memory .pages) g o)) (sym (own-number (x .pool) (Release c g) _ w)) ∙ sym (number x r z ∙ by)
+      ∙ ap (λ (i : ℕ). firstOf i (byteRefusal (x .memory .pages) g o)) (sym (own-number (x .pool) (Release c g) w)) ∙ sym (number x r z ∙ by)
 
   same-byte : byteHeld x r (byteHeldRefusal x c g o) ≡ callOn x r
   unfolding callOn

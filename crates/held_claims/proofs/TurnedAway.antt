@@ -21,12 +21,12 @@ use Rattle.pool.specs.declared.Pool.{Pool}
 use Rattle.laws.specs.Choices.{by-test}
 use Rattle.laws.specs.StageAnswers.{StageAnswer, goes, grants, refuses, sticks, stage-answer}
 use Rattle.memory.specs.Memory.{memoryAfter, storeAfter}
+use Rattle.memory.specs.Orders.{order-none}
 use Rattle.memory.specs.Requests.{Request, Asks, ReadByte, WriteByte, State, Result, outsideAt, refused, actionOn}
 use Rattle.play.specs.Turn.{is-client}
 use Rattle.play.specs.Calls.{unchanged}
 use Rattle.in_place.specs.Held.{Held, turnedAway, heldRefusal, heldOf, heldState, byteHeldRefusal, byteHeld, heldOn}
 use Rattle.held_claims.specs.HeldClaims.{Claim-turned-away}
-use Rattle.held_claims.proofs.Same.{zero-of-first}
 
 -- ---- a move that is refused by another number than 15 is stuck
 
@@ -55,7 +55,7 @@ module _ (p : Pool) (n : ℕ) (call : Call) where
   no-turn : heldRefusal p n call ≡ 0 → turnedBy p call ≡ 0
   unfolding heldRefusal
   no-turn =
-      by-test (λ (k : ℕ). k ≡ 0 → turnedBy p call ≡ 0) (λ _. zero-of-first (turnedBy p call) (outsideAt n call)) (λ _ e. absurd (let y : ⊥ = omega arith in y))
+      by-test (λ (k : ℕ). k ≡ 0 → turnedBy p call ≡ 0) (λ _ e. order-none (turnedBy p call) (outsideAt n call) e .0) (λ _ e. absurd (let y : ⊥ = omega arith in y))
 
   away : (k : ℕ) → k ≢ 15 → heldOf p n call .answer ≡ Refused k → heldOf p n call ≡ turnedAway k p
   unfolding heldOf refusalOf

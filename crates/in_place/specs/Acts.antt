@@ -30,7 +30,8 @@ use Rattle.laws.specs.Elements.{clientIn}
 use Rattle.laws.specs.Scans.{both-true, both-yes, every-at}
 use Rattle.ranges.specs.Ranges.{Numbers, numbers-in}
 use Rattle.frame_search.specs.Search.{Searchable, searchedIn}
-use Rattle.memory.specs.Requests.{inside, firstOf, outsideAt}
+use Rattle.memory.specs.Orders.{order-some, order-alone, order-none}
+use Rattle.memory.specs.Requests.{inside, inOrder, outsideAt}
 use Rattle.effects.specs.Parts.{replacedIn, replacedOf}
 use Rattle.play.specs.Turn.{turn, its-number, moves, stays}
 use Rattle.play.specs.Calls.{unchanged}
@@ -189,11 +190,11 @@ module _ (p : Pool) (n : ℕ) (call : Call) where
         refl))
 
     pub no-such : clientCount p ≤ caller call → ActsTo p n call (actedAway 9) p
-    unfolding heldRefusal firstOf
+    unfolding heldRefusal
     no-such h =
         away 9 (λ z. let y : ⊥ = omega arith in y)
-        (chosen _ _ _ (nobody-fits h) ∙ ap (λ (t : ℕ). choose (eqb t 0) (outsideAt n call) t) (passed _ _ _ (le-ltb _ _ h))
-        ∙ passed _ _ _ (ne-eqb 9 0 (λ z. let y : ⊥ = omega arith in y)))
+        (chosen _ _ _ (nobody-fits h) ∙ ap (λ (t : ℕ). inOrder t (outsideAt n call)) (passed _ _ _ (le-ltb _ _ h))
+        ∙ order-some 9 _ (λ z. let y : ⊥ = omega arith in y) (λ z. let y : ⊥ = omega arith in y))
 
     module _ (its : clientFits (p .size) (pins p (k .found)) k ≡ true) where
       pub no-search : searchFits p k ≡ false → ActsTo p n call (actedAway 8) p
@@ -205,34 +206,31 @@ module _ (p : Pool) (n : ℕ) (call : Call) where
         unfolding fits
         all-fits = both-yes _ _ numbers (both-yes _ _ its searches)
 
-        by-number : heldRefusal p n call ≡ firstOf (turnedBy p call) (outsideAt n call)
+        by-number : heldRefusal p n call ≡ inOrder (turnedBy p call) (outsideAt n call)
         unfolding heldRefusal
         by-number = chosen _ _ _ all-fits
 
         -- ---- refused by 16, or by what comes before it
 
-        pub outside-alone : insideOf n call ≡ false → {t : ℕ} → t ≡ turnedBy p call → t ≡ 0 → ActsTo p n call (actedAway 16) p
-        unfolding firstOf
-        outside-alone e f z =
-            away 16 (λ w. let y : ⊥ = omega arith in y) (by-number ∙ chosen _ _ _ (eq-eqb _ _ (sym f ∙ z)) ∙ outside-number n call e)
-
-        pub turned : {t : ℕ} → t ≡ turnedBy p call → t ≢ 0 → ActsTo p n call (actedAway t) p
-        unfolding firstOf
-        turned f z = away _ z (by-number ∙ passed _ _ _ (ne-eqb _ _ (λ w. z (f ∙ w))) ∙ sym f)
+        pub outside : insideOf n call ≡ false → {t i : ℕ} → t ≡ turnedBy p call → i ≡ inOrder t 16 → ActsTo p n call (actedAway i) p
+        outside e {t} f g =
+            away _ (λ z. let none = order-none t 16 (sym g ∙ z) .1 in let y : ⊥ = omega arith in y)
+            (by-number ∙ rw (outside-number n call e, ← f) (sym g))
 
         -- ---- the action
 
         module _ (within : insideOf n call ≡ true) (h : caller call < clientCount p) where
+          number : heldRefusal p n call ≡ turnedBy p call
+          number = by-number ∙ order-alone _ _ (inside-number n call within)
+
           moves-on : turnedBy p call ≡ 0 → heldOf p n call ≡ acted p call
-          unfolding heldOf firstOf
-          moves-on z = chosen _ _ _ (eq-eqb _ _ (by-number ∙ chosen _ _ _ (eq-eqb _ _ z) ∙ inside-number n call within))
+          unfolding heldOf
+          moves-on z = chosen _ _ _ (eq-eqb _ _ (number ∙ z))
 
           -- a turn that is turned down puts the client's record back as it was
           stays-away : turnedBy p call ≢ 0 → heldOf p n call ≡ turnedAway (turnedBy p call) p
-          unfolding heldOf firstOf
-          stays-away z =
-              let by = by-number ∙ passed _ _ _ (ne-eqb _ _ z) in
-              passed _ _ _ (ne-eqb _ _ (λ w. z (sym by ∙ w))) ∙ ap (λ (i : ℕ). turnedAway i p) by
+          unfolding heldOf
+          stays-away z = passed _ _ _ (ne-eqb _ _ (λ w. z (sym number ∙ w))) ∙ ap (λ (i : ℕ). turnedAway i p) number
 
           is-still : turnedBy p call ≢ 0 → turn p call ≡ still k (turnedBy p call)
           is-still z = stays p call z ∙ ap (λ (c : ℕ). still (client p c) (turnedBy p call)) (its-number (clientCount p) (caller call) h)

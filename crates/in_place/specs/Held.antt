@@ -22,7 +22,7 @@ use Rattle.pool.specs.declared.Pool.{Pool}
 use Rattle.pool.specs.declared.Write.{Write}
 use Rattle.pool.specs.declared.Write.the-variants.{Keep, PutSlot, PutPins, PutCount, TakeFrame, PutEntry, PutHand, PutFree}
 use Rattle.memory.specs.Memory.{pageBytes, isFrame, memoryAfter, storeAfter}
-use Rattle.memory.specs.Requests.{Request, Asks, ReadByte, WriteByte, State, Result, turnedBack, storeOk, firstOf, outsideAt, byteRefusal, actionOn}
+use Rattle.memory.specs.Requests.{Request, Asks, ReadByte, WriteByte, State, Result, turnedBack, storeOk, firstOf, inOrder, outsideAt, byteRefusal, actionOn}
 use Rattle.effects.specs.Parts.{replacedOf}
 use Rattle.play.specs.Parts.{poolOf}
 use Rattle.client_arrays.specs.Arrays.{clientsFrom}
@@ -67,7 +67,7 @@ acted p call = let m = moveOf p call in record { answer = m .answer; counted = m
 
 -- SPECIFICATION 14.4, 14.5: by which number a call is turned down before its action, beside a store of n pages; 0 for none
 unfoldable pub heldRefusal : Pool → ℕ → Call → ℕ
-heldRefusal p n call = choose (fits p (caller call)) (firstOf (turnedBy p call) (outsideAt n call)) 8
+heldRefusal p n call = choose (fits p (caller call)) (inOrder (turnedBy p call) (outsideAt n call)) 8
 
 -- SPECIFICATION 14.5: a call
 unfoldable pub heldOf : Pool → ℕ → Call → Held

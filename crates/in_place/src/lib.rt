@@ -197,10 +197,7 @@ pub fn act(
     let is_inside = inside(store_pages, call);
     if !is_inside {
         let n = refusals::turned_by(call, client_count, client, grant_pages);
-        if n == 0 {
-            return away(16);
-        }
-        return away(n);
+        return away(byte_checks::outside(n));
     }
     let turn = play::decide(
         call,

@@ -1,40 +1,47 @@
 -- What a call has passed that no check turns down: its pool is valid, its client is one of the pool's, and that client rests where it begins or
--- releases, with room for a grant or with one to release, and works where it steps. So of a working client a call is a step. Of every pool, a handed
+-- releases, with room for a grant and none of the page, or with one to release, and works where it steps. So of a working client a call is a step. Of every pool, a handed
 -- one too. Assumes nothing.
 use mathlib.Core.Path.{_≡_, refl}
 use mathlib.Core.Logic.{_≢_}
-use mathlib.Core.Bool.{true}
+use mathlib.Core.Bool.{true, not, _&&_}
 use Prim.Native.Nat.{ℕ, _<_}
 use native.Mathlib.Omega.{arith}
+use lib.Dec.{T, eqb}
 use borrow.Author.Tests.{eqb-true, eqb-false, ltb-true}
 use Rattle.pool.specs.Limits.{maxHeld}
 use Rattle.pool.specs.State.{none, clientCount, client}
 use Rattle.pool.specs.Grants.{grantOf}
 use Rattle.pool.specs.Valid.{valid}
-use Rattle.pool.specs.Calls.{caller, refusalAt, refusal}
+use Rattle.pool.specs.Calls.{caller, refusalAt, turnedBy, refusal}
 use Rattle.pool.specs.declared.Pool.{Pool}
 use Rattle.pool.specs.declared.Client.{Client}
 use Rattle.pool.specs.declared.Call.{Call}
 use Rattle.pool.specs.declared.Call.the-variants.{Begin, Step, Release}
 use Rattle.laws.specs.Choices.{by-test}
+use Rattle.laws.specs.Scans.{and-parts}
 use Rattle.invariant.proofs.StageTests.{differ}
 
--- the checks after 8 turn down by 9 to 13
+-- the checks after 8 turn down by 9 to 13 or 18: not by 15, which only an action is refused by, and not by 8
 abbrev After8 : ℕ → Type 0
-After8 n = (n < 14) × (n ≢ 8)
+After8 n = (n ≢ 15) × (n ≢ 8)
+
+after-8 : (n : ℕ) → T (not (eqb n 15) && not (eqb n 8)) → After8 n
+after-8 n t = let both = and-parts (not (eqb n 15)) _ t in (differ n 15 (both .0), differ n 8 (both .1))
 
 pub refusal-at : (p : Pool) (k : Client) (x : Call) → After8 (refusalAt p k x)
 unfolding refusalAt
 refusal-at p k (Begin c g) =
-    by-test After8 (λ _. by-test After8 (λ _. (omega arith, differ 0 8 tt)) (λ _. (omega arith, differ 12 8 tt))) (λ _. (omega arith, differ 10 8 tt))
-refusal-at p k (Step c) = by-test After8 (λ _. (omega arith, differ 11 8 tt)) (λ _. (omega arith, differ 0 8 tt))
-refusal-at p k (Release c g) =
-    by-test After8 (λ _. by-test After8 (λ _. (omega arith, differ 13 8 tt)) (λ _. (omega arith, differ 0 8 tt))) (λ _. (omega arith, differ 10 8 tt))
+    by-test After8
+    (λ _. by-test After8 (λ _. by-test After8 (λ _. after-8 0 tt) (λ _. after-8 18 tt)) (λ _. after-8 12 tt)) (λ _. after-8 10 tt)
+refusal-at p k (Step c) = by-test After8 (λ _. after-8 11 tt) (λ _. after-8 0 tt)
+refusal-at p k (Release c g) = by-test After8 (λ _. by-test After8 (λ _. after-8 13 tt) (λ _. after-8 0 tt)) (λ _. after-8 10 tt)
 
-pub refusal-low : (p : Pool) (x : Call) → refusal p x < 14
+pub turned-by : (p : Pool) (x : Call) → After8 (turnedBy p x)
+turned-by p x = by-test After8 (λ _. refusal-at p (client p (caller x)) x) (λ _. after-8 9 tt)
+
+pub refusal-not-15 : (p : Pool) (x : Call) → refusal p x ≢ 15
 unfolding refusal
-refusal-low p x =
-    by-test (λ n. n < 14) (λ _. by-test (λ n. n < 14) (λ _. refusal-at p (client p (caller x)) x .0) (λ _. omega arith)) (λ _. omega arith)
+refusal-not-15 p x = by-test (λ n. n ≢ 15) (λ _. turned-by p x .0) (λ _. differ 8 15 tt)
 
 pub record Allowed (p : Pool) (x : Call) : Type 0 where
   pub ok : valid p ≡ true
@@ -49,11 +56,15 @@ allowed p x =
     (λ _ e. absurd (omega arith))
 
 module _ (p : Pool) (k : Client) (c : ℕ) where
-  pub may-begin : (g : ℕ) → refusalAt p k (Begin c g) ≡ 0 → (k .stage ≡ 0) × (k .held < maxHeld)
+  abbrev MayBegin : ℕ → ℕ → Type 0
+  MayBegin g n = n ≡ 0 → (k .stage ≡ 0) × (k .held < maxHeld) × (grantOf p c g ≡ none)
+
+  pub may-begin : (g : ℕ) → MayBegin g (refusalAt p k (Begin c g))
   unfolding refusalAt
   may-begin g =
-      by-test (λ n. n ≡ 0 → (k .stage ≡ 0) × (k .held < maxHeld))
-      (λ t. by-test (λ n. n ≡ 0 → (k .stage ≡ 0) × (k .held < maxHeld)) (λ h _. (eqb-true _ _ t, ltb-true _ _ h)) (λ _ e. absurd (omega arith)))
+      by-test (MayBegin g)
+      (λ t. by-test (MayBegin g)
+      (λ h. by-test (MayBegin g) (λ u _. (eqb-true _ _ t, ltb-true _ _ h, eqb-true _ _ u)) (λ _ e. absurd (omega arith))) (λ _ e. absurd (omega arith)))
       (λ _ e. absurd (omega arith))
 
   pub may-step : refusalAt p k (Step c) ≡ 0 → k .stage ≢ 0

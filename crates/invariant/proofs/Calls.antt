@@ -21,11 +21,13 @@ use Rattle.laws.specs.Scans.{both-yes}
 use Rattle.invariant.proofs.Reached.{Reached}
 use Rattle.invariant.proofs.After.{shape-next}
 use Rattle.invariant.proofs.StageTests.{differ}
-use Rattle.invariant.proofs.Allowed.{refusal-at}
+use Rattle.invariant.proofs.Allowed.{turned-by}
 use Rattle.invariant.proofs.Edges.{Edge}
 use Rattle.invariant.proofs.Steps.{call-edge}
 use Rattle.invariant.proofs.Effects.{NotEnding, Effect, effect}
 use Rattle.invariant.proofs.Ranges.{ranges-next}
+use Rattle.invariant.proofs.Told.{told}
+use Rattle.invariant.proofs.Singles.{singles-next}
 use Rattle.invariant.proofs.Places.{places-next}
 use Rattle.invariant.proofs.Private.{private-next}
 use Rattle.invariant.proofs.PinCounts.{pin-counts-next}
@@ -42,6 +44,7 @@ reached-move p c m h r e =
     record {
       shape = shape-next p c m (r .shape);
       ranges = ranges-next e x;
+      singles = singles-next x (told p c e);
       places = places-next x;
       private = private-next x;
       pin-counts = pin-counts-next p c r e x;
@@ -92,10 +95,7 @@ module _ (p : Pool) (x : Call) where
   -- 8 is no refusal of a reached pool
   pub refusal-not-8 : Reached p → refusal p x ≢ 8
   unfolding refusal
-  refusal-not-8 r e = go x (sym (chosen _ _ 8 (valid-reached p r)) ∙ e)
-    where
-      go : (x : Call) → choose (ltb (caller x) (clientCount p)) (refusalAt p (client p (caller x)) x) 9 ≡ 8 → ⊥
-      go x = by-test (λ (n : ℕ). n ≡ 8 → ⊥) (λ _. refusal-at p (client p (caller x)) x .1) (λ _. differ 9 8 tt)
+  refusal-not-8 r e = turned-by p x .1 (sym (chosen _ _ 8 (valid-reached p r)) ∙ e)
 
 -- ---- lists of calls
 

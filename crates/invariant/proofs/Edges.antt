@@ -66,7 +66,7 @@ module _ (p : Pool) (c : ℕ) where
   abbrev k : Client
   k = client p c
 
-  -- its first grant on page g ends, and its last takes that place
+  -- its grant of page g ends, and its last takes that place
   abbrev pub released : ℕ → Move
   released g =
       let i = grantOf p c g in
@@ -102,5 +102,5 @@ module _ (p : Pool) (c : ℕ) where
     -- 20, 23: the own frame is evicted
     evicts20 : k .stage ≡ 20 → Edge (works (withOwn k none) 21 (PutPins (k .own) evicted))
     evicts23 : k .stage ≡ 23 → Edge (works (withOwn k none) 4 (PutPins (k .own) evicted))
-    begins : (g : ℕ) → k .stage ≡ 0 → k .held < maxHeld → Edge (beginMove k g)
+    begins : (g : ℕ) → k .stage ≡ 0 → k .held < maxHeld → grantOf p c g ≡ none → Edge (beginMove k g)
     releases : (g : ℕ) → k .stage ≡ 0 → grantOf p c g ≢ none → Edge (released g)

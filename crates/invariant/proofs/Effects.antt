@@ -7,7 +7,7 @@ use mathlib.Core.List.{List}
 use Prim.Native.Nat.{ℕ, suc, _+_, _-_, _≤_, _<_}
 use native.Mathlib.Omega.{arith}
 use lib.Dec.{T, eqb, ltb, leb}
-use Rattle.pool.specs.Limits.{maxHeld, maxPins}
+use Rattle.pool.specs.Limits.{maxHeld}
 use Rattle.pool.specs.Answers.{refusalOf}
 use Rattle.pool.specs.State.{none, evicted, pinned, clientCount, total, slot, page, pins, count, entryPage, entryFrame, client}
 use Rattle.pool.specs.Table.{entryOf, lookup}
@@ -26,7 +26,7 @@ use Rattle.pool.specs.declared.Write.{Write}
 use Rattle.pool.specs.declared.Write.the-variants.{PutSlot, PutPins, PutCount, TakeFrame, PutEntry}
 use Rattle.invariant.proofs.After.{SlotsStay, PinsStay, PinsPut, PagesStay, PagesPut, CountsStay, CountsPut, EntryPagesStay, EntryFramesStay}
 use Rattle.invariant.proofs.Writes.{countersOnly, Untouched, untouched}
-use Rattle.invariant.proofs.Reached.{Reached, mapped, InSlot, unplaced, pinsFound, unmapping}
+use Rattle.invariant.proofs.Reached.{Reached, mapped, InSlot, FoundMapped, unplaced, pinsFound, unmapping}
 use Rattle.invariant.proofs.Searches.{lookup-found, lookup-none, unused-found, grantOf-found, free-found}
 use Rattle.invariant.proofs.Table.{suc-not, lookup-mapped}
 use Rattle.invariant.proofs.Grants.{GrantsOk, grants-stay, grant-opens, grant-ends}
@@ -76,7 +76,7 @@ module _ (p : Pool) (c : ℕ) (m : Move) where
 
   -- frame f gets pins x
   pub data PinChange (f x : ℕ) : Type 0 where
-    adds : pins p f ≢ evicted → x ≡ pins p f + 1 → x ≤ pinned maxPins → PinChange f x
+    adds : pins p f ≢ evicted → x ≡ pins p f + 1 → x ≤ pinned (clientCount p) → PinChange f x
     lowers : pinned 1 ≤ pins p f → x ≡ pins p f - 1 → PinChange f x
     evicts-victim : f ≡ k .victim → pins p f ≡ pinned 0 → x ≡ evicted → k .stage ≡ 14 → m .next .stage ≡ 15 → m .next .victim ≡ k .victim
         → m .next .place ≡ k .place → PinChange f x
@@ -255,10 +255,11 @@ module _ (p : Pool) (c : ℕ) (here : c < clientCount p) (r : Reached p) where
 
   -- one more pin for the found frame
   pins-found : (i j : ℕ) → client p c .stage ≡ i → T (not (eqb i 0)) → T (not (pinsFound i)) → T (imp (unplaced j) (unplaced i))
-      → me .found ≢ none → pins p (me .found) ≢ evicted → Effect p c (works me j (PutPins (me .found) (pins p (me .found) + 1)))
+      → FoundMapped p me → pins p (me .found) ≢ evicted → Effect p c (works me j (PutPins (me .found) (pins p (me .found) + 1)))
   unfolding refusalOf
-  pins-found i j e w t u z l =
-      let few : pins p (me .found) < pinned maxPins = one-more-pin p r c here (λ s. differ i 0 w (sym e ∙ s)) (rw e t) z l in
+  pins-found i j e w t u known l =
+      let z = known .0 in
+      let few : pins p (me .found) < pinned (clientCount p) = one-more-pin p r c here (λ s. differ i 0 w (sym e ∙ s)) (rw e t) z l (known .1 l) in
       pinning tt (me .found) _ refl (r .ranges .found-ok c z) (adds l refl (omega arith)) (own-stays refl (rw e u)) refl (grants-stay refl refl)
       (λ _ _ x. no-open x)
 
@@ -310,8 +311,8 @@ module _ (p : Pool) (c : ℕ) (here : c < clientCount p) (r : Reached p) where
   effect (found18 e z) = let l = looking (me .page) z in client-only tt keep (own-stays refl tt) (found-looked-up (l .0) (l .1)) refl refl
   effect (forgets2 e d) = client-only tt keep (own-stays refl tt) (found-forgotten refl) refl refl
   effect (forgets22 e _) = client-only tt keep (own-stays refl tt) (found-forgotten refl) refl refl
-  effect (pins2 e l) = pins-found 2 3 e tt tt tt (known 2 e .0) l
-  effect (pins19 e l) = pins-found 19 20 e tt tt tt (known 19 e .1 .0) l
+  effect (pins2 e l) = pins-found 2 3 e tt tt tt (known 2 e) l
+  effect (pins19 e l) = pins-found 19 20 e tt tt tt (known 19 e .1) l
   effect (gets3 e) = gets-found 3 Hit e tt tt (known 3 e .0) (known 3 e .1)
   effect (gets21 e) = gets-found 21 Join e tt tt (known 21 e .0) (known 21 e .1)
   effect (takes e z) =
@@ -358,7 +359,7 @@ module _ (p : Pool) (c : ℕ) (here : c < clientCount p) (r : Reached p) where
       (λ j q y w. q (r .mapping .pages-distinct j (entryOf p (me .page)) y (λ x. z (sym n ∙ x)) (w ∙ sym (f .entry-page)))))
   effect (evicts20 e) = evicts-own 21 (known 20 e .0 .0)
   effect (evicts23 e) = evicts-own 4 (known 23 e .0)
-  effect (begins g e h) = client-only tt keep (own-stays refl tt) (found-stays refl) refl refl
+  effect (begins g e h _) = client-only tt keep (own-stays refl tt) (found-stays refl) refl refl
   effect (releases g e z) =
       let i : ℕ = grantOf p c g in
       let h = grantOf-found p c g z .0 in

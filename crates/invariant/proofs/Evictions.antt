@@ -259,7 +259,7 @@ module _ (p : Pool) (c : ℕ) (r : Reached p) where
   evictions-condition (revives e _) x = unexamined 22 e refl refl refl tt tt tt
   evictions-condition (evicts20 e) x = unexamined 20 e refl refl refl tt tt tt
   evictions-condition (evicts23 e) x = unexamined 23 e refl refl refl tt tt tt
-  evictions-condition (begins g e _) x = unexamined 0 e refl refl refl tt tt tt
+  evictions-condition (begins g e _ _) x = unexamined 0 e refl refl refl tt tt tt
   evictions-condition (releases g e _) x = unexamined 0 e refl refl (rw e refl) (rw e tt) (rw e tt) tt
 
   pub evictions-next : {m : Move} → Edge p c m → Effect p c m → Evictions (apply p c m)

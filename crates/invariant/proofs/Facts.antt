@@ -1,27 +1,26 @@
 -- What a reached pool says of one frame. An own frame has one pin, its owner's, as nobody else may name it; a frame that somebody claims is pinned, as
--- pins are claims; and there is room for one pin more, as no client claims a frame more than 8 times and there are at most 16. Assumes nothing.
+-- pins are claims; and no client claims a frame twice, so that there is room for one pin more. Assumes nothing.
 use mathlib.Core.Path.{_≡_, refl, sym, ap, _∙_}
 use mathlib.Core.Logic.{_≢_, _⊎_, inl, inr}
-use mathlib.Core.Bool.{not, _&&_}
-use Prim.Native.Nat.{ℕ, _+_, _*_, _≤_, _<_}
+use mathlib.Core.Bool.{Bool, true, false, not, _&&_, _||_, true≢false}
+use Prim.Native.Nat.{ℕ, suc, _+_, _*_, _≤_, _<_}
 use native.Mathlib.Omega.{arith}
 use native.Mathlib.Decide.{ℕ-discrete}
 use lib.Dec.{T, eqb}
-use borrow.Author.Tests.{ne-eqb, ltb-true}
-use Rattle.pool.specs.Limits.{maxHeld, maxPins}
-use Rattle.pool.specs.State.{none, evicted, pinned, clientCount, resting, page, pins, client, grantFrame}
+use borrow.Author.Tests.{eqb-true, eq-eqb, ne-eqb, ltb-true}
+use Rattle.pool.specs.State.{none, evicted, pinned, clientCount, resting, page, pins, client, grantPage, grantFrame}
 use Rattle.pool.specs.Table.{lookup}
 use Rattle.pool.specs.Stages.{raised}
 use Rattle.pool.specs.declared.Pool.{Pool}
 use Rattle.pool.specs.declared.Client.{Client}
 use Rattle.laws.specs.Choices.{by-test}
-use Rattle.invariant.proofs.Reached.{one, mapped, InSlot, grantsOn, claims, claimed, pinsFound, unplaced, examining, Orphan, Balance, unclaimed, counted}
+use Rattle.invariant.proofs.Reached.{one, mapped, InSlot, FoundMapped, Knows, grantsOf, grantsOn, claims, claimed, pinsFound, unplaced, examining, Orphan, Balance, unclaimed, counted}
 use Rattle.invariant.proofs.Reached.{orphan, Reached}
 use Rattle.invariant.proofs.StageTests.{T-true, T-false, and-false, examining-cases}
 use Rattle.invariant.proofs.After.{client-here}
-use Rattle.invariant.proofs.Sums.{one-is, one-not, one-at-most, sum-zero, sum-one, sum-has, sum-gap, sum-at-most}
+use Rattle.invariant.proofs.Sums.{one-is, one-not, one-at-most, sum-zero, sum-one, sum-has, sum-two, sum-below, sum-gap}
 use Rattle.invariant.proofs.Searches.{grantFrame-past, grant-in}
-use Rattle.invariant.proofs.Table.{some-suc, mapped-lookup}
+use Rattle.invariant.proofs.Table.{suc-not, some-suc, mapped-lookup}
 use Rattle.invariant.proofs.Grants.{grantsOn-none}
 use Rattle.invariant.proofs.NeverFails.{know}
 
@@ -112,34 +111,85 @@ module _ (p : Pool) (r : Reached p) where
   found-pinned c t z =
       claimed-pinned c (client p c .found) z (rw (T-true (pinsFound (client p c .stage)) t) (omega (arith, one-is (client p c .found))))
 
-  -- ---- how many claims there are
+  -- ---- a client claims a frame once
 
-  grants-at-most : (c f : ℕ) → grantsOn p c f ≤ client p c .held
-  unfolding grantsOn
-  grants-at-most c f = omega (arith, sum-at-most (λ i. one (eqb (grantFrame p c i) f)) (client p c .held) 1 (λ i _. one-at-most (eqb (grantFrame p c i) f)))
+  -- two grants at one client are of two pages
+  pub single : (c i j : ℕ) → i < client p c .held → j < client p c .held → grantPage p c i ≡ grantPage p c j → i ≡ j
+  unfolding grantsOf
+  single c i j a b e = elim (ℕ-discrete i j) [
+    | yes w ↦ w
+    | no w ↦
+        let g : ℕ = grantPage p c j in
+        let two = sum-two (λ x. one (eqb (grantPage p c x) g)) (client p c .held) i j a b w in
+        absurd (omega (arith, r .singles .one-each c g, ap one (eq-eqb _ _ e), one-is g))
+  ]
 
-  -- a client with an own frame claims no other way
-  claims-at-most : (c f : ℕ) → f ≢ none → claims p c f ≤ maxHeld
-  claims-at-most c f z = go (ℕ-discrete (client p c .own) f) (ℕ-discrete (client p c .stage) 0)
+  -- the grants on a frame are of the page that is mapped to it
+  grants-on : (c f g : ℕ) → f ≢ none → mapped p f ≡ suc g → grantsOn p c f ≤ grantsOf p c g
+  unfolding grantsOn grantsOf
+  grants-on c f g z e =
+      sum-below (λ i. one (eqb (grantFrame p c i) f)) (λ i. one (eqb (grantPage p c i) g)) (client p c .held) (λ i _. go i (ℕ-discrete (grantFrame p c i) f))
+    where
+      go : (i : ℕ) → Dec (grantFrame p c i ≡ f) → one (eqb (grantFrame p c i) f) ≤ one (eqb (grantPage p c i) g)
+      go i (no w) = omega (arith, one-not _ _ w)
+      go i (yes w) =
+          let s : suc (grantPage p c i) ≡ suc g = sym (r .mapping .grant-mapped c i (λ n. z (sym w ∙ n))) ∙ ap (mapped p) w ∙ e in
+          let same : grantPage p c i ≡ g = omega arith in
+          omega (arith, ap one (eq-eqb _ _ same), one-at-most (eqb (grantFrame p c i) f))
+
+  -- it is its page's frame that a working client finds, and it holds none of that page
+  found-ungranted : (c : ℕ) → client p c .stage ≢ 0 → client p c .found ≢ none → mapped p (client p c .found) ≡ suc (client p c .page)
+      → grantsOn p c (client p c .found) ≡ 0
+  found-ungranted c s z e = omega (arith, grants-on c (client p c .found) (client p c .page) z e, r .singles .wanted-unheld c s)
+
+  -- a client for which its found frame is pinned: the frame is its page's
+  pub found-mapped : (c : ℕ) → pinsFound (client p c .stage) ≡ true → FoundMapped p (client p c)
+  found-mapped c e = go (eqb s 3) (eqb s 20) (eqb s 21) refl refl refl e
+    where
+      s : ℕ
+      s = client p c .stage
+
+      at : (i : ℕ) → eqb s i ≡ true → Knows i p (client p c)
+      at i t = know p r c i (eqb-true s i t)
+
+      go : (x y z : Bool) → eqb s 3 ≡ x → eqb s 20 ≡ y → eqb s 21 ≡ z → x || y || z ≡ true → FoundMapped p (client p c)
+      go true y z a b d u = at 3 a
+      go false true z a b d u = at 20 b .1
+      go false false true a b d u = at 21 d
+      go false false false a b d u = absurd (true≢false (sym u))
+
+  grants-at-most : (c f : ℕ) → f ≢ none → grantsOn p c f ≤ 1
+  grants-at-most c f z = elim (ℕ-discrete (mapped p f) 0) [
+    | yes e ↦ omega (arith, grantsOn-none p c f (λ i w. suc-not (r .mapping .grant-mapped c i (λ n. z (sym w ∙ n))) (ap (mapped p) w ∙ e)))
+    | no e ↦ let g = some-suc (mapped p f) e in omega (arith, grants-on c f (g .0) z (g .1), r .singles .one-each c (g .0))
+  ]
+
+  -- by a grant, or as the found frame that is pinned for it, or as its own
+  claims-at-most : (c f : ℕ) → f ≢ none → claims p c f ≤ 1
+  claims-at-most c f z = go (ℕ-discrete (client p c .own) f) (ℕ-discrete (client p c .found) f) (pinsFound (client p c .stage)) refl
     where
       k : Client
       k = client p c
 
-      go : Dec (k .own ≡ f) → Dec (k .stage ≡ 0) → claims p c f ≤ maxHeld
-      go (yes e) _ =
+      go : Dec (k .own ≡ f) → Dec (k .found ≡ f) → (b : Bool) → pinsFound (k .stage) ≡ b → claims p c f ≤ 1
+      go (yes e) _ _ _ =
           let o : k .own ≢ none = λ w. z (sym e ∙ w) in
           let only = foreign-claims p c f (λ w. r .private .own-unfound c c o (w ∙ sym e)) (λ i w. r .private .own-ungranted c c i o (w ∙ sym e)) in
           omega (arith, one-at-most (eqb (k .own) f))
-      go (no e) (yes s) =
-          omega (arith, one-not _ _ e, ap (λ (x : ℕ). one (pinsFound x && eqb (k .found) f)) s, grants-at-most c f, r .ranges .held-ok c)
-      go (no e) (no s) =
-          omega (arith, one-not _ _ e, one-at-most (pinsFound (k .stage) && eqb (k .found) f), grants-at-most c f, r .ranges .working-held c s)
+      go (no e) (no u) b _ = rw (ne-eqb _ _ u, and-false) (omega (arith, one-not _ _ e, grants-at-most c f z))
+      go (no e) (yes u) false s = rw s (omega (arith, one-not _ _ e, grants-at-most c f z))
+      go (no e) (yes u) true s =
+          let live : pins p (k .found) ≢ evicted = λ n. let y : ⊥ = omega (arith, found-pinned c (rw s tt) (found-mapped c s .0)) in y in
+          let busy : k .stage ≢ 0 = λ w. true≢false (sym s ∙ ap pinsFound w) in
+          let none-of = found-ungranted c busy (found-mapped c s .0) (found-mapped c s .1 live) in
+          omega (arith, one-not _ _ e, ap (grantsOn p c) u, one-at-most (pinsFound (k .stage) && eqb (k .found) f))
 
-  -- one more pin on the found frame is within the range
+  -- so there is room for one more pin on the found frame, of which its finder has none yet
   pub one-more-pin : (c : ℕ) → c < clientCount p → client p c .stage ≢ 0 → T (not (pinsFound (client p c .stage))) → client p c .found ≢ none
-      → pins p (client p c .found) ≢ evicted → pins p (client p c .found) < pinned maxPins
+      → pins p (client p c .found) ≢ evicted → mapped p (client p c .found) ≡ suc (client p c .page)
+      → pins p (client p c .found) < pinned (clientCount p)
   unfolding claimed
-  one-more-pin c h s t z live = go (r .pin-counts .balance f z)
+  one-more-pin c h s t z live its = go (r .pin-counts .balance f z)
     where
       k : Client
       k = client p c
@@ -150,15 +200,15 @@ module _ (p : Pool) (r : Reached p) where
       other : k .own ≢ f
       other w = r .private .own-unfound c c (λ n. z (sym w ∙ n)) (sym w)
 
-      mine : claims p c f ≤ 7
-      mine = rw (T-false (pinsFound (k .stage)) t) (omega (arith, one-not _ _ other, grants-at-most c f, r .ranges .working-held c s))
+      mine : claims p c f ≡ 0
+      mine = rw (T-false (pinsFound (k .stage)) t) (omega (arith, one-not _ _ other, found-ungranted c s z its))
 
-      all : claimed p f + 1 ≤ maxHeld * clientCount p
-      all = sum-gap (λ d. claims p d f) (clientCount p) 8 c 1 h (λ d _. claims-at-most d f z) (omega (arith, mine))
+      all : claimed p f + 1 ≤ 1 * clientCount p
+      all = sum-gap (λ d. claims p d f) (clientCount p) 1 c 1 h (λ d _. claims-at-most d f z) (omega (arith, mine))
 
-      go : Balance p f (pins p f) (claimed p f) → pins p f < pinned maxPins
+      go : Balance p f (pins p f) (claimed p f) → pins p f < pinned (clientCount p)
       go (unclaimed x y) = absurd (live x)
-      go (counted x) = omega (arith, all, r .shape .clients-high)
+      go (counted x) = omega (arith, all)
       go (orphan o) = absurd (o .unfound c refl)
 
   -- ---- victims

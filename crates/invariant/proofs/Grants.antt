@@ -10,7 +10,7 @@ use native.Mathlib.Omega.{arith}
 use native.Mathlib.Decide.{ℕ-discrete, decLt}
 use lib.Dec.{eqb, ltb}
 use lib.ListN.{length, getD}
-use borrow.Author.Tests.{lt-ltb, le-ltb, ne-eqb}
+use borrow.Author.Tests.{lt-ltb, le-ltb, eq-eqb, ne-eqb}
 use Rattle.pool.specs.Limits.{maxHeld}
 use Rattle.pool.specs.Choose.{choose}
 use Rattle.pool.specs.State.{none, clientCount, within, client, grantPlace, ofClient, grantPage, grantFrame}
@@ -19,14 +19,36 @@ use Rattle.pool.specs.declared.Pool.{Pool}
 use Rattle.pool.specs.declared.Client.{Client}
 use Rattle.pool.specs.declared.Move.{Move}
 use Rattle.pool.specs.declared.GrantChange.the-variants.{Same, Open, End}
+use Rattle.pool.specs.Grants.{grantOf}
 use Rattle.laws.specs.Choices.{chosen, passed}
-use Rattle.invariant.proofs.Reached.{Shape, one, sumTo, grantsOn}
+use Rattle.laws.specs.Scans.{first-none}
+use Rattle.invariant.proofs.Reached.{Shape, one, sumTo, grantsOf, grantsOn}
 use Rattle.invariant.proofs.After.{within-in, raw-here, raw-else, client-same, client-other}
-use Rattle.invariant.proofs.Sums.{sum-same, sum-put, sum-zero}
+use Rattle.invariant.proofs.Searches.{grantOf-found}
+use Rattle.invariant.proofs.Sums.{sum-same, sum-put, sum-zero, sum-has}
 
--- client c's open grants of page g, as `grantsOn` counts those on a frame
-unfoldable pub grantsOf : Pool → ℕ → ℕ → ℕ
-grantsOf p c g = sumTo (λ i. one (eqb (grantPage p c i) g)) (client p c .held)
+-- what the search for a grant of page g finds
+
+module _ (p : Pool) (c g : ℕ) where
+  pub ungranted : client p c .held ≤ maxHeld → grantOf p c g ≡ none → grantsOf p c g ≡ 0
+  unfolding grantOf grantsOf
+  ungranted few e =
+      sum-zero _ (client p c .held) (λ i h. ap one (first-none (λ j. eqb (grantPage p c j) g) (client p c .held) (omega arith) e i h))
+
+  -- where there is none, no grant is of the page
+  pub not-held : grantsOf p c g ≡ 0 → (i : ℕ) → i < client p c .held → grantPage p c i ≢ g
+  unfolding grantsOf
+  not-held e i h w =
+      let n = sum-has (λ i. one (eqb (grantPage p c i) g)) (client p c .held) i h in
+      let y : ⊥ = omega (arith, ap one (eq-eqb _ _ w)) in
+      y
+
+  pub granted : grantOf p c g ≢ none → 1 ≤ grantsOf p c g
+  unfolding grantsOf
+  granted z =
+      let f = grantOf-found p c g z in
+      let h = sum-has (λ i. one (eqb (grantPage p c i) g)) (client p c .held) (grantOf p c g) (f .0) in
+      omega (arith, ap one (eq-eqb _ _ (f .1)))
 
 -- what a move does to the acting client's grants
 pub data GrantsOk (p : Pool) (c : ℕ) (m : Move) : Type 0 where

@@ -155,5 +155,5 @@ module _ (p : Pool) (c : ℕ) (r : Reached p) where
   learns (revives e _) x = tt
   learns {m} (evicts20 e) x = knows-next x c 20 e .1
   learns (evicts23 e) x = tt
-  learns (begins g e _) x = tt
+  learns (begins g e _ _) x = tt
   learns {m} (releases g e z) x = subst (λ s. Knows s (apply p c m) (m .next)) (sym e) tt

@@ -1,5 +1,5 @@
 -- The invariant of the pools of a run (SPECIFICATION 3.8), and its proof. To read it:
---   Reached says what holds: one record of seven layers with named clauses. Who uses the invariant needs no other file.
+--   Reached says what holds: one record of eight layers with named clauses. Who uses the invariant needs no other file.
 --   Edges lists the moves that a call can make in such a pool, Steps shows that every call makes one of them.
 --   Effects says of each of these moves what it does to each thing the layers speak of: one data type for each thing, with its few ways.
 --   Next draws from these ways what every layer needs: which frames keep their slot, entry, page, pins and grants.
@@ -28,8 +28,11 @@ pub mod Edges
 pub mod Steps
 pub mod Effects
 pub mod Next
+-- what they tell their client, and do to its grants
+pub mod Told
 -- the layers, in the order of the record; Knowing is the part of Mapping that speaks of what a client knows at its stage
 pub mod Ranges
+pub mod Singles
 pub mod Places
 pub mod Private
 pub mod PinCounts

@@ -291,7 +291,7 @@ module _ (p : Pool) (c : ℕ) (r : Reached p) where
   mapping-condition {m} (evicts23 e) x =
       forgets-own refl (λ _. foundless-now 23 e tt) (λ _. victimless-now 23 e tt)
       (λ z. inr (inl (pins-here p c m (r .shape) (me .own) evicted refl (r .ranges .own-ok c z))))
-  mapping-condition (begins g e _) x = had-no-own (r .pin-counts .owns-none c (rw e tt)) (λ _. foundless-now 0 e tt) (λ _. victimless-now 0 e tt)
+  mapping-condition (begins g e _ _) x = had-no-own (r .pin-counts .owns-none c (rw e tt)) (λ _. foundless-now 0 e tt) (λ _. victimless-now 0 e tt)
   mapping-condition (releases g e _) x = keeps-own refl refl (λ _. foundless-now 0 e tt) (λ _. victimless-now 0 e tt)
 
   pub mapping-next : {m : Move} → Edge p c m → Effect p c m → Mapping (apply p c m)

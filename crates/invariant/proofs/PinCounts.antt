@@ -285,7 +285,7 @@ module _ (p : Pool) (c : ℕ) (r : Reached p) where
   pin-counts-condition (revives e _) x = claim-to-grant x 22 (me .own) e tt refl refl refl refl refl (λ f _. omega (arith, found-claim 22 f e))
   pin-counts-condition (evicts20 e) x = evicts x 21 refl refl refl refl (rw e refl) refl (known 20 e .0 .0)
   pin-counts-condition (evicts23 e) x = evicts x 4 refl refl refl refl (rw e refl) refl (known 23 e .0)
-  pin-counts-condition (begins g e _) x = same-claims x (λ _. r .pin-counts .owns-none c (rw e tt)) refl refl refl (λ f. rw e refl)
+  pin-counts-condition (begins g e _ _) x = same-claims x (λ _. r .pin-counts .owns-none c (rw e tt)) refl refl refl (λ f. rw e refl)
   pin-counts-condition {m} (releases g e z) x =
       one-frame x gf (pins p gf - 1) (λ t. r .pin-counts .owns-none c t) refl (r .ranges .grant-ok c i named)
       (λ _. adjusted (λ o. o .ungranted c i refl) (λ n. let y : ⊥ = omega (arith, two) in y) (λ n. let y : ⊥ = omega (arith, two) in y)

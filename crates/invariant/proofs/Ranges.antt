@@ -1,5 +1,5 @@
 -- Every number stays in its range: what a move writes is in range (`Effects`), the next record has the numbers of the last one, or those of a client
--- at rest, or new ones that its stage reduced. Pins are at most 128 because no client claims a frame more than 8 times (`one-more-pin`). Assumes nothing.
+-- at rest, or new ones that its stage reduced. Pins are at most T because no client claims a frame twice (`one-more-pin`). Assumes nothing.
 use mathlib.Core.Path.{_≡_, refl, sym, ap, _∙_}
 use mathlib.Core.Logic.{_≢_, inl, inr}
 use Prim.Native.Nat.{ℕ, _+_, _≤_, _<_}
@@ -7,8 +7,8 @@ use native.Mathlib.Omega.{arith}
 use native.Mathlib.Decide.{ℕ-discrete, decLt}
 use lib.Dec.{T, eqb, leb}
 use mathlib.Core.Bool.{not}
-use Rattle.pool.specs.Limits.{maxHeld, maxPins}
-use Rattle.pool.specs.State.{none, pinned, total, slot, pins, count, entryFrame, client, grantFrame}
+use Rattle.pool.specs.Limits.{maxHeld}
+use Rattle.pool.specs.State.{none, pinned, clientCount, total, slot, pins, count, entryFrame, client, grantFrame}
 use Rattle.pool.specs.Apply.{apply}
 use Rattle.pool.specs.declared.Pool.{Pool}
 use Rattle.pool.specs.declared.Client.{Client}
@@ -104,7 +104,7 @@ module _ (p : Pool) (c : ℕ) (r : Reached p) where
   numbers (revives e _) = at-rest _ refl refl refl refl (more 22 e tt) refl
   numbers (evicts20 e) = same-numbers _ 20 e tt tt refl refl refl refl (λ _. refl)
   numbers (evicts23 e) = same-numbers _ 23 e tt tt refl refl refl refl (λ _. refl)
-  numbers (begins g e h) =
+  numbers (begins g e h _) =
       record {
         stage-ok = omega arith;
         place-ok = r .ranges .place-ok c;
@@ -133,21 +133,21 @@ module _ {p : Pool} {c : ℕ} {m : Move} (e : Edge p c m) (x : Effect p c m) whe
   all : (P : Client → Type 0) → ((d : ℕ) → P (client p d)) → P (m .next) → (d : ℕ) → P (client q d)
   all P old new = all-clients p c m (r .shape) (λ _ n. P n) here (λ d _. old d) new
 
-  pins-range : (f : ℕ) → pins q f ≤ pinned maxPins
+  pins-range : (f : ℕ) → pins q f ≤ pinned (clientCount p)
   pins-range f = go (x .pins)
     where
-      go : PinsOk p c m → pins q f ≤ pinned maxPins
+      go : PinsOk p c m → pins q f ≤ pinned (clientCount p)
       go (pins-stay w) = rw (pins-kept p c m w f) (r .ranges .pins-ok f)
       go (pins-put g y w h ch) = by (ℕ-discrete f g)
         where
-          least : PinChange p c m g y → y ≤ pinned maxPins
+          least : PinChange p c m g y → y ≤ pinned (clientCount p)
           least (adds _ _ l) = l
           least (lowers _ v) = omega (arith, r .ranges .pins-ok g)
           least (evicts-victim _ _ v _ _ _ _) = omega arith
           least (own-evicted _ v) = omega arith
           least (takes-one _ v) = omega arith
 
-          by : Dec (f ≡ g) → pins q f ≤ pinned maxPins
+          by : Dec (f ≡ g) → pins q f ≤ pinned (clientCount p)
           by (yes v) = rw (ap (pins q) v ∙ pins-here p c m (r .shape) g y w h) (least ch)
           by (no v) = rw (pins-else p c m g y w f v) (r .ranges .pins-ok f)
 

@@ -7,7 +7,7 @@ use mathlib.Core.List.{List, [], _∷_}
 use Prim.Native.Nat.{ℕ, zero, suc, _+_, _≤_, _<_}
 use lib.Dec.{T, eqb, leb}
 use lib.ListN.{length, getD}
-use Rattle.pool.specs.Limits.{maxSize, maxClients, maxCap, maxHeld, maxPins, maxFrames, maxGrants}
+use Rattle.pool.specs.Limits.{maxSize, maxClients, maxCap, maxHeld, maxFrames, maxGrants}
 use Rattle.pool.specs.Choose.{scan}
 use Rattle.pool.specs.State.{none, evicted, pinned, clientCount, total, slot, page, pins, count, entryPage, entryFrame, client, grantPage, grantFrame}
 use Rattle.pool.specs.Valid.{usesOwn, usesFound, usesVictim}
@@ -68,7 +68,10 @@ filling s = eqb s 7 || eqb s 8
 abbrev pub examining : ℕ → Bool
 examining s = leb 12 s && leb s 15
 
--- ---- claims on a frame: open grants, the found frame where it is pinned for this client, the own frame
+-- ---- open grants of a page; claims on a frame: open grants, the found frame where it is pinned for this client, the own frame
+
+unfoldable pub grantsOf : Pool → ℕ → ℕ → ℕ
+grantsOf p c g = sumTo (λ i. one (eqb (grantPage p c i) g)) (client p c .held)
 
 unfoldable pub grantsOn : Pool → ℕ → ℕ → ℕ
 grantsOn p c f = sumTo (λ i. one (eqb (grantFrame p c i) f)) (client p c .held)
@@ -166,7 +169,7 @@ pub record Ranges (p : Pool) : Type 0 where
   pub seen-ok : (c : ℕ) → client p c .seen ≤ p .size
   pub held-ok : (c : ℕ) → client p c .held ≤ maxHeld
   pub working-held : (c : ℕ) → client p c .stage ≢ 0 → client p c .held < maxHeld
-  pub pins-ok : (f : ℕ) → pins p f ≤ pinned maxPins
+  pub pins-ok : (f : ℕ) → pins p f ≤ pinned (clientCount p)
   pub count-ok : (f : ℕ) → count p f ≤ p .cap
   pub slot-ok : (i : ℕ) → slot p i ≢ none → slot p i < total p
   pub entry-ok : (i : ℕ) → entryFrame p i ≢ none → entryFrame p i < total p
@@ -174,6 +177,11 @@ pub record Ranges (p : Pool) : Type 0 where
   pub found-ok : (c : ℕ) → client p c .found ≢ none → client p c .found < total p
   pub victim-ok : (c : ℕ) → client p c .victim ≢ none → client p c .victim < total p
   pub grant-ok : (c i : ℕ) → grantFrame p c i ≢ none → grantFrame p c i < total p
+
+-- one grant per client and page: none is begun that is held
+pub record Singles (p : Pool) : Type 0 where
+  pub one-each : (c g : ℕ) → grantsOf p c g ≤ 1
+  pub wanted-unheld : (c : ℕ) → client p c .stage ≢ 0 → grantsOf p c (client p c .page) ≡ 0
 
 -- where frames stand
 pub record Places (p : Pool) : Type 0 where
@@ -220,6 +228,7 @@ pub record Evictions (p : Pool) : Type 0 where
 pub record Reached (p : Pool) : Type 0 where
   pub shape : Shape p
   pub ranges : Ranges p
+  pub singles : Singles p
   pub places : Places p
   pub private : Private p
   pub pin-counts : PinCounts p

@@ -18,7 +18,7 @@ use Rattle.pool.specs.declared.Client.{Client}
 use Rattle.laws.specs.Choices.{by-test}
 use Rattle.laws.specs.Scans.{both-true}
 use Rattle.laws.specs.Setups.{of-fresh}
-use Rattle.invariant.proofs.Reached.{Shape, Reached, unclaimed, one, mapped, claims, claimed, filling}
+use Rattle.invariant.proofs.Reached.{Shape, Reached, unclaimed, one, mapped, grantsOf, claims, claimed, filling}
 use Rattle.invariant.proofs.After.{few-frames, within-in, within-past}
 use Rattle.invariant.proofs.Sums.{sum-zero, sum-full}
 use Rattle.invariant.proofs.Searches.{grantFrame-past}
@@ -88,6 +88,11 @@ module _ (s t c h : ℕ) (ok : numbersOk s t c ≡ true) where
   grant-none : (d i : ℕ) → grantFrame p d i ≡ none
   grant-none d i = grantFrame-past p d i (omega (arith, ap (λ (k : Client). k .held) (setup-rests d)))
 
+  no-grants : (d g : ℕ) → grantsOf p d g ≡ 0
+  unfolding grantsOf
+  no-grants d g =
+      sum-zero _ (client p d .held) (λ i h. let z : ⊥ = omega (arith, ap (λ (k : Client). k .held) (setup-rests d)) in absurd z)
+
   mapped-zeros : (f : ℕ) → f ≢ none → mapped p f ≡ 0
   mapped-zeros f z = mapped-zero p f (λ i w. z (sym w ∙ entry-none i))
 
@@ -114,6 +119,10 @@ module _ (s t c h : ℕ) (ok : numbersOk s t c ≡ true) where
           found-ok = λ d. rw (setup-rests d) (λ z. absurd (z refl));
           victim-ok = λ d. rw (setup-rests d) (λ z. absurd (z refl));
           grant-ok = λ d i z. absurd (z (grant-none d i));
+        };
+        singles = record {
+          one-each = λ d g. omega (arith, no-grants d g);
+          wanted-unheld = λ d _. no-grants d (client p d .page);
         };
         places = record {
           slots-distinct = λ i j z _. absurd (z (slot-none i));

@@ -354,6 +354,6 @@ unfolding caller moveOf
 call-edge p x r e = let a = allowed p x e in (a .here, made x (a .here) (a .may))
   where
     made : (x : Call) → caller x < clientCount p → refusalAt p (client p (caller x)) x ≡ 0 → Edge p (caller x) (moveOf p x)
-    made (Begin c g) h e = let a = may-begin p (client p c) c g e in begins g (a .0) (a .1)
+    made (Begin c g) h e = let a = may-begin p (client p c) c g e in begins g (a .0) (a .1) (a .2)
     made (Step c) h e = step-edge p c h r (may-step p (client p c) c e)
     made (Release c g) h e = let a = may-release p (client p c) c g e in release-edge p c h r g (a .0) (a .1)

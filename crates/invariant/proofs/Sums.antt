@@ -8,6 +8,8 @@ use native.Mathlib.Omega.{arith}
 use native.Mathlib.Decide.{ℕ-discrete}
 use lib.Dec.{eqb}
 use borrow.Author.Tests.{eq-eqb, ne-eqb}
+use Rattle.pool.specs.Choose.{choose}
+use Rattle.laws.specs.Choices.{chosen, passed}
 use Rattle.invariant.proofs.Reached.{one, sumTo}
 
 pub one-is : (f : ℕ) → one (eqb f f) ≡ 1
@@ -52,6 +54,20 @@ sum-has g (suc n) k l = go (ℕ-discrete k n) (sum-has g n k)
     go : Dec (k ≡ n) → (k < n → g k ≤ sumTo g n) → g k ≤ sumTo g n + g n
     go (yes q) ih = rw q (omega arith)
     go (no q) ih = let h = ih (omega arith) in omega arith
+
+-- two terms that are not one
+pub sum-two : (g : ℕ → ℕ) (n i j : ℕ) → i < n → j < n → i ≢ j → g i + g j ≤ sumTo g n
+sum-two g n i j a b d =
+    let h : (ℕ → ℕ) = λ x. choose (eqb x i) 0 (g x) in
+    let here : h i ≡ 0 = chosen _ _ _ (eq-eqb i i refl) in
+    let other : (x : ℕ) → x ≢ i → h x ≡ g x = λ x w. passed _ _ _ (ne-eqb x i w) in
+    omega (arith, here, other j (λ w. d (sym w)), sum-put g h n i a (λ x _. other x), sum-has h n j b)
+
+-- term by term
+pub sum-below : (g h : ℕ → ℕ) (n : ℕ) → ((i : ℕ) → i < n → g i ≤ h i) → sumTo g n ≤ sumTo h n
+unfolding sumTo
+sum-below g h zero e = omega arith
+sum-below g h (suc n) e = omega (arith, sum-below g h n (λ i l. e i (omega arith)), e n (omega arith))
 
 -- no term is above b
 pub sum-at-most : (g : ℕ → ℕ) (n b : ℕ) → ((i : ℕ) → i < n → g i ≤ b) → sumTo g n ≤ b * n

@@ -1,20 +1,19 @@
 -- A reached pool is in range, and so passes check 8. Its ranges are clauses; a client has the frames that its stage uses by what it knows there,
--- and by a clause no others; and two grants of one page name one frame, the one that the table maps the page to. Assumes nothing.
-use mathlib.Core.Path.{_≡_, refl, sym, ap, subst, _∙_}
+-- and by a clause no others; and by another no two grants of one page. Assumes nothing.
+use mathlib.Core.Path.{_≡_, refl, sym, subst, _∙_}
 use mathlib.Core.Logic.{_≢_, _⊎_, inl, inr}
 use mathlib.Core.Bool.{Bool, true, false, not, true≢false}
 use Prim.Native.Nat.{ℕ, _<_}
 use native.Mathlib.Omega.{arith}
 use lib.Dec.{T}
-use Rattle.pool.specs.State.{none, total, client, grantPage, grantFrame}
-use Rattle.pool.specs.Table.{lookup}
+use Rattle.pool.specs.State.{none, total, client}
 use Rattle.pool.specs.Valid.{usesOwn, usesFound, usesVictim, valid}
 use Rattle.pool.specs.declared.Pool.{Pool}
 use Rattle.pool.specs.declared.Client.{Client}
 use Rattle.ranges.specs.Ranges.{Named, ClientRanged, Ranged, valid-from}
 use Rattle.invariant.proofs.Reached.{Reached, Know, Owns, Placed, FoundMapped, FoundEvicted, VictimInSlot, VictimEvicted, Nothing, _and_, knows}
 use Rattle.laws.specs.Each.{Each, fin, _also_, each-in}
-use Rattle.invariant.proofs.Table.{mapped-lookup}
+use Rattle.invariant.proofs.Facts.{single}
 
 -- ---- a client has the frames that its stage uses
 
@@ -69,12 +68,6 @@ unused e = subst (λ b. T (not b)) (sym e) tt
 -- ---- the ranges
 
 module _ (p : Pool) (r : Reached p) where
-  -- one client's grants of one page name the frame that the page is mapped to
-  granted-frame : (c i : ℕ) → i < client p c .held → grantFrame p c i ≡ lookup p (grantPage p c i)
-  granted-frame c i h =
-      let n = r .mapping .grant-named c i h in
-      sym (mapped-lookup p (r .shape) (r .mapping .pages-distinct) (grantFrame p c i) (grantPage p c i) n (r .mapping .grant-mapped c i n) .1)
-
   client-ranged : (c : ℕ) → ClientRanged p c
   client-ranged c =
       let k = client p c in
@@ -87,7 +80,7 @@ module _ (p : Pool) (r : Reached p) where
         found = record { there = λ u. s .found-ok c (h .found u); gone = λ u. r .mapping .no-found c (unused u) };
         victim = record { there = λ u. s .victim-ok c (h .victim u); gone = λ u. r .mapping .no-victim c (unused u) };
         grant = λ i l. s .grant-ok c i (r .mapping .grant-named c i l);
-        agree = λ i j l m e. granted-frame c i l ∙ ap (lookup p) e ∙ sym (granted-frame c j m);
+        single = single p r c;
       }
 
   last-named : (p .last ≡ none) ⊎ (p .last < total p) → Named (p .last) → p .last < total p
@@ -102,7 +95,7 @@ module _ (p : Pool) (r : Reached p) where
         free = r .ranges .free-ok;
         last = last-named (r .ranges .last-ok);
         slot = λ i _. r .ranges .slot-ok i;
-        pins = λ f _. r .ranges .pins-ok f;
+        pins = λ f _. omega (arith, r .ranges .pins-ok f, s .clients-high);
         count = λ f _. r .ranges .count-ok f;
         entry = λ i _. r .ranges .entry-ok i;
         apart = λ i j _ _. r .mapping .pages-distinct i j;

@@ -1,27 +1,14 @@
 -- What `howMany` counts. Assumes nothing.
 use mathlib.Core.Path.{_≡_, refl, _∙_, sym, ap}
 use mathlib.Core.Bool.{Bool, true, false, true≢false}
-use native.Mathlib.Numerals.{add-one}
+use mathlib.Core.Logic.{⊎-elim}
+use native.Mathlib.Nat.{eq-zero-or-pos}
 use native.Mathlib.Omega.{arith}
-use Prim.Native.Nat.{ℕ, zero, suc, _+_, _<_, _≤_}
+use Prim.Native.Nat.{ℕ, zero, suc, _<_, _≤_}
 use Rattle.pool.specs.Choose.{howMany}
-use Rattle.laws.specs.Choices.{by-test, chosen, passed}
+use Rattle.laws.specs.Choices.{by-test, passed}
 
 module _ (test : ℕ → Bool) where
-  -- one number more, which passes or not
-  pub one-more : (n : ℕ) → test n ≡ true → howMany test (n + 1) ≡ howMany test n + 1
-  unfolding howMany
-  one-more n e = rw (add-one n) (chosen _ _ _ e)
-
-  pub no-more : (n : ℕ) → test n ≡ false → howMany test (n + 1) ≡ howMany test n
-  unfolding howMany
-  no-more n e = rw (add-one n) (passed _ _ _ e)
-
-  pub at-most : (n : ℕ) → howMany test n ≤ n
-  unfolding howMany
-  at-most zero = omega arith
-  at-most (suc n) = let h = at-most n in by-test (λ m. m ≤ suc n) (λ _. omega arith) (λ _. omega arith)
-
   -- a number that passes is counted
   pub counted : (n i : ℕ) → i < n → test i ≡ true → 0 < howMany test n
   unfolding howMany
@@ -40,8 +27,13 @@ module _ (test : ℕ → Bool) where
       by-last true e before = (n, omega arith, e)
       by-last false e before = let one = before e in (one .0, omega arith, one .2)
 
--- tests that agree count alike
-pub alike : (s t : ℕ → Bool) (n : ℕ) → ((i : ℕ) → i < n → s i ≡ t i) → howMany s n ≡ howMany t n
-unfolding howMany
-alike s t zero h = refl
-alike s t (suc n) h = rw (h n (omega arith), alike s t n (λ i b. h i (omega arith)))
+  -- where no two pass, one is counted at most
+  pub once : (n : ℕ) → ((i j : ℕ) → i < n → j < n → test i ≡ true → test j ≡ true → i ≡ j) → howMany test n ≤ 1
+  unfolding howMany
+  once zero only = omega arith
+  once (suc n) only =
+      by-test (λ m. m ≤ 1)
+      (λ e. ⊎-elim (λ none. omega arith)
+      (λ some. let at = one-passes n some in let same = only (at .0) n (omega arith) (omega arith) (at .2) e in absurd (omega arith))
+      (eq-zero-or-pos (howMany test n)))
+      (λ _. once n (λ i j a b. only i j (omega arith) (omega arith)))

@@ -18,7 +18,7 @@ use Rattle.pool.specs.Holdings.{insert, sorted, pagesHeld, timesHeld, rowsOf, h
 use Rattle.memory.specs.Memory.{isFrame, byte, mark, isFilled, isChanged, storeByte, copied, unmarked, moved, memoryAfter, writtenBack}
 use Rattle.memory.specs.Memory.{storeAfter, filledFrom, written, cell, content}
 use Rattle.memory.specs.Requests.{lengthOk, setupOn, inside, entryInside, clientInside, pagesInside, unmarkedAt, marksOk, bytesOk, lent}
-use Rattle.memory.specs.Requests.{storeOk, firstOf, outsideAt, byteRefusal, turnedAwayBy, refusalOn, refused, writeOf, actionOn, callOn}
+use Rattle.memory.specs.Requests.{storeOk, firstOf, inOrder, outsideAt, byteRefusal, turnedAwayBy, refusalOn, refused, writeOf, actionOn, callOn}
 use Rattle.memory.specs.Requests.{holdingsOn}
 use Rattle.memory.specs.Happenings.{stateAfter}
 use Rattle.memory.specs.ByteCases.{Proved, played}
@@ -33,7 +33,7 @@ unfolding
     usedOk stateOk entryOk grantOk countsOk namesOk clientOk valid caller refusalAt refusal releaseMove moveOf finished callOf insert
     sorted pagesHeld timesHeld rowsOf holdingsRefusal holdingsOf isFrame byte mark isFilled isChanged storeByte copied unmarked moved
     memoryAfter writtenBack storeAfter filledFrom written cell content lengthOk setupOn inside entryInside clientInside pagesInside
-    unmarkedAt marksOk bytesOk lent storeOk firstOf outsideAt byteRefusal turnedAwayBy refusalOn refused writeOf actionOn callOn
+    unmarkedAt marksOk bytesOk lent storeOk firstOf inOrder outsideAt byteRefusal turnedAwayBy refusalOn refused writeOf actionOn callOn
     holdingsOn stateAfter played
 table =
     record {
@@ -48,10 +48,11 @@ table =
       revivals = (refl, refl, refl, refl, refl, refl, refl, refl);
       counts = (refl, refl, refl);
       takings = (refl, refl, refl, refl);
-      begin-refused = (refl, refl, refl, refl);
+      begin-refused = (refl, refl, refl, refl, refl, refl);
+      order = (refl, refl);
       bytes-refused = (refl, refl, refl);
       store-refused = (refl, refl, refl, refl);
-      untouched = (refl, refl, refl, refl, refl, refl);
+      untouched = (refl, refl, refl, refl, refl, refl, refl);
       check8 = (refl, refl, refl);
       holdings = (refl, refl);
       runs = (refl, refl, refl, refl, refl, refl, refl, refl);

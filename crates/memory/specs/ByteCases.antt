@@ -23,7 +23,7 @@ use Rattle.pool.specs.declared.Counted.the-variants.{Nothing, Drop, Revived}
 use Rattle.pool.specs.declared.GrantChange.the-variants.{Same, Open}
 use Rattle.pool.specs.declared.Write.the-variants.{Keep, PutPins, TakeFrame, PutEntry}
 use Rattle.memory.specs.Memory.{pageBytes, isFilled, isChanged, byte, storeByte, blank, content}
-use Rattle.memory.specs.Requests.{Request, Asks, ReadByte, WriteByte, State, turnedBack, lengthOk, setupOn, bytesOk, callOn, bufferPool, holdingsOn}
+use Rattle.memory.specs.Requests.{Request, Asks, ReadByte, WriteByte, State, turnedBack, lengthOk, setupOn, bytesOk, inOrder, callOn, bufferPool, holdingsOn}
 use Rattle.memory.specs.Happenings.{stateAfter}
 use Rattle.memory.specs.declared.Memory.{Memory}
 
@@ -222,8 +222,8 @@ revivedInPlace =
     marked (handedOn (with-write (PutEntry 0 1 0)) (standing (withFound (withOwn (wanting (resting 0) 1) 0) 0) 22) Same Keep) true true false false
     after [] shows step 0 gets Granted 0 ∷ marks at 0 is bothMarks ∷ inFrame 0 at 5 is 99 ∷ []
 
--- The client holds the page already, in the frame that it found: a grant in its own frame would break a range, so 22 is refused by 8 after its action,
--- and no byte and no mark moves.
+-- The client holds the page already, in the frame that it found: a grant in its own frame would be its second of the page, so 22 is refused by 8 after
+-- its action, and no byte and no mark moves.
 abbrev pub revivalRefused : Case
 revivalRefused =
     marked (handedOn (with-write (PutEntry 0 1 0)) (standing (withFound (withOwn (wanting (resting 1) 1) 1) 0) 22) (Open 0 1 0) Keep)
@@ -364,9 +364,13 @@ Untouched x r n = callOn x r ≡ turnedBack n x
 abbrev pub readAndWrite : ℕ → ℕ → ℕ → List Request
 readAndWrite c g o = ReadByte c g o ∷ WriteByte c g o 9 ∷ []
 
--- one page of store; client 0 holds page 0 n times, in frame 0, which has a pin, and rests
-abbrev pub holding : ℕ → State
-holding n = handedWith 1 (handedOn (holder (replicate n 0)) (resting n) Same (PutPins 0 (pinned 1)))
+-- one page of store; client 0 holds it, in frame 0, which has a pin, and rests
+abbrev pub holding : State
+holding = handedWith 1 (handedOn (holder (0 ∷ [])) (resting 1) Same (PutPins 0 (pinned 1)))
+
+-- n pages of store, and client 0 holds them all
+abbrev pub holdingAll : ℕ → State
+holdingAll n = stateWith (holder (from 0 n)) (blank n) (sevens (pageBytes * n))
 
 -- the same with one grant, and the client works
 abbrev pub working : State
@@ -396,7 +400,7 @@ ranges =
     ∷ (λ g. handedWith 3 (with-client (wanting (resting 0) g))) upTo 2
     ∷ (λ g. handedWith 3 (apply (fresh 2 2 3 0) 1 (completes 0 (wanting (resting 0) g) Same Keep))) upTo 2
     ∷ (λ g. handedWith 3 (handed (resting 1) (Open 0 g 0) Keep)) upTo 2
-    ∷ (λ g. handedWith 3 (handedOn (handed (resting 1) (Open 0 0 0) Keep) (resting 2) (Open 1 g 0) Keep)) upTo 2
+    ∷ (λ g. handedWith 3 (holder (g ∷ 0 ∷ []))) upTo 2
     ∷ (λ n. stateWith (fresh 2 1 3 0) (blank n) []) upTo 256
     ∷ []
 
@@ -462,28 +466,33 @@ pub record Proved : Type 0 where
   -- what is counted is what the pool counts
   pub counts : Counts (eviction .first) Nothing × Counts (removalElsewhere .first) Drop × Counts (revivedInPlace .first) Revived
   pub takings : Holds (takingOf false false) × Holds (takingOf true false) × Holds (takingOf false true) × Holds (takingOf true true)
-  -- 9, 10, 12, and then 16
+  -- 9, 10, 12, 16, and then 18; a page outside a store is not held, so that of the last two the order alone tells which comes first
   pub begin-refused :
-      Answers (holding 8) (Asks (Begin 1 1) ∷ Asks (Begin 0 1) ∷ []) (Refused 9 ∷ Refused 12 ∷ [])
-      × Answers (holding 7) (Asks (Begin 0 1) ∷ Asks (Begin 0 0) ∷ []) (Refused 16 ∷ Done 0 ∷ [])
+      Answers (holdingAll 8) (Asks (Begin 1 8) ∷ Asks (Begin 0 8) ∷ Asks (Begin 0 0) ∷ []) (Refused 9 ∷ Refused 12 ∷ Refused 12 ∷ [])
+      × Answers (holdingAll 7) (Asks (Begin 0 7) ∷ Asks (Begin 0 6) ∷ []) (Refused 16 ∷ Refused 18 ∷ [])
+      × Answers (handedWith 1 (holder [])) (Asks (Begin 0 1) ∷ Asks (Begin 0 0) ∷ []) (Refused 16 ∷ Done 0 ∷ [])
       × Answers working (Asks (Begin 0 1) ∷ []) (Refused 10 ∷ []) × Answers bare (Asks (Begin 0 4294967295) ∷ []) (Done 4294967295 ∷ [])
+      × Answers bare (Asks (Begin 0 9) ∷ []) (Refused 18 ∷ [])
+  pub order :
+      (map (λ n. inOrder n 16) (0 ∷ 8 ∷ 9 ∷ 10 ∷ 12 ∷ 18 ∷ []) ≡ 16 ∷ 8 ∷ 9 ∷ 10 ∷ 12 ∷ 16 ∷ [])
+      × (map (λ n. inOrder n 0) (0 ∷ 8 ∷ 9 ∷ 10 ∷ 12 ∷ 18 ∷ []) ≡ 0 ∷ 8 ∷ 9 ∷ 10 ∷ 12 ∷ 18 ∷ [])
   -- 9, 10, 13, 16, and then 17; a page outside a store is not held
   pub bytes-refused :
       Answers working (readAndWrite 1 1 64 ++ readAndWrite 0 1 64 ++ readAndWrite 0 0 0)
       (Refused 9 ∷ Refused 9 ∷ Refused 10 ∷ Refused 10 ∷ Refused 10 ∷ Refused 10 ∷ [])
-      × Answers (holding 1) (readAndWrite 0 1 64 ++ readAndWrite 0 0 64 ++ readAndWrite 0 0 63)
+      × Answers holding (readAndWrite 0 1 64 ++ readAndWrite 0 0 64 ++ readAndWrite 0 0 63)
       (Refused 13 ∷ Refused 13 ∷ Refused 17 ∷ Refused 17 ∷ Done 63 ∷ Done 0 ∷ [])
       × Answers bare (readAndWrite 0 8 64 ++ readAndWrite 0 9 64 ++ readAndWrite 0 9 0)
       (Refused 13 ∷ Refused 13 ∷ Refused 16 ∷ Refused 16 ∷ Refused 16 ∷ Refused 16 ∷ [])
   -- 8 first, at a step, a read and a write; a begin and a release are not lent the store
   pub store-refused :
-      Answers (with-store 63 (holding 1)) (step 0 ∷ readAndWrite 0 0 0 ++ readAndWrite 1 1 64) (Refused 8 ∷ Refused 8 ∷ Refused 8 ∷ Refused 8 ∷ Refused 8 ∷ [])
+      Answers (with-store 63 holding) (step 0 ∷ readAndWrite 0 0 0 ++ readAndWrite 1 1 64) (Refused 8 ∷ Refused 8 ∷ Refused 8 ∷ Refused 8 ∷ Refused 8 ∷ [])
       × Answers (with-store 63 working) (step 0 ∷ readAndWrite 0 0 0) (Refused 8 ∷ Refused 8 ∷ Refused 8 ∷ [])
       × Answers (with-store 65 working) (step 0 ∷ readAndWrite 0 0 0) (Refused 8 ∷ Refused 8 ∷ Refused 8 ∷ [])
-      × Answers (with-store 63 (holding 1)) (Asks (Begin 0 0) ∷ Asks (Release 0 0) ∷ []) (Done 0 ∷ Done 0 ∷ [])
+      × Answers (with-store 63 holding) (Asks (Begin 0 0) ∷ Asks (Release 0 0) ∷ []) (Refused 18 ∷ Done 0 ∷ [])
   pub untouched :
-      Untouched (with-store 63 (holding 1)) (ReadByte 0 0 0) 8 × Untouched (with-store 63 (holding 1)) (WriteByte 0 0 0 9) 8 × Untouched (with-store 63 working) (step 0) 8
-      × Untouched (holding 1) (WriteByte 0 0 64 9) 17 × Untouched bare (WriteByte 0 9 0 9) 16 × Untouched (holding 7) (Asks (Begin 0 1)) 16
+      Untouched (with-store 63 holding) (ReadByte 0 0 0) 8 × Untouched (with-store 63 holding) (WriteByte 0 0 0 9) 8 × Untouched (with-store 63 working) (step 0) 8
+      × Untouched holding (WriteByte 0 0 64 9) 17 × Untouched bare (WriteByte 0 9 0 9) 16 × Untouched (holdingAll 7) (Asks (Begin 0 7)) 16 × Untouched holding (Asks (Begin 0 0)) 18
   pub check8 : Check8 sound true × Check8 broken false × AllRefused broken
   pub holdings :
       (holdingsOn (bufferPool bare) 0 (filler 2) ≡ listed (Done 1) (rowOf 9 1 ∷ filler 1))

@@ -114,6 +114,10 @@ storeOk x r = either (not (lent r)) (eqb (length (x .store)) (pageBytes * x .mem
 unfoldable pub firstOf : ℕ → ℕ → ℕ
 firstOf n k = choose (eqb n 0) k n
 
+-- SPECIFICATION 13.10: n, by which the pool turns a begin down, beside k, which is refusal 16 or 0: this comes before 18 and after all others
+unfoldable pub inOrder : ℕ → ℕ → ℕ
+inOrder n k = choose (eqb n 18) (firstOf k n) (firstOf n k)
+
 -- SPECIFICATION 13.10, refusal 16: a begin of a page outside a store of n pages
 unfoldable pub outsideAt : ℕ → Call → ℕ
 outsideAt n (Begin c g) = choose (inside n g) 0 16
@@ -126,7 +130,7 @@ byteRefusal n g o = choose (ltb g n) (choose (ltb o pageBytes) 0 17) 16
 
 -- SPECIFICATION 13.10: past the check 8 of bytes and store, in checking order. A read or write is turned down by 8, 9, 10 and 13 as a release is.
 unfoldable pub turnedAwayBy : State → Request → ℕ
-turnedAwayBy x (Asks call) = firstOf (refusal (x .pool) call) (outsideAt (x .memory .pages) call)
+turnedAwayBy x (Asks call) = inOrder (refusal (x .pool) call) (outsideAt (x .memory .pages) call)
 turnedAwayBy x (ReadByte c g o) = firstOf (refusal (x .pool) (Release c g)) (byteRefusal (x .memory .pages) g o)
 turnedAwayBy x (WriteByte c g o v) = firstOf (refusal (x .pool) (Release c g)) (byteRefusal (x .memory .pages) g o)
 
@@ -146,7 +150,7 @@ refused (Refused n) = true
 unfoldable pub writeOf : Pool → Call → Write
 writeOf p call = choose (refused (callOf p call .answer)) Keep (moveOf p call .write)
 
--- SPECIFICATION 13.9: the frame of client c's first grant of a page
+-- SPECIFICATION 13.9: the frame of client c's grant of a page
 abbrev pub heldFrame : Pool → ℕ → ℕ → ℕ
 heldFrame p c g = grantFrame p c (grantOf p c g)
 

@@ -17,7 +17,7 @@ use Rattle.pool.specs.declared.Answer.the-variants.{Refused}
 use Rattle.pool.specs.declared.Counted.the-variants.{Nothing, Refusal}
 use Rattle.laws.specs.Choices.{by-test}
 use Rattle.invariant.proofs.StageTests.{differ}
-use Rattle.invariant.proofs.Allowed.{refusal-low}
+use Rattle.invariant.proofs.Allowed.{refusal-not-15}
 use Rattle.invariant.proofs.Calls.{refusal-not-8}
 use Rattle.guarantee.specs.Claims.{Listed, withClient}
 use Rattle.guarantee.proofs.TurnedDown.{same-answer, other-answer}
@@ -132,7 +132,7 @@ ask-not-15 x call w = elim (eight-or x (Asks call)) [ inl e ↦ differ 8 15 tt (
   where
     go : {n : ℕ} → Goes x call n → n ≢ 15
     go (acts e) v = differ 0 15 tt (sym e ∙ v)
-    go (turned _ e) v = let y : ⊥ = omega (arith, refusal-low (x .pool) call, sym e ∙ v) in y
+    go (turned _ e) v = refusal-not-15 (x .pool) call (sym e ∙ v)
     go (outside _ _ _ _ e) v = differ 16 15 tt (sym e ∙ v)
 
 not-15 : (x : State) (r : Request) → refusalOn x r ≢ 15

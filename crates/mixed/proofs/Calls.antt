@@ -22,7 +22,8 @@ use Rattle.laws.specs.Choices.{by-test, chosen, passed}
 use Rattle.invariant.proofs.StageTests.{differ}
 use Rattle.invariant.proofs.Calls.{call-turned-down}
 use Rattle.memory.specs.Memory.{pageBytes, start, unmarked, moved, memoryAfter, writtenBack, storeAfter, filledFrom, written}
-use Rattle.memory.specs.Requests.{Request, Asks, ReadByte, WriteByte, State, Result, turnedBack, inside, firstOf, outsideAt, byteRefusal, turnedAwayBy}
+use Rattle.memory.specs.Orders.{first-either, order-cases}
+use Rattle.memory.specs.Requests.{Request, Asks, ReadByte, WriteByte, State, Result, turnedBack, inside, outsideAt, byteRefusal, turnedAwayBy}
 use Rattle.memory.specs.Requests.{refusalOn, actionOn, callOn}
 use Rattle.memory.specs.declared.Memory.{Memory}
 use Rattle.memory.specs.Copying.{copied-length}
@@ -36,14 +37,6 @@ unfolding callOn
 by-call x r P a b = by-test P (λ t. a (eqb-true _ _ t)) (λ t. b (eqb-false _ _ t))
 
 -- ---- the number, past check 8 of the bytes
-
-pub first-zero : (n k : ℕ) → n ≡ 0 → firstOf n k ≡ k
-unfolding firstOf
-first-zero n k e = chosen _ _ _ (eq-eqb n 0 e)
-
-pub first-some : (n k : ℕ) → n ≢ 0 → firstOf n k ≡ n
-unfolding firstOf
-first-some n k z = passed _ _ _ (ne-eqb n 0 z)
 
 -- a call of the pool: it passes, the pool alone turns it down, or it is a begin outside the store
 pub data Goes (x : State) (call : Call) (n : ℕ) : Type 0 where
@@ -60,9 +53,9 @@ passes x (Release c g) = acts refl
 pub goes : (x : State) (call : Call) → Goes x call (turnedAwayBy x (Asks call))
 unfolding turnedAwayBy
 goes x call =
-    elim (ℕ-discrete (refusal (x .pool) call) 0) [
-      | yes e ↦ subst (Goes x call) (sym (first-zero _ _ e)) (passes x call)
-      | no z ↦ refused z (first-some _ _ z)
+    elim (order-cases (refusal (x .pool) call) (outsideAt (x .memory .pages) call)) [
+      | inl e ↦ subst (Goes x call) (sym e) (passes x call)
+      | inr w ↦ refused (w .0) (w .1)
     ]
 
 -- and check 8 of the bytes comes before
@@ -106,17 +99,13 @@ byte-number : (n g o : ℕ) → ByteNumber (byteRefusal n g o)
 unfolding byteRefusal
 byte-number n g o = by-test ByteNumber (λ _. by-test ByteNumber (λ _. inr (inl refl)) (λ _. inr (inr tt))) (λ _. inr (inr tt))
 
-either-number : (n k : ℕ) → ByteNumber n → ByteNumber k → ByteNumber (firstOf n k)
-unfolding firstOf
-either-number n k a b = by-test ByteNumber (λ _. b) (λ _. a)
-
 pub turned-number : (x : State) (r : Request) → IsByte r → ByteNumber (refusalOn x r)
 unfolding refusalOn turnedAwayBy IsByte
 turned-number x (Asks call) b = absurd b
 turned-number x (ReadByte c g o) b =
-    by-test ByteNumber (λ _. either-number _ _ (release-number (x .pool) c g) (byte-number _ g o)) (λ _. inl refl)
+    by-test ByteNumber (λ _. first-either _ _ ByteNumber (release-number (x .pool) c g) (byte-number _ g o)) (λ _. inl refl)
 turned-number x (WriteByte c g o v) b =
-    by-test ByteNumber (λ _. either-number _ _ (release-number (x .pool) c g) (byte-number _ g o)) (λ _. inl refl)
+    by-test ByteNumber (λ _. first-either _ _ ByteNumber (release-number (x .pool) c g) (byte-number _ g o)) (λ _. inl refl)
 
 -- ---- reads and writes leave the pool
 

@@ -22,9 +22,10 @@ use Rattle.invariant.proofs.Reached.{Reached}
 use Rattle.invariant.proofs.Valid.{valid-reached}
 use Rattle.guarantee.specs.Runs.{Event, events, At, along, Throughout, GrantedTo}
 use Rattle.guarantee.specs.BusySweep.{BusySweep}
-use Rattle.guarantee.specs.Claims.{OneCopy, HeldPinned, tallyOf, CountsPages, AddsUp, GrantedWithin, WithinLimits}
+use Rattle.guarantee.specs.Claims.{OneEach, OneCopy, HeldPinned, FewPins, tallyOf, CountsPages, AddsUp, GrantedWithin, WithinLimits}
 use Rattle.guarantee.proofs.TurnedDown.{same-answer, same-pool, other-answer, other-call}
-use Rattle.guarantee.proofs.Copies.{one-copies, helds-pinned}
+use Rattle.guarantee.proofs.Frames.{held-pinned}
+use Rattle.guarantee.proofs.Copies.{one-each, one-copy}
 use Rattle.guarantee.proofs.Drops.{none-counted, call-counts}
 use Rattle.guarantee.proofs.Sequence.{start-related}
 use Rattle.guarantee.proofs.Guaranteed.{finds-frame, guarantee}
@@ -40,16 +41,6 @@ use Rattle.mixed.proofs.Transported.{grants-in, no-held-evicted-in, tak
 use Rattle.mixed.proofs.Lists.{Erased, erased, throughout-on, kept-after, bytes-apart, follows-on}
 use Rattle.mixed.proofs.Answers.{listed-now}
 
--- ---- one reached pool
-
-one-copy-of : (p : Pool) → Reached p → OneCopy p
-unfolding Throughout
-one-copy-of p r = one-copies p [] r
-
-held-pinned-of : (p : Pool) → Reached p → HeldPinned p
-unfolding Throughout
-held-pinned-of p r = helds-pinned p [] r
-
 -- ---- point 3, refusal 15 in company, the tally's sum
 
 module _ (x : State) (k : Kept x) (u : SetUp (x .pool)) (rs : List Request) where
@@ -62,9 +53,11 @@ module _ (x : State) (k : Kept x) (u : SetUp (x .pool)) (rs : List Request) wher
       let s = inner .embedded in
       record {
         grants = grants-in s (base .grants);
-        one-copy = throughout-on (λ y. OneCopy (y .pool)) (λ y j. one-copy-of (y .pool) (j .reached)) x k rs;
+        one-each = throughout-on (λ y. OneEach (y .pool)) (λ y j. one-each (y .pool) (j .reached)) x k rs;
+        one-copy = throughout-on (λ y. OneCopy (y .pool)) (λ y j. one-copy (y .pool) (j .reached)) x k rs;
         no-held-evicted = no-held-evicted-in s (base .no-held-evicted);
-        held-pinned = throughout-on (λ y. HeldPinned (y .pool)) (λ y j. held-pinned-of (y .pool) (j .reached)) x k rs;
+        held-pinned = throughout-on (λ y. HeldPinned (y .pool)) (λ y j. held-pinned (y .pool) (j .reached)) x k rs;
+        few-pins = throughout-on (λ y. FewPins (y .pool)) (λ y j. j .reached .ranges .pins-ok) x k rs;
         taken-out-once = taken-out-once-in s (base .taken-out-once);
         sequential = follows-on x k _ (start-related u) rs;
         one-effect = one-effect-in s (base .one-effect);

@@ -29,10 +29,10 @@ use Rattle.pool.specs.declared.Counted.the-variants.{Nothing, Refusal}
 use Rattle.guarantee.specs.Runs.{Event, At, Run, GrantedTo}
 use Rattle.guarantee.specs.Sequential.{Sequential, start, seqRefusal, Rule}
 use Rattle.guarantee.specs.BusySweep.{BusySweep}
-use Rattle.guarantee.specs.Claims.{GrantLists, OneCopy, NoHeldEvicted, HeldPinned, TakenOutOnce, SamePages, SameStages, OneEffect, RefusedAlone, Listed}
+use Rattle.guarantee.specs.Claims.{GrantLists, OneEach, OneCopy, NoHeldEvicted, HeldPinned, FewPins, TakenOutOnce, SamePages, SameStages, OneEffect, RefusedAlone, Listed}
 use Rattle.guarantee.specs.Claims.{withClient, CountsPages, AddsUp}
 use Rattle.memory.specs.Memory.{maxPages, isFilled, isChanged, copiedPage, unmarked, moved}
-use Rattle.memory.specs.Requests.{Request, Asks, ReadByte, WriteByte, State, Result, bytesOk, storeOk, firstOf, outsideAt, byteRefusal, refusalOn, refused}
+use Rattle.memory.specs.Requests.{Request, Asks, ReadByte, WriteByte, State, Result, bytesOk, storeOk, firstOf, inOrder, outsideAt, byteRefusal, refusalOn, refused}
 use Rattle.memory.specs.Requests.{callOn, bufferPool, holdingsOn}
 use Rattle.memory.specs.Happenings.{Happening, happenings, stateAfter, SetUpOn}
 use Rattle.memory.specs.declared.Memory.{Memory}
@@ -65,7 +65,7 @@ ThroughoutOn P x (r ∷ rs) = P x × ThroughoutOn P (callOn x r .state) rs
 
 -- SPECIFICATION 13.14: what it turns down, from its own state and n. A read or write is tested as a release is, and then for 16 and 17.
 unfoldable pub seqRefusalOn : ℕ → Sequential → Request → ℕ
-seqRefusalOn n q (Asks call) = firstOf (seqRefusal q call) (outsideAt n call)
+seqRefusalOn n q (Asks call) = inOrder (seqRefusal q call) (outsideAt n call)
 seqRefusalOn n q (ReadByte c g o) = firstOf (seqRefusal q (Release c g)) (byteRefusal n g o)
 seqRefusalOn n q (WriteByte c g o v) = firstOf (seqRefusal q (Release c g)) (byteRefusal n g o)
 
@@ -98,9 +98,11 @@ LeavesPool h = (h .next .pool ≡ h .before .pool) × (h .counted ≡ Nothing)
 -- the fields of `Point3`, of the calls of the pool, and that reads and writes leave the pool; the sequential pool knows the number of pages
 pub record Point3On (x : State) (rs : List Request) : Type 0 where
   pub grants : GrantLists (x .pool) (amid (happenings x rs))
+  pub one-each : ThroughoutOn (λ y. OneEach (y .pool)) x rs
   pub one-copy : ThroughoutOn (λ y. OneCopy (y .pool)) x rs
   pub no-held-evicted : NoHeldEvicted (amid (happenings x rs))
   pub held-pinned : ThroughoutOn (λ y. HeldPinned (y .pool)) x rs
+  pub few-pins : ThroughoutOn (λ y. FewPins (y .pool)) x rs
   pub taken-out-once : TakenOutOnce (amid (happenings x rs))
   pub sequential : FollowsOn (x .memory .pages) x (start (x .pool .size) (clientCount (x .pool))) rs
   pub one-effect : OneEffect (amid (happenings x rs))

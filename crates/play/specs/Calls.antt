@@ -32,7 +32,9 @@ NoneOrHigh n = (n ≡ 0) ⊎ (9 ≤ n)
 
 high-at : (p : Pool) (k : Client) (call : Call) → NoneOrHigh (refusalAt p k call)
 unfolding refusalAt
-high-at p k (Begin c g) = by-test NoneOrHigh (λ _. by-test NoneOrHigh (λ _. inl refl) (λ _. inr (omega arith))) (λ _. inr (omega arith))
+high-at p k (Begin c g) =
+    by-test NoneOrHigh
+    (λ _. by-test NoneOrHigh (λ _. by-test NoneOrHigh (λ _. inl refl) (λ _. inr (omega arith))) (λ _. inr (omega arith))) (λ _. inr (omega arith))
 high-at p k (Step c) = by-test NoneOrHigh (λ _. inr (omega arith)) (λ _. inl refl)
 high-at p k (Release c g) = by-test NoneOrHigh (λ _. by-test NoneOrHigh (λ _. inr (omega arith)) (λ _. inl refl)) (λ _. inr (omega arith))
 

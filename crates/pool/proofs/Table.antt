@@ -35,13 +35,15 @@ table =
     record {
       published = (refl, refl, refl, refl, refl, refl, refl, refl, refl);
       of-one = (refl, refl, refl, refl, refl);
+      one-each = (refl, refl);
       refused-of-two = (refl, refl, refl);
       stalled = (refl, refl, refl);
       meanwhile = (refl, refl, refl, refl);
       check8 = (refl, refl);
-      handed-calls = (refl, refl, refl, refl, refl, refl, refl, refl, refl);
+      handed-calls = (refl, refl, refl, refl, refl, refl, refl, refl, refl, refl);
       in-page-order = (refl, refl, refl, refl);
-      list-kept = (refl, refl, refl, refl);
+      list-kept = (refl, refl, refl, refl, refl);
+      once = refl;
       raises = refl;
       largest = (refl, refl);
       report = refl;

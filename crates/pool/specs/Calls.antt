@@ -77,9 +77,10 @@ caller (Begin c g) = c
 caller (Step c) = c
 caller (Release c g) = c
 
--- SPECIFICATION 3.7, refusals 10 to 13; 0 for none of them
+-- SPECIFICATION 3.7, refusals 10 to 13 and 18; 0 for none of them
 unfoldable pub refusalAt : Pool → Client → Call → ℕ
-refusalAt p k (Begin c g) = choose (eqb (k .stage) 0) (choose (ltb (k .held) maxHeld) 0 12) 10
+refusalAt p k (Begin c g) =
+    choose (eqb (k .stage) 0) (choose (ltb (k .held) maxHeld) (choose (eqb (grantOf p c g) none) 0 18) 12) 10
 refusalAt p k (Step c) = choose (eqb (k .stage) 0) 11 0
 refusalAt p k (Release c g) = choose (eqb (k .stage) 0) (choose (eqb (grantOf p c g) none) 13 0) 10
 

@@ -11,12 +11,12 @@ use lib.ListN.{replicate}
 use Rattle.pool.specs.Choose.{choose}
 use Rattle.pool.specs.State.{none, evicted, pinned, slot, pins, count, resting, client}
 use Rattle.pool.specs.Table.{lookup, pagesInTable}
-use Rattle.pool.specs.Moves.{standing, withOwn, withFound, withVictim, withSeen, withPlace, sweeping, completes}
+use Rattle.pool.specs.Moves.{wanting, standing, withOwn, withFound, withVictim, withSeen, withPlace, sweeping, completes}
 use Rattle.pool.specs.Apply.{apply}
 use Rattle.pool.specs.Valid.{valid}
 use Rattle.pool.specs.Calls.{fresh, setupOf, caller, callOf, poolAfter}
 use Rattle.pool.specs.Tallies.{up, tallied}
-use Rattle.pool.specs.Holdings.{listed, holdingsOf}
+use Rattle.pool.specs.Holdings.{rowsOf, listed, holdingsOf}
 use Rattle.pool.specs.Schedule.{ran}
 use Rattle.pool.specs.declared.Pool.{Pool}
 use Rattle.pool.specs.declared.Client.{Client}
@@ -270,12 +270,28 @@ claimedSlot =
     setup 1 2 3 0 after Begin 1 5 ∷ steps 1 3 ++ Begin 0 9 ∷ steps 0 4 takes 4 counts Refusal by 11 ∷ [] shows
     goes 1 (5 ∷ 10 ∷ 11 ∷ []) ++ Step 1 gets Refused 15 ∷ slot at 0 is none ∷ free is 0 ∷ own at 1 is none ∷ goes 0 (8 ∷ 9 ∷ 18 ∷ [])
 
--- A sweep of three slots from slot 2, which client 1 has claimed and not filled, over slot 0, whose page has two grants, and slot 1, whose page
--- has one: an empty slot and each number of pins above 0 is one busy visit, and the third is refusal 15.
+-- A sweep of three slots from slot 2, which client 1 has claimed and not filled, over slot 0, whose page both clients hold, and slot 1, whose page
+-- has one grant: an empty slot and each number of pins above 0 is one busy visit, and the third is refusal 15.
 abbrev pub threeBusy : Case
 threeBusy =
-    setup 3 2 3 0 after admit 9 ++ Begin 0 9 ∷ steps 0 3 ++ admit 5 ++ Begin 1 6 ∷ steps 1 4 takes 9 counts Refusal by 12 ∷ [] shows
+    setup 3 2 3 0 after admit 9 ++ Begin 1 9 ∷ steps 1 3 ++ admit 5 ++ Begin 1 6 ∷ steps 1 4 takes 9 counts Refusal by 12 ∷ [] shows
     begins 0 7 (sweeps ++ 11 ∷ []) ++ busy at 0 is 1 ∷ goes 0 (12 ∷ 11 ∷ []) ++ busy at 0 is 2 ∷ goes 0 (12 ∷ []) ++ Step 0 gets Refused 15 ∷ []
+
+-- A client that holds a page cannot begin it once more; another can, and is granted the same frame. Whoever releases the page holds it no longer, may
+-- begin it again, and leaves the other's grant.
+abbrev pub scannedTwice : Case
+scannedTwice =
+    setup 1 2 3 0 after admit 9 takes 3 counts Hit by 3 ∷ [] shows
+    Begin 0 9 gets Refused 18 ∷ asks 1 9 (2 ∷ 3 ∷ []) (Granted 0) ++ Begin 1 9 gets Refused 18 ∷ held at 0 is 1 ∷ pins at 0 is pinned 2
+    ∷ Release 0 9 gets Done 9 ∷ Release 0 9 gets Refused 13 ∷ held at 0 is 0 ∷ held at 1 is 1 ∷ pins at 0 is pinned 1
+    ∷ begins 0 9 (2 ∷ []) ++ Begin 1 9 gets Refused 18 ∷ []
+
+-- The eighth grant is given; a ninth begin is refused by 12, of a page that the client holds, too.
+abbrev pub eightGrants : Case
+eightGrants =
+    setup 8 1 3 0 after admit 1 ++ admit 2 ++ admit 3 ++ admit 4 ++ admit 5 ++ admit 6 ++ admit 7 takes 8 counts Admitted by 18 ∷ [] shows
+    Begin 0 1 gets Refused 18 ∷ asks 0 8 fills (Granted 7) ++ held at 0 is 8 ∷ Begin 0 9 gets Refused 12 ∷ Begin 0 1 gets Refused 12
+    ∷ Release 0 5 gets Done 5 ∷ Begin 0 1 gets Refused 18 ∷ Begin 0 5 gets Done 5 ∷ []
 
 -- Refusal 15 comes at S busy visits one after the other, wherever the sweep then stands: client 1 passes slot 0 on with a count above 0, meets
 -- slot 1 held, and slot 0 held by then, too, halfway through its second lap.
@@ -407,6 +423,11 @@ with-client k = handed k Same Keep
 abbrev pub with-write : Write → Pool
 with-write write = handed (resting 0) Same write
 
+-- a pool whose one client has these grants, the last one first, all of them on frame 0
+abbrev pub holder : List ℕ → Pool
+holder [] = fresh 2 1 3 0
+holder (g ∷ earlier) = let p = holder earlier in let n = client p 0 .held in handedOn p (resting (n + 1)) (Open n g 0) Keep
+
 -- a client that names frame f where its stage uses one: the own frame, the found one, the victim
 abbrev pub naming : List (ℕ → Client)
 naming =
@@ -427,8 +448,12 @@ infix 90 _upTo_
 pub data Range : Type 0 where
   _upTo_ : (ℕ → Pool) → ℕ → Range
 
--- The pool's own numbers; the client's; the frames that it names. In the last two the number is what a second entry or grant of one page has:
--- the place of the first, or the next; the first one's frame, or the next.
+-- eight different pages, falling but for the last
+abbrev pub eightPages : Pool
+eightPages = holder (8 ∷ 1 ∷ 2 ∷ 3 ∷ 4 ∷ 5 ∷ 6 ∷ 7 ∷ [])
+
+-- The pool's own numbers; the client's; the frames that it names. In the last two the number is the place of a second entry, which may be that of the
+-- first, and the page of a second grant, which may not be that of the first.
 abbrev pub ranges : List Range
 ranges =
     (λ n. with-write (PutFree n)) upTo 2
@@ -441,10 +466,10 @@ ranges =
     ∷ (λ i. with-client (withPlace (resting 0) i)) upTo 1
     ∷ (λ n. with-client (sweeping (resting 0) 0 0 n)) upTo 1
     ∷ (λ n. with-client (withSeen (resting 0) n)) upTo 2
-    ∷ (λ n. with-client (resting n)) upTo 8
+    ∷ (λ n. handedOn eightPages (resting n) Same Keep) upTo 8
     ∷ (λ f. handed (resting 1) (Open 0 9 f) Keep) upTo 3
     ∷ (λ i. handedOn (with-write (PutEntry 0 9 0)) (resting 0) Same (PutEntry i 9 0)) upTo 0
-    ∷ (λ f. handedOn (handed (resting 1) (Open 0 9 0) Keep) (resting 2) (Open 1 9 f) Keep) upTo 0
+    ∷ (λ g. holder (g ∷ 9 ∷ [])) upTo 8
     ∷ map (λ k. (λ f. with-client (k f)) upTo 3) naming
 
 -- each range's pool at its limit, and one past it
@@ -486,6 +511,13 @@ abbrev pub fullyPinned : HandedCase
 fullyPinned =
     handed (standing (withFound (resting 0) 0) 2) Same (PutPins 0 (pinned 128)) plays
     Step 0 gets Refused 8 ∷ pins at 0 is pinned 128 ∷ found at 0 is 0 ∷ []
+
+-- A working client holds the page that it wants, which check 8 lets through before the action. The grant would make it hold the page twice, so the
+-- step is refused by 8 and changes nothing.
+abbrev pub holdsWanted : HandedCase
+holdsWanted =
+    handed (standing (withFound (wanting (resting 1) 9) 0) 3) (Open 0 9 0) Keep plays
+    Release 0 9 gets Refused 10 ∷ Step 0 gets Refused 8 ∷ held at 0 is 1 ∷ found at 0 is 0 ∷ []
 
 -- Stage 20 evicts an own frame of one pin; one of two pins it only forgets.
 abbrev pub ownPinnedTwice : HandedCase
@@ -540,25 +572,19 @@ rowOf g times = record { page = g; times = times }
 abbrev pub filler : ℕ → List Row
 filler n = replicate n (rowOf 77 7)
 
--- a pool whose one client has these grants, the last one first, all of them on frame 0
-abbrev pub holder : List ℕ → Pool
-holder [] = fresh 2 1 3 0
-holder (g ∷ earlier) = let p = holder earlier in let n = client p 0 .held in handedOn p (resting (n + 1)) (Open n g 0) Keep
-
--- the largest of all page numbers, 0, 7, and 7 again, in this order; and their rows
+-- the largest of all page numbers, 0 and 7, in this order; and their rows
 abbrev pub outOfOrder : Pool
-outOfOrder = holder (7 ∷ 7 ∷ 0 ∷ 4294967295 ∷ [])
+outOfOrder = holder (7 ∷ 0 ∷ 4294967295 ∷ [])
 
 abbrev pub risen : List Row
-risen = rowOf 0 1 ∷ rowOf 7 2 ∷ rowOf 4294967295 1 ∷ []
+risen = rowOf 0 1 ∷ rowOf 7 1 ∷ rowOf 4294967295 1 ∷ []
 
--- eight pages, falling but for the last
-abbrev pub eightPages : Pool
-eightPages = holder (8 ∷ 1 ∷ 2 ∷ 3 ∷ 4 ∷ 5 ∷ 6 ∷ 7 ∷ [])
-
--- a grant on a frame that the pool does not have
+-- a grant on a frame that the pool does not have; a page with two grants
 abbrev pub brokenHolder : Pool
 brokenHolder = handed (resting 1) (Open 0 9 4) Keep
+
+abbrev pub twiceHolder : Pool
+twiceHolder = holder (7 ∷ 0 ∷ 7 ∷ [])
 
 -- client c's holdings on a list: the answer, and the list then
 abbrev pub Lists : Pool → ℕ → List Row → Answer → List Row → Type 0
@@ -605,12 +631,13 @@ listing = "0 0 0 1\n1 0 0 9\n2 0 1 4\n3 0 1 5\n4 0 1 6\n5 0 1 7\n6 0 1 8\n7 0 1 
 pub record Proved : Type 0 where
   pub published : Holds P1 × Holds P2 × Holds P3 × Holds P4 × Holds P5 × Holds P6 × Holds P7a × Holds P7b × (map computed P8 ≡ P8)
   pub of-one : Holds reducedStart × Holds roundTheEnd × Holds countAtCap × Holds twoHeld × Holds busyRunReset
+  pub one-each : Holds scannedTwice × Holds eightGrants
   pub refused-of-two : Holds claimedSlot × Holds threeBusy × Holds midLap
   pub stalled : Holds fillRound × Holds stalledVictim × Holds stalledFound
   pub meanwhile : Holds pinnedMeanwhile × Holds evictedMeanwhile × Holds swappedMeanwhile × Holds foundRemoved
   pub check8 : Check8 sound true × Check8 broken false
   pub handed-calls :
-      Plays fullyPinned × Plays ownPinnedTwice × Plays takenAgain × Plays searchedRound × Plays joinRaises × Plays onlyEvicted × Plays dropped
+      Plays fullyPinned × Plays holdsWanted × Plays ownPinnedTwice × Plays takenAgain × Plays searchedRound × Plays joinRaises × Plays onlyEvicted × Plays dropped
       × Plays notReplaced × Plays notRemoved
   pub in-page-order :
       Lists outOfOrder 0 (filler 4) (Done 3) (risen ++ filler 1) × Lists outOfOrder 0 (filler 3) (Done 3) risen
@@ -618,6 +645,9 @@ pub record Proved : Type 0 where
   pub list-kept :
       Lists outOfOrder 0 (filler 2) (Refused 14) (filler 2) × Lists outOfOrder 1 (filler 2) (Refused 9) (filler 2)
       × Lists brokenHolder 0 [] (Refused 8) [] × Lists brokenHolder 1 (filler 2) (Refused 8) (filler 2)
+      × Lists twiceHolder 0 (filler 3) (Refused 8) (filler 3)
+  -- holdings in place, which make no check 8, list a page once all the same
+  pub once : rowsOf twiceHolder 0 ≡ rowOf 0 1 ∷ rowOf 7 1 ∷ []
   pub raises : map (λ k. tallied k (tally 10 20 30 40 50 60)) kinds ≡ raisedByKind
   pub largest : (up 4294967294 ≡ 4294967295) × (up 4294967295 ≡ 4294967295)
   pub report : ran file 49152 ≡ record { records = 12; refusal = 0; lines = codes listing }

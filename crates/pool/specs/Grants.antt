@@ -6,7 +6,7 @@ use Rattle.pool.specs.Choose.{scan, some}
 use Rattle.pool.specs.State.{none, clientCount, client, grantPage, grantFrame}
 use Rattle.pool.specs.declared.Pool.{Pool}
 
--- SPECIFICATION 2.2: the place among client c's grants of its first of a page, or none
+-- SPECIFICATION 2.2: the place of a page among client c's grants, or none; the first, where check 8 was not made and it stands there twice
 unfoldable pub grantOf : Pool → ℕ → ℕ → ℕ
 grantOf p c g = scan (λ i. eqb (grantPage p c i) g) (λ i. i) none 0 (client p c .held)
 

@@ -33,9 +33,9 @@ stateOk cap q r = both (leb q (pinned maxPins)) (leb r cap)
 unfoldable pub entryOk : ℕ → ℕ → ℕ → ℕ → Bool
 entryOk n i f first = either (eqb f none) (both (ltb f n) (eqb first i))
 
--- SPECIFICATION 5.7: a grant's frame, and that of the client's first grant of its page
-unfoldable pub grantOk : ℕ → ℕ → ℕ → Bool
-grantOk n f first = both (ltb f n) (eqb first f)
+-- SPECIFICATION 5.7: a client's grant i, with its frame and the place where its page is found. That is another place if the client has two of the page.
+unfoldable pub grantOk : ℕ → ℕ → ℕ → ℕ → Bool
+grantOk n i f first = both (ltb f n) (eqb first i)
 
 -- ---- a client
 
@@ -75,7 +75,7 @@ entryOkAt p i = entryOk (total p) i (entryFrame p i) (entryOf p (entryPage p i))
 
 -- SPECIFICATION 5.7
 abbrev pub grantOkAt : Pool → ℕ → ℕ → Bool
-grantOkAt p c i = grantOk (total p) (grantFrame p c i) (grantFrame p c (grantOf p c (grantPage p c i)))
+grantOkAt p c i = grantOk (total p) i (grantFrame p c i) (grantOf p c (grantPage p c i))
 
 -- SPECIFICATION 5.5, 5.6, 5.7
 unfoldable pub clientOk : Pool → ℕ → Bool

@@ -56,8 +56,8 @@ pub record ClientRanged (p : Pool) (c : ℕ) : Type 0 where
   pub found : Names (usesFound (client p c .stage)) (total p) (client p c .found)
   pub victim : Names (usesVictim (client p c .stage)) (total p) (client p c .victim)
   pub grant : (i : ℕ) → i < client p c .held → grantFrame p c i < total p
-  -- one client's grants of one page name one frame
-  pub agree : (i j : ℕ) → i < client p c .held → j < client p c .held → grantPage p c i ≡ grantPage p c j → grantFrame p c i ≡ grantFrame p c j
+  -- no two of a client's grants are of one page (SPECIFICATION 5.7)
+  pub single : (i j : ℕ) → i < client p c .held → j < client p c .held → grantPage p c i ≡ grantPage p c j → i ≡ j
 
 pub record Ranged (p : Pool) : Type 0 where
   pub numbers : Numbers (p .size) (clientCount p) (p .cap)
@@ -177,13 +177,13 @@ module _ (n f : ℕ) where
   entry-from i first r = unless-none f _ (λ d. both-yes _ _ (lt-ltb _ _ (r d .0)) (eq-eqb _ _ (r d .1)))
 
   -- a grant
-  grant-in : (first : ℕ) → grantOk n f first ≡ true → (f < n) × (first ≡ f)
+  grant-in : (i first : ℕ) → grantOk n i f first ≡ true → (f < n) × (first ≡ i)
   unfolding grantOk
-  grant-in first h = (ltb-true _ _ (both-first _ _ h), eqb-true _ _ (both-second _ _ h))
+  grant-in i first h = (ltb-true _ _ (both-first _ _ h), eqb-true _ _ (both-second _ _ h))
 
-  grant-from : (first : ℕ) → f < n → first ≡ f → grantOk n f first ≡ true
+  grant-from : (i first : ℕ) → f < n → first ≡ i → grantOk n i f first ≡ true
   unfolding grantOk
-  grant-from first h e = both-yes _ _ (lt-ltb _ _ h) (eq-eqb _ _ e)
+  grant-from i first h e = both-yes _ _ (lt-ltb _ _ h) (eq-eqb _ _ e)
 
 module _ (p : Pool) where
   -- ---- a place of the table
@@ -219,8 +219,8 @@ module _ (p : Pool) where
           own = used-in _ _ _ (both-first _ _ u);
           found = used-in _ _ _ (both-first _ _ u₂);
           victim = used-in _ _ _ (both-second _ _ u₂);
-          grant = λ i l. grant-in _ _ _ (g i l) .0;
-          agree = λ i j l m e. sym (grant-in _ _ _ (g i l) .1) ∙ ap (λ x. grantFrame p c (grantOf p c x)) e ∙ grant-in _ _ _ (g j m) .1;
+          grant = λ i l. grant-in _ _ _ _ (g i l) .0;
+          single = λ i j l m e. sym (grant-in _ _ _ _ (g i l) .1) ∙ ap (grantOf p c) e ∙ grant-in _ _ _ _ (g j m) .1;
         }
 
     client-from : ClientRanged p c → clientOk p c ≡ true
@@ -232,7 +232,7 @@ module _ (p : Pool) where
         (every-yes (grantOkAt p c) (client p c .held)
         (λ i l.
         let f = first-grant i l in
-        grant-from _ _ _ (r .grant i l) (r .agree _ i (omega arith) l (eqb-true _ _ (f .meets))))))
+        grant-from _ _ _ _ (r .grant i l) (r .single _ i (omega arith) l (eqb-true _ _ (f .meets))))))
 
   -- ---- the pool
 

@@ -1,4 +1,4 @@
-// What turns a call down: the refusals 9 to 13, in checking order, told from the calling client's record and the pages of the grants where they
+// What turns a call down: the refusals 9 to 13 and 18, in checking order, told from the calling client's record and the pages of the grants where they
 // lie. Internal: the turn of a call (crate `play`) begins with it.
 ghost use mathlib.Core.Path.{_≡_};
 ghost use Prim.Native.Nat.{_<_, _≤_};
@@ -13,7 +13,7 @@ use pool::GRANTS;
 use pool::MAX_HELD;
 use pool::NONE;
 
-// By which of the refusals 10 to 13 a call of a client is turned down; 0: by none of them.
+// By which of the refusals 10 to 13 and 18 a call of a client is turned down; 0: by none of them.
 fn refusal_at(call: Call, client: Client, grant_pages: &[u32; GRANTS]) -> u8
     requires { ⌜ (caller call < maxClients) × (client .held ≤ maxHeld) ⌝ }
     ensures { λ r. ⌜ ((p : Pool) → State.client p (caller call) ≡ client → p .«grant_pages» ≡ now («grant_pages» .entry) →
@@ -26,7 +26,11 @@ fn refusal_at(call: Call, client: Client, grant_pages: &[u32; GRANTS]) -> u8
             if stage != 0 {
                 return 10;
             }
-            if client.held < MAX_HELD { 0 } else { 12 }
+            if client.held >= MAX_HELD {
+                return 12;
+            }
+            let i = reads::grant_of(grant_pages, c as usize, client.held, page);
+            if i == NONE { 0 } else { 18 }
         }
         Call::Release(c, page) => {
             if stage != 0 {
@@ -38,7 +42,7 @@ fn refusal_at(call: Call, client: Client, grant_pages: &[u32; GRANTS]) -> u8
     }
 }
 
-// By which of 9 to 13 a call is turned down, 9 where there is no such client; 0: by none of them. The client is not looked at by 9.
+// By which of 9 to 13 and 18 a call is turned down, 9 where there is no such client; 0: by none of them. The client is not looked at by 9.
 pub fn turned_by(call: Call, client_count: u8, client: Client, grant_pages: &[u32; GRANTS]) -> u8
     requires { ⌜ («client_count» ≤ maxClients) × (client .held ≤ maxHeld) ⌝ }
     ensures { λ r. ⌜ ((p : Pool) → Caller p call «client_count» client (now («grant_pages» .entry)) → r ≡ turnedBy p call) ⌝ }

@@ -11,7 +11,6 @@ use borrow.Author.Tests.{eq-eqb, ne-eqb}
 use Rattle.pool.specs.Choose.{choose, both, every}
 use Rattle.pool.specs.State.{none, within, ofClient, grantPlace}
 use Rattle.pool.specs.Valid.{entryOk, grantOk}
-use Rattle.laws.specs.Scans.{first}
 use Rattle.laws.specs.Loops.{found-at}
 use Rattle.laws.specs.Elements.{element, grant-element, pageOf}
 use Rattle.reads.specs.Lists.{mapsIn, entryIn, grantIn}
@@ -55,21 +54,12 @@ module _ (pages frames : List ℕ) (n i : ℕ) (h : i < n) where
 
 module _ (pages frames : List ℕ) (c held n : ℕ) where
   unfoldable pub grantOkIn : ℕ → Bool
-  grantOkIn i = grantOk n (ofClient frames c held none i) (ofClient frames c held none (grantIn pages c held (ofClient pages c held 0 i)))
+  grantOkIn i = grantOk n i (ofClient frames c held none i) (grantIn pages c held (ofClient pages c held 0 i))
 
   unfoldable pub grantsOkIn : Bool
   grantsOkIn = every grantOkIn held
 
 module _ (pages : List ℕ) (c held i : ℕ) (h : i < held) where
-  -- the first grant of its page is one that is held
-  pub first-held : grantIn pages c held (pageOf pages c i) < held
-  unfolding grantIn
-  first-held =
-      let g = pageOf pages c i in
-      let here = eq-eqb _ _ (grant-element pages c held 0 i h) in
-      let f = first (λ i. eqb (ofClient pages c held 0 i) g) none 0 held i (omega arith) (omega arith) here in
-      omega arith
-
   -- a grant whose page is new is the first of its page
   pub first-new : New (pageOf pages c) i → grantIn pages c held (pageOf pages c i) ≡ i
   unfolding grantIn
@@ -78,16 +68,8 @@ module _ (pages : List ℕ) (c held i : ℕ) (h : i < held) where
       (λ j b. rw (grant-element pages c held 0 j (omega arith)) (ne-eqb _ _ (new .apart j b)))
       (rw (grant-element pages c held 0 i h) (eq-eqb (pageOf pages c i) (pageOf pages c i) refl))
 
-  -- the test of a grant, by its frame and that of the first grant of its page
+  -- the test of a grant, by its frame and the first place of its page
   pub grant-at :
-      (frames : List ℕ) (n : ℕ) →
-      grantOk n (getD frames (grantPlace c i) 0) (getD frames (grantPlace c (grantIn pages c held (pageOf pages c i))) 0)
-      ≡ grantOkIn pages frames c held n i
+      (frames : List ℕ) (n : ℕ) → grantOk n i (getD frames (grantPlace c i) 0) (grantIn pages c held (pageOf pages c i)) ≡ grantOkIn pages frames c held n i
   unfolding grantOkIn
-  grant-at frames n =
-      let f = grantIn pages c held (pageOf pages c i) in
-      rw (
-        grant-element frames c held none i h,
-        grant-element pages c held 0 i h,
-        grant-element frames c held none f first-held,
-      )
+  grant-at frames n = rw (grant-element frames c held none i h, grant-element pages c held 0 i h)

@@ -55,8 +55,8 @@ pub fn entries_ok<'a>(pages: &'a [u32; FRAMES], frames: &'a [u8; FRAMES], n: u8)
     true
 }
 
-// A grant names one of the pool's n frames, and the one that the client's first grant of its page names. A mark of 0 says that no earlier
-// grant is of the page, so that it is the first itself.
+// SPECIFICATION 5.7: grant i names one of the pool's n frames and is the client's first of its page. A mark of 0 says that no earlier grant is of the
+// page, so that no search is needed.
 fn grant_ok<'a>(
     pages: &'a [u32; GRANTS],
     frames: &'a [u8; GRANTS],
@@ -76,8 +76,8 @@ fn grant_ok<'a>(
     if mark == 0 {
         return true;
     }
-    let first = reads::grant_of(pages, c, held, pages[HELD * c + i]) as usize;
-    frames[HELD * c + first] == frame
+    let first = reads::grant_of(pages, c, held, pages[HELD * c + i]);
+    first as usize == i
 }
 
 // SPECIFICATION 5.7. Marks as for the table; a power of two serves, for a search among 8 grants is short.

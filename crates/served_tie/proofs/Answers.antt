@@ -27,6 +27,7 @@ use Rattle.laws.specs.Choices.{by-test}
 use Rattle.laws.specs.Scans.{both-first, both-yes}
 use Rattle.ranges.specs.Ranges.{numbers-in}
 use Rattle.memory.specs.Memory.{pageBytes, blank}
+use Rattle.memory.specs.Orders.{order-none}
 use Rattle.memory.specs.Requests.{Request, Asks, ReadByte, WriteByte, State, Result, lengthOk, outsideAt, heldFrame}
 use Rattle.memory.specs.declared.Memory.{Memory}
 use Rattle.client_arrays.specs.Arrays.{clientBytes, clientWords, clientFrom, clientsFrom, bytesWith, wordsWith, put-back, bytes-stay, words-stay}
@@ -38,7 +39,6 @@ use Rattle.play.specs.Parts.{same-clients}
 use Rattle.in_place.specs.Held.{Held, fits, heldRefusal, heldOf, holderFits, byteHeldRefusal, heldOn, dutyOn, stateFrom}
 use Rattle.counting.specs.Counts.{tallyFrom}
 use Rattle.mixed.proofs.Calls.{after-pages}
-use Rattle.held_claims.proofs.Same.{zero-of-first}
 use Rattle.served.specs.Words.{wordOf}
 use Rattle.served.specs.Served.{accepted, refuses, sets-up, read-turned, reads, write-turned, writes}
 use Rattle.served_tie.specs.Contracts.{Books, Frames, Server, poolIn, stateIn, withBooks, withAll, Loans, SetupSays}
@@ -67,7 +67,7 @@ low-caller p n call =
     by-test (λ (k : ℕ). k ≡ 0 → caller call < maxClients)
     (λ t e.
     let r = numbers-in (p .size) (clientCount p) (p .cap) (both-first _ _ t) in
-    omega (arith, r .clients, is-client p call (zero-of-first (turnedBy p call) (outsideAt n call) e)))
+    omega (arith, r .clients, is-client p call (order-none (turnedBy p call) (outsideAt n call) e .0)))
     (λ _ e. absurd (let y : ⊥ = omega arith in y))
 
 module _ (x : Server) (long : Long x) where

@@ -49,8 +49,12 @@ fn count() {
     state = begin(state, 1, 9);
     state = rounds(state, 13);
 
-    // Stages 1 to 3, twice. Hits 2.
+    // Client 0 holds page 9: its begin is refused by 18, the steps after it by 11, and nothing is counted. It releases the page and has it again, by
+    // stages 1 to 3, two times. Hits 2.
     state = request(state, 0, 9, 3);
+    state = release(state, 0, 9);
+    state = request(state, 0, 9, 3);
+    state = release(state, 0, 9);
     state = request(state, 0, 9, 3);
 
     // Slot 0 has the held frame 0, slot 1 the evicted frame 1: stages 1, 4, 5, 10, 11, 12 (busy), 11, 12, 15 to 18. Admitted 2.
@@ -59,7 +63,7 @@ fn count() {
     // Both slots have held frames: stages 1, 4, 5, 10, 11, 12 (busy), 11, 12 (busy, the second of two: refusal 15). Refused 1.
     state = request(state, 1, 7, 8);
 
-    // Client 0 holds 9 three times and 5, which was granted last, once; client 1 holds 9 once. There is no client 2: refusal 9, and no row.
+    // Client 0 holds 9 and 5, which was granted last; client 1 holds 9. There is no client 2: refusal 9, and no row.
     print_holdings(state, 0);
     print_holdings(state, 1);
     print_holdings(state, 2);
@@ -70,8 +74,6 @@ fn count() {
     state = request(state, 1, 7, 14);
 
     // Nothing is held any more. Page 9 has the count 3, page 7 the count 1.
-    state = release(state, 0, 9);
-    state = release(state, 0, 9);
     state = release(state, 0, 9);
     state = release(state, 1, 9);
     state = release(state, 1, 7);
@@ -91,8 +93,8 @@ fn count() {
 
 // Rows by rising page number, in whichever order the pages were granted (SPECIFICATION 8.1).
 fn list() {
-    // S 8, T 2, C 3. Client 0 gets the largest of all page numbers first, then 0 and 7, each into an empty slot (stages 1, 4 to 9, 18), and 7 once
-    // more, a hit. Client 1 gets the same three by hits, in another order.
+    // S 8, T 2, C 3. Client 0 gets the largest of all page numbers first, then 0 and 7, each into an empty slot (stages 1, 4 to 9, 18); to begin 7 once
+    // more is refused by 18. Client 1 gets the same three by hits, in another order.
     let mut state = set_up(8, 2, 3, 0);
     state = request(state, 0, 4294967295, 8);
     state = request(state, 0, 0, 8);
@@ -108,10 +110,9 @@ fn list() {
     print_on_first(state, 0, 3);
     print_on_first(state, 0, 2);
 
-    // One grant of 7 less; then none, and two rows are enough. A client that works may be asked, too.
+    // Without 7, which one release ends, two rows are enough. A client that works may be asked, too.
     state = release(state, 0, 7);
     print_holdings(state, 0);
-    state = release(state, 0, 7);
     state = begin(state, 0, 5);
     print_on_first(state, 0, 2);
 

@@ -2,12 +2,14 @@
 -- list is a recursion over that, and what the guarantee claims of the definition's pools and events it claims of the code's. Assumes nothing.
 use mathlib.Core.Logic.{_≢_}
 use mathlib.Core.Path.{_≡_, refl, sym, ap, _∙_}
+use mathlib.Core.Bool.{true}
 use mathlib.Core.List.{List, [], _∷_, _++_}
 use native.Mathlib.Omega.{arith}
 use Prim.Native.Nat.{ℕ}
 use lib.ListN.{length, drop}
 use lib.Seq.{take-append-seam, drop-append-seam}
 use borrow.Author.Tests.{eqb-true, eqb-false}
+use Rattle.pool.specs.Valid.{valid}
 use Rattle.pool.specs.Calls.{setupOf, moveOf, releaseMove, finished, callOf, poolAfter}
 use Rattle.pool.specs.Tallies.{zeroTally, tallied}
 use Rattle.pool.specs.Holdings.{rowsOf, holdingsRefusal, listed, holdingsOf}
@@ -122,10 +124,16 @@ module _ (p : Pool) (c : ℕ) (rows left : List Row) (a : Answer) where
       by-test (λ (r : Listed). listed a left ≡ r → Out) (λ t e. is-done (eqb-true _ _ t) (ap (λ (r : Listed). r .answer) e) (ap (λ (r : Listed). r .rows) e))
       (λ t e. is-refused (eqb-false _ _ t) (ap (λ (r : Listed). r .answer) e) (ap (λ (r : Listed). r .rows) e))
 
+-- a client of which holdings is done is one of a pool that passes check 8
+passed-8 : (p : Pool) (c room : ℕ) → holdingsRefusal p c room ≡ 0 → valid p ≡ true
+unfolding holdingsRefusal
+passed-8 p c room = by-test (λ (n : ℕ). n ≡ 0 → valid p ≡ true) (λ v _. v) (λ _ e. let z : ⊥ = omega arith in absurd z)
+
 filled : (p : Pool) (c n : ℕ) (rows left : List Row) → Out p c rows left (Done n) → Fills p c n (holdingsRefusal p c (length rows)) rows left
 filled p c n rows left (is-done none answer is) =
     let long : n ≡ length (rowsOf p c) = cc in
-    rw (is, long, take-append-seam (rowsOf p c), drop-append-seam (rowsOf p c)) (none, refl, guarantee .holdings p c (rowsOf p c) .1 refl, refl)
+    let many = guarantee .held-once p c (passed-8 p c (length rows) none) .as-many in
+    rw (is, long, take-append-seam (rowsOf p c), drop-append-seam (rowsOf p c)) (none, sym many, refl, guarantee .holdings p c (rowsOf p c) .1 refl, refl)
 filled p c n rows left (is-refused some answer is) = let z : _≡_ {A = ℕ} 0 1 = cc in let never : ⊥ = omega arith in absurd never
 
 kept-rows : (p : Pool) (c n : ℕ) (rows left : List Row) → Out p c rows left (Refused n) → Leaves p c n (holdingsRefusal p c (length rows)) rows left

@@ -26,7 +26,7 @@ use Rattle.play.specs.Parts.{same-clients}
 use Rattle.client_arrays.specs.Arrays.{clientFrom, clientsFrom, client-from, put-as}
 use Rattle.in_place.specs.Held.{poolFrom, clientFits, searchFits}
 use Rattle.in_place.specs.Acts.{client-read, search-read, few-held, decidable, insideOf, actedAway, ActsTo, no-numbers, no-such, no-client-fits}
-use Rattle.in_place.specs.Acts.{returned, no-search, outside-alone, turned, acts}
+use Rattle.in_place.specs.Acts.{returned, no-search, outside, acts}
 use Rattle.in_place.proofs.act.Statement.{statement}
 use Rattle.in_place.proofs.act.Tie as tie
 
@@ -170,17 +170,8 @@ returns-5 c =
     let s = called (read (past-fit (searched i)) .before) in
     let a = start s .args in
     returned (c .away5 .ensures)
-    (outside-alone (p s) (a .store-pages) (a .call) (numbers s) (fit (searched i)) (search-fit i)
-    (sym (i .inside .ensures) ∙ not-true _ (t .before .before .if5 .taken)) (t .turned-by .ensures .0 (p s) (calls i)) (c .before .if6 .taken))
-
-returns-6 : tie.Need-returns-6
-returns-6 c =
-    let t = c .before .before in
-    let i = t .before .before .before in
-    let s = called (read (past-fit (searched i)) .before) in
-    let a = start s .args in
-    returned (c .away6 .ensures)
-    (turned (p s) (a .store-pages) (a .call) (numbers s) (fit (searched i)) (search-fit i) (t .turned-by .ensures .0 (p s) (calls i)) (c .before .if6 .left))
+    (outside (p s) (a .store-pages) (a .call) (numbers s) (fit (searched i)) (search-fit i)
+    (sym (i .inside .ensures) ∙ not-true _ (t .before .before .if5 .taken)) (t .turned-by .ensures .0 (p s) (calls i)) (c .before .outside .ensures))
 
 -- ---- what the calls ask
 
@@ -236,8 +227,8 @@ module _ (c : tie.After-decide) where
       let a = from .args in
       c .decide .ensures (a-client c .before .caller .result) (now (a .last)) (clientsFrom (now (a .client-bytes)) (now (a .client-words))) turns
 
-returns-7 : tie.Need-returns-7
-returns-7 c =
+returns-6 : tie.Need-returns-6
+returns-6 c =
     let w = stored (c .before) in
     let d = decided (w .before) in
     let r = w .before .before .before .before .before .before .before .before .before .before .before .before in
@@ -263,6 +254,6 @@ act-spec =
     (λ c κs. search needs) (λ c κs. search needs) returns (λ c κs. search needs) (λ c κs. search needs) returns-2 (λ c. search needs) (λ c κs. search needs)
     (λ c κs. small (c .before .before .before .before .before))
     (λ c κs. let r = in-range (called (c .before)) in (r .slots, r .clients)) (λ c κs. frames-few (c .before)) (λ c κs. search needs) (λ c κs. search needs)
-    returns-3 search-requires (λ c κs. search needs) returns-4 (λ c κs. search needs) turned-by-requires (λ c κs. search needs) returns-5 (λ c κs. search needs)
-    returns-6 decide-requires (λ c κs. frames-few (past-fit (searched (inside (c .before .before))) .before .before .before)) put-requires
-    (λ c κs. small (a-client (decided (stored c .before)))) returns-7)
+    returns-3 search-requires (λ c κs. search needs) returns-4 (λ c κs. search needs) turned-by-requires (λ c κs. search needs) (λ c κs. search needs) returns-5
+    decide-requires (λ c κs. frames-few (past-fit (searched (inside (c .before .before))) .before .before .before)) put-requires
+    (λ c κs. small (a-client (decided (stored c .before)))) returns-6)

@@ -88,13 +88,15 @@ pub enum Refusal {
     OutsideStore,
     /// 17: a page has 64 bytes, at the offsets 0 to 63.
     OutsidePage,
+    /// 18: the client holds this page already. It can use it as it is, and releases it once.
+    HeldAlready,
     /// An answer with a code that this crate does not know. The proved library has no such answer.
     Other(u32),
 }
 
 impl Refusal {
     /// In the order of their numbers, from 8 on.
-    const KNOWN: [Refusal; 10] = [
+    const KNOWN: [Refusal; 11] = [
         Refusal::OutOfRange,
         Refusal::NoSuchClient,
         Refusal::AtWork,
@@ -105,6 +107,7 @@ impl Refusal {
         Refusal::AllBusy,
         Refusal::OutsideStore,
         Refusal::OutsidePage,
+        Refusal::HeldAlready,
     ];
 
     pub(crate) fn of(code: u32) -> Refusal {
@@ -124,7 +127,7 @@ impl Refusal {
         }
     }
 
-    /// The refusal's number, 8 to 17: as `docs/SPECIFICATION.md` and `docs/SERVER.md` list them.
+    /// The refusal's number, 8 to 18: as `docs/SPECIFICATION.md` and `docs/SERVER.md` list them.
     ///
     /// ```
     /// assert_eq!(foqheran::Refusal::AllBusy.number(), 15);
@@ -147,6 +150,7 @@ impl fmt::Display for Refusal {
             Refusal::AllBusy => "its sweep met only busy slots",
             Refusal::OutsideStore => "the page is outside the store",
             Refusal::OutsidePage => "the offset is 64 or more",
+            Refusal::HeldAlready => "the client holds this page already",
             Refusal::Other(code) => return write!(f, "an answer with the unknown code {code}"),
         };
         write!(f, "refused by {}: {why}", self.number())
@@ -261,6 +265,6 @@ impl fmt::Display for Tally {
 pub struct Row {
     /// The page.
     pub page: u32,
-    /// How many grants of it the client has, 1 to 8: so many releases give it back.
+    /// How many grants of it the client has: always 1.
     pub times: u32,
 }

@@ -168,14 +168,17 @@ impl Pool {
     /// The client, so far at rest, wants a page. [`step`](Pool::step) does the rest.
     ///
     /// # Errors
-    /// [`NoSuchClient`](Refusal::NoSuchClient), [`AtWork`](Refusal::AtWork), [`HasEight`](Refusal::HasEight), and
-    /// with a store [`OutsideStore`](Refusal::OutsideStore). Nothing has changed then.
+    /// [`NoSuchClient`](Refusal::NoSuchClient), [`AtWork`](Refusal::AtWork), [`HasEight`](Refusal::HasEight), with a
+    /// store [`OutsideStore`](Refusal::OutsideStore), and [`HeldAlready`](Refusal::HeldAlready). Nothing has changed
+    /// then.
     ///
     /// ```
     /// use foqheran::{Pool, Refusal};
-    /// let mut pool = Pool::new(1, 1, 3, 0)?;
-    /// pool.begin(0, 9)?;
-    /// assert_eq!(pool.begin(0, 5), Err(Refusal::AtWork));
+    /// let mut pool = Pool::new(1, 2, 3, 0)?;
+    /// pool.request(0, 9)?;
+    /// assert_eq!(pool.begin(0, 9), Err(Refusal::HeldAlready));
+    /// pool.begin(1, 9)?; // another client may
+    /// assert_eq!(pool.begin(1, 5), Err(Refusal::AtWork));
     /// # Ok::<(), Refusal>(())
     /// ```
     #[inline]
@@ -262,7 +265,7 @@ impl Pool {
         }
     }
 
-    /// Of the client's grants of a page one ends. A page that was granted twice is released twice.
+    /// The client's grant of a page ends.
     ///
     /// # Errors
     /// [`NoSuchClient`](Refusal::NoSuchClient), [`AtWork`](Refusal::AtWork) and [`NotHeld`](Refusal::NotHeld). Nothing
@@ -341,7 +344,7 @@ impl Pool {
         answers::done(self.parts.write(client, page, offset, byte, &self.store)).map(drop)
     }
 
-    /// The pages that a client holds, at rest or at work, by rising page number.
+    /// The pages that a client holds, at rest or at work, by rising page number: a row for each grant.
     ///
     /// # Errors
     /// [`NoSuchClient`](Refusal::NoSuchClient).
@@ -349,10 +352,10 @@ impl Pool {
     /// ```
     /// use foqheran::{Pool, Row};
     /// let mut pool = Pool::new(2, 1, 3, 0)?;
-    /// for page in [9, 5, 9] {
+    /// for page in [9, 5] {
     ///     pool.request(0, page)?;
     /// }
-    /// assert_eq!(pool.holdings(0)?, [Row { page: 5, times: 1 }, Row { page: 9, times: 2 }]);
+    /// assert_eq!(pool.holdings(0)?, [Row { page: 5, times: 1 }, Row { page: 9, times: 1 }]);
     /// # Ok::<(), foqheran::Refusal>(())
     /// ```
     pub fn holdings(&self, client: u8) -> Result<Vec<Row>, Refusal> {
@@ -414,9 +417,7 @@ impl Pool {
         for client in 0..self.clients() {
             while matches!(self.step(client), Ok(Step { answer: Answer::Working(_), .. })) {}
             for row in self.holdings(client).unwrap_or_default() {
-                for _ in 0..row.times {
-                    let _ = self.release(client, row.page);
-                }
+                let _ = self.release(client, row.page);
             }
         }
         let mut bytes = Vec::with_capacity(self.store.len());

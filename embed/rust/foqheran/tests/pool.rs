@@ -20,18 +20,20 @@ fn a_pool_is_a_few_words() {
 
 #[test]
 fn refusals_have_their_numbers() {
-    let mut pool = Pool::with_store(2, 1, 3, 0, vec![0; 128]).unwrap();
+    let mut pool = Pool::with_store(8, 1, 3, 0, vec![0; 9 * 64]).unwrap();
     assert_eq!(pool.begin(1, 0), Err(Refusal::NoSuchClient));
     assert_eq!(pool.step(0), Err(Refusal::AtRest));
-    assert_eq!(pool.begin(0, 2), Err(Refusal::OutsideStore));
+    assert_eq!(pool.begin(0, 9), Err(Refusal::OutsideStore));
     assert_eq!(pool.write(0, 1, 0, 1), Err(Refusal::NotHeld));
-    for _ in 0..8 {
-        pool.request(0, 1).unwrap();
+    for page in 0..8 {
+        pool.request(0, page).unwrap();
+        assert_eq!(pool.begin(0, 0), Err(if page < 7 { Refusal::HeldAlready } else { Refusal::HasEight }));
     }
-    assert_eq!(pool.request(0, 1), Err(Refusal::HasEight));
+    assert_eq!(pool.request(0, 8), Err(Refusal::HasEight));
     assert_eq!(pool.read(0, 1, 64), Err(Refusal::OutsidePage));
     assert_eq!(pool.holdings_into(0, &mut []), Err(Refusal::FewRows));
     assert_eq!(Refusal::AtRest.to_string(), "refused by 11: the client is at rest");
+    assert_eq!(Refusal::HeldAlready.to_string(), "refused by 18: the client holds this page already");
     assert_eq!(Refusal::Other(7).to_string(), "an answer with the unknown code 7");
 }
 
@@ -78,7 +80,6 @@ fn the_store_comes_back_whole() {
         pool.release(0, page).unwrap();
     }
     // clients that hold pages or are at work do not matter
-    pool.request(1, 4).unwrap();
     pool.request(1, 4).unwrap();
     pool.begin(2, 3).unwrap();
     pool.step(2).unwrap();
