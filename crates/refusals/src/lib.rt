@@ -29,8 +29,8 @@ fn refusal_at(call: Call, client: Client, grant_pages: &[u32; GRANTS]) -> u8
             if client.held >= MAX_HELD {
                 return 12;
             }
-            let i = reads::grant_of(grant_pages, c as usize, client.held, page);
-            if i == NONE { 0 } else { 18 }
+            let held = reads::grant_of(grant_pages, c as usize, client.held, page);
+            if held == NONE { 0 } else { 18 }
         }
         Call::Release(c, page) => {
             if stage != 0 {

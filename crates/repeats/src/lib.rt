@@ -76,8 +76,8 @@ fn grant_ok<'a>(
     if mark == 0 {
         return true;
     }
-    let first = reads::grant_of(pages, c, held, pages[HELD * c + i]);
-    first as usize == i
+    let place = reads::grant_of(pages, c, held, pages[HELD * c + i]);
+    place as usize == i
 }
 
 // SPECIFICATION 5.7. Marks as for the table; a power of two serves, for a search among 8 grants is short.
