@@ -1,12 +1,10 @@
 -- By which refusals (SPECIFICATION, section 6) each call of a pool that has bytes can be refused. Assumes nothing.
 use mathlib.Core.Path.{_≡_, refl, sym, subst}
-use mathlib.Core.Bool.{Bool}
 use mathlib.Core.List.{List, []}
 use Prim.Native.Nat.{ℕ}
 use Rattle.pool.specs.Answers.{refusalOf}
 use Rattle.pool.specs.State.{client}
-use Rattle.pool.specs.Calls.{refusalAt, refusal, releaseMove, moveOf, callOf}
-use Rattle.pool.specs.declared.Call.{Call}
+use Rattle.pool.specs.Calls.{refusalAt, refusal, releaseMove, moveOf}
 use Rattle.pool.specs.declared.Call.the-variants.{Begin, Step, Release}
 use Rattle.pool.specs.declared.Client.{Client}
 use Rattle.pool.specs.declared.Move.{Move}

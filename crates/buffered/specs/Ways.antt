@@ -1,24 +1,21 @@
 -- A call of a pool that has bytes, by what the code has tested. Assumes nothing.
 use mathlib.Core.Path.{_≡_, refl, sym, ap, _∙_}
 use mathlib.Core.Logic.{_≢_}
-use mathlib.Core.Bool.{Bool, true, false, true≢false}
+use mathlib.Core.Bool.{Bool, true, false}
 use mathlib.Core.List.{List}
 use native.Mathlib.Decide.{ℕ-discrete}
-use Prim.Native.Nat.{ℕ, _*_, _/_}
+use Prim.Native.Nat.{ℕ, _/_}
 use native.Mathlib.Omega.{arith}
-use lib.Dec.{eqb}
 use lib.ListN.{length}
 use borrow.Author.Tests.{eq-eqb, ne-eqb}
 use Rattle.pool.specs.Choose.{choose, both, either}
 use Rattle.pool.specs.Valid.{numbersOk, valid}
-use Rattle.pool.specs.Calls.{fresh, noPool, turnedDown, turnedBy, refusal, releaseMove, moveOf, callOf}
+use Rattle.pool.specs.Calls.{fresh, noPool, turnedBy, refusal, releaseMove, moveOf}
 use Rattle.pool.specs.declared.Call.{Call}
 use Rattle.pool.specs.declared.Call.the-variants.{Begin, Release}
 use Rattle.pool.specs.declared.Move.{Move}
-use Rattle.pool.specs.declared.Outcome.{Outcome}
 use Rattle.pool.specs.declared.Pool.{Pool}
 use Rattle.pool.specs.declared.Write.{Write}
-use Rattle.pool.specs.declared.Write.the-variants.{Keep}
 use Rattle.laws.specs.Choices.{by-test, chosen, passed}
 use Rattle.laws.specs.Scans.{both-true, both-yes}
 use Rattle.play.specs.Calls.{turned-down-by}
@@ -30,7 +27,7 @@ use Rattle.memory.specs.declared.Memory.{Memory}
 use Rattle.memory.specs.declared.Reply.{Reply}
 use Rattle.memory.specs.Memory.{pageBytes, blank, memoryAfter, storeAfter}
 use Rattle.memory.specs.Orders.{first-some, order-some, order-alone, order-none}
-use Rattle.memory.specs.Requests.{Request, Asks, ReadByte, WriteByte, State, Result, turnedBack, bytesOk, storeOk, inOrder, outsideAt, byteRefusal}
+use Rattle.memory.specs.Requests.{Request, Asks, ReadByte, WriteByte, State, turnedBack, bytesOk, storeOk, inOrder, outsideAt}
 use Rattle.memory.specs.Requests.{lengthOk, setupOn, inside, lent, turnedAwayBy, refusalOn, refused, writeOf, actionOn, callOn, stateOf, reply}
 
 -- what a call returns that is turned down

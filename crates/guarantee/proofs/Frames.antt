@@ -1,8 +1,8 @@
 -- What the invariant says of a page's frame, of a held frame and of a client's found frame, as the theorems use it: a page has one frame, as it has
 -- one entry; a held frame is a grant's, so pinned; a found frame is its page's where it is pinned for the client. Assumes nothing.
-use mathlib.Core.Path.{_≡_, refl, sym, _∙_}
+use mathlib.Core.Path.{_≡_, sym, _∙_}
 use mathlib.Core.Logic.{_≢_}
-use mathlib.Core.Bool.{Bool, true, false, _||_, true≢false}
+use mathlib.Core.Bool.{true}
 use Prim.Native.Nat.{ℕ, suc, _≤_, _<_}
 use lib.Dec.{eqb}
 use borrow.Author.Tests.{eqb-true}
@@ -10,9 +10,8 @@ use Rattle.pool.specs.State.{none, pinned, clientCount, pins, client, grantFram
 use Rattle.pool.specs.Grants.{holds, held}
 use Rattle.pool.specs.declared.Pool.{Pool}
 use Rattle.pool.specs.declared.Client.{Client}
-use Rattle.invariant.proofs.Reached.{Reached, mapped, pinsFound, Knows, FoundMapped}
+use Rattle.invariant.proofs.Reached.{Reached, mapped, pinsFound}
 use Rattle.laws.specs.Scans.{some-true}
-use Rattle.invariant.proofs.NeverFails.{know}
 use Rattle.invariant.proofs.Facts.{grant-pinned, found-pinned, found-mapped}
 use Rattle.invariant.proofs.Table.{mapped-lookup}
 use Rattle.guarantee.specs.Claims.{HeldPinned}

@@ -19,7 +19,7 @@ use Rattle.pool.specs.declared.Move.{Move}
 use Rattle.pool.specs.declared.Outcome.{Outcome}
 use Rattle.pool.specs.declared.Call.{Call}
 use Rattle.pool.specs.declared.Call.the-variants.{Begin, Step, Release}
-use Rattle.pool.specs.declared.Answer.the-variants.{Working, Granted}
+use Rattle.pool.specs.declared.Answer.the-variants.{Granted}
 use Rattle.pool.specs.declared.GrantChange.the-variants.{Same, Open, End}
 use Rattle.laws.specs.Choices.{by-test}
 use Rattle.invariant.proofs.Reached.{Reached, grantsOf}

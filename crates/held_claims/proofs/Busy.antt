@@ -2,12 +2,11 @@
 -- nothing else. Assumes nothing.
 use mathlib.Core.Path.{_≡_, refl, ap, _∙_}
 use mathlib.Core.Logic.{_≢_, inl, inr}
-use Prim.Native.Nat.{ℕ, _<_}
-use native.Mathlib.Omega.{arith}
+use Prim.Native.Nat.{ℕ}
 use Rattle.pool.specs.State.{resting, client}
 use Rattle.pool.specs.Answers.{refusalOf}
 use Rattle.pool.specs.Apply.{apply}
-use Rattle.pool.specs.Calls.{caller, turnedBy}
+use Rattle.pool.specs.Calls.{caller}
 use Rattle.pool.specs.declared.Answer.the-variants.{Refused}
 use Rattle.pool.specs.declared.Call.{Call}
 use Rattle.pool.specs.declared.Call.the-variants.{Begin, Step, Release}

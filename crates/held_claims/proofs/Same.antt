@@ -8,16 +8,15 @@ use native.Mathlib.Omega.{arith}
 use native.Mathlib.Decide.{ℕ-discrete, decLt}
 use lib.Dec.{eqb}
 use lib.ListN.{length}
-use borrow.Author.Tests.{eq-eqb, ne-eqb, eqb-true, eqb-false, lt-ltb, le-leb, le-ltb, ltb-true}
-use Rattle.pool.specs.Limits.{maxHeld, maxClients}
-use Rattle.pool.specs.Choose.{choose, both, either, every}
+use borrow.Author.Tests.{eq-eqb, ne-eqb, lt-ltb, le-leb, le-ltb}
+use Rattle.pool.specs.Limits.{maxHeld}
+use Rattle.pool.specs.Choose.{choose, both, either}
 use Rattle.pool.specs.State.{clientCount, resting, pins, client}
-use Rattle.pool.specs.Answers.{refusalOf}
 use Rattle.pool.specs.Valid.{valid}
-use Rattle.pool.specs.Calls.{caller, turnedDown, turnedBy, refusal, moveOf, finished, callOf}
+use Rattle.pool.specs.Calls.{caller, turnedBy, refusal, moveOf, finished, callOf}
 use Rattle.pool.specs.declared.Answer.the-variants.{Refused}
 use Rattle.pool.specs.declared.Call.{Call}
-use Rattle.pool.specs.declared.Call.the-variants.{Begin, Step, Release}
+use Rattle.pool.specs.declared.Call.the-variants.{Release}
 use Rattle.pool.specs.declared.Client.{Client}
 use Rattle.pool.specs.declared.Move.{Move}
 use Rattle.pool.specs.declared.Outcome.{Outcome}

@@ -1,13 +1,12 @@
 -- What a call in place comes to, by what its code has tested. Assumes nothing.
 use mathlib.Core.Path.{_≡_, refl, sym, ap, subst, _∙_}
-use mathlib.Core.Logic.{_≢_, _⊎_, inl, inr}
+use mathlib.Core.Logic.{_≢_}
 use mathlib.Core.Bool.{Bool, true, false, not, true≢false}
 use mathlib.Core.List.{List}
 use Prim.Native.Nat.{ℕ, _+_, _*_, _<_, _≤_}
 use native.Mathlib.Decide.{ℕ-discrete}
 use native.Mathlib.Omega.{arith}
 use lib.Dec.{eqb, leb}
-use lib.ListN.{getD}
 use borrow.Author.Tests.{eq-eqb, ne-eqb, le-ltb, lt-ltb, le-leb, leb-true, ltb-true}
 use Rattle.pool.specs.Limits.{maxSize, maxClients, maxHeld, maxPins}
 use Rattle.pool.specs.Choose.{choose, both, either, every}
@@ -15,7 +14,7 @@ use Rattle.pool.specs.State.{none, evicted, pinned, clientCount, total, resting
 use Rattle.pool.specs.Frames.{freeFrame}
 use Rattle.pool.specs.Valid.{numbersOk}
 use Rattle.pool.specs.Apply.{apply}
-use Rattle.pool.specs.Calls.{caller, turnedBy, moveOf}
+use Rattle.pool.specs.Calls.{caller, turnedBy}
 use Rattle.pool.specs.Moves.{still}
 use Rattle.pool.specs.declared.Answer.the-variants.{Refused}
 use Rattle.pool.specs.declared.Call.{Call}
@@ -37,7 +36,7 @@ use Rattle.play.specs.Turn.{turn, its-number, moves, stays}
 use Rattle.play.specs.Calls.{unchanged}
 use Rattle.play.specs.Playable.{Decidable}
 use Rattle.client_arrays.specs.Arrays.{clientsFrom}
-use Rattle.in_place.specs.Held.{clientFits, searchFits, fits, Held, heldRefusal, heldOf, turnedAway, acted}
+use Rattle.in_place.specs.Held.{clientFits, searchFits, fits, heldRefusal, heldOf, turnedAway, acted}
 use Rattle.in_place.specs.declared.Acted.{Acted}
 use Rattle.in_place.specs.declared.Found.{Found}
 

@@ -5,22 +5,19 @@ use mathlib.Core.Logic.{_≢_}
 use mathlib.Core.List.{List, [], _∷_}
 use Prim.Native.Nat.{ℕ, _<_}
 use native.Mathlib.Decide.{ℕ-discrete}
-use lib.Dec.{ltb}
 use borrow.Author.Tests.{eq-eqb, ne-eqb}
-use Rattle.pool.specs.Choose.{choose}
 use Rattle.pool.specs.Answers.{refusalOf}
-use Rattle.pool.specs.State.{clientCount, client}
+use Rattle.pool.specs.State.{clientCount}
 use Rattle.pool.specs.Apply.{apply}
-use Rattle.pool.specs.Calls.{turnedDown, SetUp, caller, refusalAt, refusal, moveOf, finished, callOf, poolAfter}
+use Rattle.pool.specs.Calls.{turnedDown, SetUp, caller, refusal, moveOf, finished, callOf, poolAfter}
 use Rattle.pool.specs.declared.Pool.{Pool}
 use Rattle.pool.specs.declared.Call.{Call}
 use Rattle.pool.specs.declared.Move.{Move}
 use Rattle.pool.specs.declared.Outcome.{Outcome}
-use Rattle.laws.specs.Choices.{by-test, chosen, passed}
+use Rattle.laws.specs.Choices.{chosen, passed}
 use Rattle.laws.specs.Scans.{both-yes}
 use Rattle.invariant.proofs.Reached.{Reached}
 use Rattle.invariant.proofs.After.{shape-next}
-use Rattle.invariant.proofs.StageTests.{differ}
 use Rattle.invariant.proofs.Allowed.{turned-by}
 use Rattle.invariant.proofs.Edges.{Edge}
 use Rattle.invariant.proofs.Steps.{call-edge}

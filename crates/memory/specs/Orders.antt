@@ -5,7 +5,6 @@ use native.Mathlib.Decide.{ℕ-discrete}
 use native.Mathlib.Omega.{arith}
 use Prim.Native.Nat.{ℕ}
 use borrow.Author.Tests.{eq-eqb, ne-eqb, eqb-true, eqb-false}
-use Rattle.pool.specs.Choose.{choose}
 use Rattle.laws.specs.Choices.{by-test, chosen, passed}
 use Rattle.memory.specs.Requests.{firstOf, inOrder}
 

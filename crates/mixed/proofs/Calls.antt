@@ -5,10 +5,9 @@ use mathlib.Core.Logic.{_≢_, _⊎_, inl, inr}
 use mathlib.Core.Bool.{false}
 use mathlib.Core.List.{List}
 use Prim.Native.Nat.{ℕ}
-use native.Mathlib.Decide.{ℕ-discrete}
 use lib.Dec.{T}
 use lib.ListN.{length}
-use borrow.Author.Tests.{eqb-true, eqb-false, eq-eqb, ne-eqb}
+use borrow.Author.Tests.{eqb-true, eqb-false}
 use Rattle.pool.specs.Choose.{member}
 use Rattle.pool.specs.State.{entryFrame}
 use Rattle.pool.specs.Calls.{caller, refusalAt, refusal, callOf}
@@ -18,7 +17,7 @@ use Rattle.pool.specs.declared.Call.the-variants.{Begin, Step, Release}
 use Rattle.pool.specs.declared.Counted.the-variants.{Nothing}
 use Rattle.pool.specs.declared.Write.{Write}
 use Rattle.pool.specs.declared.Write.the-variants.{Keep, PutSlot, PutPins, PutCount, TakeFrame, PutEntry, PutHand, PutFree}
-use Rattle.laws.specs.Choices.{by-test, chosen, passed}
+use Rattle.laws.specs.Choices.{by-test}
 use Rattle.invariant.proofs.StageTests.{differ}
 use Rattle.invariant.proofs.Calls.{call-turned-down}
 use Rattle.memory.specs.Memory.{pageBytes, start, unmarked, moved, memoryAfter, writtenBack, storeAfter, filledFrom, written}

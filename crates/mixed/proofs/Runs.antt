@@ -1,7 +1,6 @@
 -- The claims of a list from a state that is kept and whose pool was set up: each is that of the calls in the list (`Lists`), brought over
 -- (`Transported`), or holds of every kept state. Assumes nothing.
 use mathlib.Core.Path.{_≡_, sym, ap, subst, _∙_}
-use mathlib.Core.Logic.{_≢_}
 use mathlib.Core.Bool.{true, true≢false}
 use mathlib.Core.List.{List, [], _∷_}
 use Prim.Native.Nat.{ℕ, zero, suc, _+_, _<_}
@@ -18,9 +17,8 @@ use Rattle.pool.specs.declared.Call.the-variants.{Begin, Step}
 use Rattle.pool.specs.declared.Answer.the-variants.{Done}
 use Rattle.pool.specs.declared.Outcome.{Outcome}
 use Rattle.laws.specs.Choices.{chosen}
-use Rattle.invariant.proofs.Reached.{Reached}
 use Rattle.invariant.proofs.Valid.{valid-reached}
-use Rattle.guarantee.specs.Runs.{Event, events, At, along, Throughout, GrantedTo}
+use Rattle.guarantee.specs.Runs.{Event, events, At, along, GrantedTo}
 use Rattle.guarantee.specs.BusySweep.{BusySweep}
 use Rattle.guarantee.specs.Claims.{OneEach, OneCopy, HeldPinned, FewPins, tallyOf, CountsPages, AddsUp, GrantedWithin, WithinLimits}
 use Rattle.guarantee.proofs.TurnedDown.{same-answer, same-pool, other-answer, other-call}

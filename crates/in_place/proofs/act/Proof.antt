@@ -3,29 +3,26 @@
 use borrow.Author.Needs.{needs}
 use borrow.Author.Tests.{not-true, not-false}
 use native.Mathlib.Omega.{arith}
-use mathlib.Core.Path.{_≡_, refl, sym, ap, subst, _∙_}
-use mathlib.Core.Bool.{Bool, true, false}
-use mathlib.Core.List.{List}
+use mathlib.Core.Path.{_≡_, refl, sym, ap, _∙_}
+use mathlib.Core.Bool.{true}
 use Prim.Native.Nat.{ℕ, _<_, _≤_}
 use denote.Ref.{now}
-use Rattle.pool.specs.Limits.{maxClients, maxHeld, maxFrames}
+use Rattle.pool.specs.Limits.{maxClients, maxFrames}
 use Rattle.pool.specs.State.{clientCount, total, pins, client}
 use Rattle.pool.specs.Valid.{numbersOk}
 use Rattle.pool.specs.Apply.{apply}
-use Rattle.pool.specs.Calls.{caller, turnedBy}
-use Rattle.pool.specs.declared.Client.{Client}
-use Rattle.pool.specs.declared.Move.{Move}
+use Rattle.pool.specs.Calls.{caller}
 use Rattle.pool.specs.declared.Pool.{Pool}
 use Rattle.laws.specs.Elements.{client-of-pool}
 use Rattle.ranges.specs.Ranges.{Numbers, numbers-in}
 use Rattle.frame_search.specs.Search.{searched-in}
 use Rattle.refusals.specs.Caller.{Caller}
-use Rattle.effects.specs.Parts.{replacedIn, replacedOf}
+use Rattle.effects.specs.Parts.{replacedIn}
 use Rattle.play.specs.Turn.{turn, Turns, its-number}
 use Rattle.play.specs.Parts.{same-clients}
 use Rattle.client_arrays.specs.Arrays.{clientFrom, clientsFrom, client-from, put-as}
 use Rattle.in_place.specs.Held.{poolFrom, clientFits, searchFits}
-use Rattle.in_place.specs.Acts.{client-read, search-read, few-held, decidable, insideOf, actedAway, ActsTo, no-numbers, no-such, no-client-fits}
+use Rattle.in_place.specs.Acts.{client-read, search-read, few-held, decidable, no-numbers, no-such, no-client-fits}
 use Rattle.in_place.specs.Acts.{returned, no-search, outside, acts}
 use Rattle.in_place.proofs.act.Statement.{statement}
 use Rattle.in_place.proofs.act.Tie as tie
