@@ -211,7 +211,8 @@ struct foqheran_tally {
     uint32_t counts[FOQHERAN_COUNTS];
 };
 
-// A row of a holdings list: a page, and how many grants of it the client has, which is always 1.
+// A row of a holdings list: a page that the client holds, and 1: it has one grant of it. (On memory that the check
+// below refuses it may have more, and the row still says 1.)
 struct foqheran_row {
     uint32_t page;
     uint32_t times;
@@ -343,7 +344,8 @@ static inline size_t foqheran_frames(const struct foqheran_pool *pool)
     return FOQHERAN_FRAMES((size_t)pool->size, (size_t)pool->client_count);
 }
 
-// The client, so far at rest, wants a page. Done with the page, or refused by 8, 9, 10, 12, 16 or 18. Steps do the rest.
+// The client, so far at rest, wants a page. Steps do the rest. Done with the page, or refused by 8, 9, 10, 12, 16 or
+// 18.
 static inline foqheran_answer foqheran_begin(struct foqheran_pool *pool, uint8_t client, uint32_t page)
 {
     return foqheran_parts_begin(client, page, pool->store_pages, FOQHERAN_LEND(pool));

@@ -142,6 +142,29 @@ static void eight_grants(void)
     MUST(rows[7].page == 7 && rows[7].times == 1);
 }
 
+// Memory from elsewhere, where a client holds pages 1 and 2, and then page 1 twice: the check refuses it. What the calls
+// do with it is SPECIFICATION 14.10.
+static void held_twice(void)
+{
+    struct foqheran_row rows[2] = {{77, 77}, {77, 77}};
+    MUST(foqheran_is_done(foqheran_setup(&pool, 2, 1, 1, 0, store, sizeof store)));
+    for (uint32_t page = 1; page <= 2; page++) {
+        MUST(foqheran_is_granted(foqheran_request(&pool, 0, page, NULL, store, sizeof store)));
+    }
+    MUST(foqheran_is_done(foqheran_check(&pool, store, sizeof store)));
+    pool.grant_pages[1] = 1;
+    MUST(refusal(foqheran_check(&pool, store, sizeof store)) == FOQHERAN_OUT_OF_RANGE);
+    MUST(refusal(foqheran_begin(&pool, 0, 1)) == FOQHERAN_HELD_ALREADY);
+    MUST(foqheran_value(foqheran_holdings(&pool, 0, rows, 1)) == 1 && rows[0].page == 1 && rows[0].times == 1);
+    MUST(foqheran_is_done(foqheran_release(&pool, 0, 1)) && pool.grant_frames[0] == 1);
+    MUST(foqheran_is_done(foqheran_release(&pool, 0, 1)));
+    MUST(refusal(foqheran_release(&pool, 0, 1)) == FOQHERAN_NOT_HELD);
+    // a grant of a page outside the store: 16 comes before 18
+    MUST(foqheran_is_granted(foqheran_request(&pool, 0, 1, NULL, store, sizeof store)));
+    pool.grant_pages[0] = 4;
+    MUST(refusal(foqheran_begin(&pool, 0, 4)) == FOQHERAN_OUTSIDE_STORE);
+}
+
 // What the header begins with.
 static void example(void)
 {
@@ -166,6 +189,7 @@ int main(void)
     requests();
     snapshots();
     eight_grants();
+    held_twice();
     example();
     return 0;
 }

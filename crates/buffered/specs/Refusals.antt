@@ -9,6 +9,7 @@ use Rattle.pool.specs.declared.Call.the-variants.{Begin, Step, Release}
 use Rattle.pool.specs.declared.Client.{Client}
 use Rattle.pool.specs.declared.Move.{Move}
 use Rattle.pool.specs.declared.Pool.{Pool}
+use Rattle.laws.specs.Checks.{at-begin, at-step, at-release}
 use Rattle.laws.specs.StageAnswers.{stage-answer}
 use Rattle.answers.specs.Among.{Among}
 use Rattle.answers.specs.Refusals.{bySetup, byBeginOn, byByte, byStep, byRelease}
@@ -35,27 +36,26 @@ module _ (x : State) where
 
   module _ (c g : ℕ) where
     pub begin-refusals : Among byBeginOn (refusalOf (callOn x (Asks (Begin c g)) .answer))
-    unfolding turnedAwayBy outsideAt actionOn refusalAt moveOf refusalOf
+    unfolding turnedAwayBy outsideAt actionOn moveOf refusalOf
     begin-refusals =
-        let turned : ((k : Client) → Among byBeginOn (refusalAt p k (Begin c g))) =
-        λ k. pick (Among byBeginOn) _ (pick (Among byBeginOn) _ (pick (Among byBeginOn) _ refl refl) refl) refl in
+        let turned : ((k : Client) → Among byBeginOn (refusalAt p k (Begin c g))) = λ k. at-begin (Among byBeginOn) p k c g refl refl refl refl in
         whole byBeginOn x (Asks (Begin c g)) refl
         (order-either _ _ (Among byBeginOn) (turned-refusals byBeginOn p (Begin c g) refl refl turned) (pick (Among byBeginOn) _ refl refl))
         (call-refusals byBeginOn p (Begin c g) refl refl turned refl)
 
     pub release-refusals : Among byRelease (refusalOf (callOn x (Asks (Release c g)) .answer))
-    unfolding turnedAwayBy outsideAt actionOn refusalAt moveOf releaseMove refusalOf
+    unfolding turnedAwayBy outsideAt actionOn moveOf releaseMove refusalOf
     release-refusals =
-        let turned : ((k : Client) → Among byRelease (refusalAt p k (Release c g))) = λ k. pick (Among byRelease) _ (pick (Among byRelease) _ refl refl) refl in
+        let turned : ((k : Client) → Among byRelease (refusalAt p k (Release c g))) = λ k. at-release (Among byRelease) p k c g refl refl refl in
         whole byRelease x (Asks (Release c g)) refl
         (order-either _ _ (Among byRelease) (turned-refusals byRelease p (Release c g) refl refl turned) refl)
         (call-refusals byRelease p (Release c g) refl refl turned (pick (λ (m : Move). Among byRelease (refusalOf (m .answer))) _ refl refl))
 
     -- what turns a read or write down
     byte-turned : (o : ℕ) → Among byByte (firstOf (refusal p (Release c g)) (byteRefusal (x .memory .pages) g o))
-    unfolding refusalAt byteRefusal
+    unfolding byteRefusal
     byte-turned o =
-        first-either _ _ (Among byByte) (turned-refusals byByte p (Release c g) refl refl (λ k. pick (Among byByte) _ (pick (Among byByte) _ refl refl) refl))
+        first-either _ _ (Among byByte) (turned-refusals byByte p (Release c g) refl refl (λ k. at-release (Among byByte) p k c g refl refl refl))
         (pick (Among byByte) _ (pick (Among byByte) _ refl refl) refl)
 
     pub read-refusals : (o : ℕ) → Among byByte (refusalOf (callOn x (ReadByte c g o) .answer))
@@ -67,9 +67,9 @@ module _ (x : State) where
     write-refusals o v = whole byByte x (WriteByte c g o v) refl (byte-turned o) refl
 
   pub step-refusals : (c : ℕ) → Among byStep (refusalOf (callOn x (Asks (Step c)) .answer))
-  unfolding turnedAwayBy outsideAt actionOn refusalAt moveOf
+  unfolding turnedAwayBy outsideAt actionOn moveOf
   step-refusals c =
-      let turned : ((k : Client) → Among byStep (refusalAt p k (Step c))) = λ k. pick (Among byStep) _ refl refl in
+      let turned : ((k : Client) → Among byStep (refusalAt p k (Step c))) = λ k. at-step (Among byStep) p k c refl refl in
       whole byStep x (Asks (Step c)) refl (order-either _ _ (Among byStep) (turned-refusals byStep p (Step c) refl refl turned) refl)
       (call-refusals byStep p (Step c) refl refl turned (of-answer (stage-answer p (client p c))))
 

@@ -51,7 +51,7 @@ fn turned_by<'a>(
     filling::outside(pages, page, offset)
 }
 
-// The frame of the client's first grant of a page.
+// The frame of the client's grant of a page.
 fn held_frame(pool: Pool, client: u8, page: u32) -> u8
     requires { ⌜ (valid pool ≡ true) × (client < clientCount pool) ⌝ }
     ensures { λ r. ⌜ r ≡ heldFrame pool client page ⌝ }

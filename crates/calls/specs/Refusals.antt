@@ -8,6 +8,7 @@ use Rattle.pool.specs.Answers.{refusalOf}
 use Rattle.pool.specs.State.{client}
 use Rattle.pool.specs.Calls.{setupOf, refusalAt, refusal, releaseMove, moveOf, finished, callOf}
 use Rattle.laws.specs.Choices.{by-test}
+use Rattle.laws.specs.Checks.{by-turn, by-check, at-begin, at-step, at-release}
 use Rattle.laws.specs.StageAnswers.{StageAnswer, goes, grants, refuses, sticks, stage-answer}
 use Rattle.answers.specs.Among.{Among}
 use Rattle.answers.specs.Refusals.{bySetup, byBegin, byStep, byRelease}
@@ -37,8 +38,7 @@ setup-refusals s t c h = pick (Answers bySetup) _ refl refl
 module _ (ns : List ℕ) (p : Pool) (call : Call) (eight : Among ns 8) (nine : Among ns 9) where
   -- before its action
   pub turned-refusals : ((k : Client) → Among ns (refusalAt p k call)) → Among ns (refusal p call)
-  unfolding refusal
-  turned-refusals before = pick (Among ns) _ (pick (Among ns) _ (before _) nine) eight
+  turned-refusals before = by-check (Among ns) p call eight (by-turn (Among ns) p call nine (before _))
 
   pub call-refusals : ((k : Client) → Among ns (refusalAt p k call)) → Among ns (refusalOf (moveOf p call .answer)) → Answers ns (callOf p call)
   unfolding callOf finished refusalOf
@@ -46,13 +46,13 @@ module _ (ns : List ℕ) (p : Pool) (call : Call) (eight : Among ns 8) (nine : A
 
 module _ (p : Pool) (c g : ℕ) where
   pub begin-refusals : Among byBegin (refusalOf (callOf p (Begin c g) .answer))
-  unfolding refusalAt moveOf refusalOf
-  begin-refusals = call-refusals byBegin p (Begin c g) refl refl (λ k. pick (Among byBegin) _ (pick (Among byBegin) _ (pick (Among byBegin) _ refl refl) refl) refl) refl
+  unfolding moveOf refusalOf
+  begin-refusals = call-refusals byBegin p (Begin c g) refl refl (λ k. at-begin (Among byBegin) p k c g refl refl refl refl) refl
 
   pub release-refusals : Among byRelease (refusalOf (callOf p (Release c g) .answer))
-  unfolding refusalAt moveOf releaseMove refusalOf
+  unfolding moveOf releaseMove refusalOf
   release-refusals =
-      call-refusals byRelease p (Release c g) refl refl (λ k. pick (Among byRelease) _ (pick (Among byRelease) _ refl refl) refl)
+      call-refusals byRelease p (Release c g) refl refl (λ k. at-release (Among byRelease) p k c g refl refl refl)
       (pick (λ (m : Move). Among byRelease (refusalOf (m .answer))) _ refl refl)
 
 -- ---- a step: only a stuck move and a sweep's end refuse
@@ -65,5 +65,5 @@ of-answer (refuses e) = rw e refl
 of-answer (sticks e) = rw e refl
 
 pub step-refusals : (p : Pool) (c : ℕ) → Among byStep (refusalOf (callOf p (Step c) .answer))
-unfolding refusalAt moveOf
-step-refusals p c = call-refusals byStep p (Step c) refl refl (λ k. pick (Among byStep) _ refl refl) (of-answer (stage-answer p (client p c)))
+unfolding moveOf
+step-refusals p c = call-refusals byStep p (Step c) refl refl (λ k. at-step (Among byStep) p k c refl refl) (of-answer (stage-answer p (client p c)))

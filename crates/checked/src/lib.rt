@@ -1,6 +1,6 @@
 // A call on any pool, by value: check 8 of the pool as handed, the call's turn on a copy of it, and check 8 of the copy. A call that is refused by
-// 8 to 13 hands the pool back as it came. Internal: crate `calls` has the calls by name, and crates `buffered` and `byte_step` those of a pool
-// with bytes, which need what the call wrote.
+// another number than 15 hands the pool back as it came. Internal: crate `calls` has the calls by name, and crates `buffered` and `byte_step` those of
+// a pool with bytes, which need what the call wrote.
 ghost use mathlib.Core.Path.{_≡_};
 ghost use mathlib.Core.Bool.{true};
 ghost use Rattle.pool.specs.Valid.{valid};
@@ -37,7 +37,7 @@ fn unmade(n: u8, pool: Pool) -> Made
     }
 }
 
-// By which of 9 to 13 a call on a pool that passes check 8 is turned down; 0: by none of them.
+// By which of 9 to 13 and 18 a call on a pool that passes check 8 is turned down; 0: by none of them.
 pub fn turned_by(pool: Pool, call: Call) -> u8
     requires { ⌜ valid pool ≡ true ⌝ }
     ensures { λ r. ⌜ r ≡ turnedBy pool call ⌝ }

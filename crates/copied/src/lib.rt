@@ -1,5 +1,5 @@
-// A call's turn on a copy of the pool, for the public calls: one that is refused by 8 to 13 hands its pool back as it came. Internal: check 8 of the
-// pool and of the copy is made by crate `checked`.
+// A call's turn on a copy of the pool, for the public calls: one that is refused by another number than 15 hands its pool back as it came. Internal:
+// check 8 of the pool and of the copy is made by crate `checked`.
 ghost use mathlib.Core.Path.{_≡_};
 ghost use mathlib.Core.Bool.{true};
 ghost use Rattle.pool.specs.Valid.{valid};

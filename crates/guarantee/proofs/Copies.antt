@@ -1,5 +1,5 @@
--- A client holds no page twice; grants of one page name one frame; a held frame is pinned, and no call evicts it: the sequential pool evicts only pages without grants, so the
--- page of a held frame is still there after the call, and its frame is resident. Assumes nothing.
+-- A client holds no page twice; grants of one page name one frame; a held frame is pinned, and no call evicts it: the sequential pool evicts only
+-- pages without grants, so the page of a held frame is still there after the call, and its frame is resident. Assumes nothing.
 use mathlib.Core.Path.{_≡_, refl, sym, ap, _∙_}
 use mathlib.Core.Logic.{_≢_}
 use mathlib.Core.Bool.{Bool, true, false, true≢false}
@@ -48,11 +48,11 @@ one-copy p r c d i j a b e =
 
 step-keeps : {q : Sequential} {k : SeqClient} {a : Answer} {slots : List SeqSlot} {next : SeqClient} {g f : ℕ} → StepRule q k a slots next
     → (c : ℕ) → member g (seqClient q c .grants) ≡ true → Keeps q g f → (i : ℕ) × (getD slots i Plain.empty ≡ Plain.stores g f)
-step-keeps (adds _ _) c m h = h
+step-keeps (adds _ _ _) c m h = h
 step-keeps (answers _ _) c m h = h
 step-keeps (continues _ _ _) c m h = h
 step-keeps refuses c m h = h
-step-keeps {q} {k} {g = g} (admits {f = x} _ _ _ i _ vacant) c m h =
+step-keeps {q} {k} {g = g} (admits {f = x} _ _ _ _ i _ vacant) c m h =
     let other : h .0 ≢ i = λ e. let z : _≡_ {A = ℕ} 0 1 = cc (ap (Plain.seqSlot q) e) in omega arith in
     (h .0, getD-set-other (q .slots) i (h .0) (Plain.stores (k .wants) x) Plain.empty other ∙ h .1)
 step-keeps {q} {g = g} (evicts {g = y} _ i full unheld) c m h =

@@ -1,5 +1,5 @@
 -- What the invariant says of a page's frame, of a held frame and of a client's found frame, as the theorems use it: a page has one frame, as it has
--- one entry; a held frame is a grant's, so pinned; a found frame is its page's where it is pinned for the client. Assumes nothing.
+-- one entry; a held frame is a grant's, so pinned; so is a found frame at the stages where it is pinned for its client. Assumes nothing.
 use mathlib.Core.Path.{_≡_, sym, _∙_}
 use mathlib.Core.Logic.{_≢_}
 use mathlib.Core.Bool.{true}

@@ -1,5 +1,6 @@
--- The grants that the pool lists for a client are those that the answers told it: a step that is granted opens one, a release that is done ends one, and
--- nothing else changes them. Once for one call of a reached pool, by the moves of the invariant's `Edges`, then along the run. Assumes nothing.
+-- The grants that the pool lists for a client are those that the answers told it: a step that is granted opens one, a release that is done ends the
+-- one of its page, and nothing else changes them. Once for one call of a reached pool, by what the invariant's `Told` says of its move, then along the
+-- run. Assumes nothing.
 use mathlib.Core.Path.{_≡_, refl, sym, ap, subst, _∙_}
 use mathlib.Core.Logic.{_≢_}
 use mathlib.Core.List.{List}

@@ -125,7 +125,7 @@ module _ (p : Pool) (c : ℕ) (v : valid p ≡ true) where
   one-grant : (g : ℕ) → Has (pagesHeld p c) g → timesHeld p c g ≡ 1
   one-grant g m = omega (arith, is-held p c g m, at-most-one g)
 
-  pub held-once-in : HeldOnce p c
+  held-once-in : HeldOnce p c (rowsOf p c)
   unfolding pagesHeld
   held-once-in = record {
     times = λ i h.

@@ -18,7 +18,7 @@ pub mod Simulate
 pub mod SimulateMoves
 pub mod Follow
 pub mod Sequence
--- from the sequential pool: claims 2 and 3
+-- claim 2, from the invariant; claim 3, from the sequential pool
 pub mod Copies
 -- claim 12: what each move does to the table, beside what it counts; the tally's sum; the pages that come and leave
 pub mod TableMoves

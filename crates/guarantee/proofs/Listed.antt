@@ -30,6 +30,7 @@ use Rattle.invariant.proofs.Calls.{never-stuck, call-moves, call-turned-down, r
 use Rattle.guarantee.specs.Runs.{Event, events, At}
 use Rattle.guarantee.specs.Claims.{Listed, Claim-listed}
 use Rattle.guarantee.proofs.Along.{at-some}
+use Rattle.laws.specs.Checks.{by-turn, by-check, at-begin, at-step, at-release}
 use Rattle.laws.specs.StageAnswers.{granting, given, on-successors, on-grants, goes, grants, refuses, sticks, stage-answer}
 use Rattle.guarantee.proofs.TurnedDown.{same-answer, TurnedOrMove, turned, one-move, turned-or-move, is-done, is-stuck, done-or-stuck}
 
@@ -41,26 +42,24 @@ record Numbered (p : Pool) (x : Call) (n : ℕ) : Type 0 where
   is : n ≢ 0 → ListedOr8 p x (Refused n)
 
 module _ {p : Pool} {x : Call} where
-  fork : (t : Bool) {m n : ℕ} → Numbered p x m → Numbered p x n → Numbered p x (choose t m n)
-  fork t a b = by-test (Numbered p x) (λ _. a) (λ _. b)
-
   no-number : Numbered p x 0
   no-number = record { is = λ z. absurd (z refl) }
-
-  eight : Numbered p x 8
-  eight = record { is = λ _. inl refl }
 
   by : {n : ℕ} → Listed p x (Refused n) → Numbered p x n
   by h = record { is = λ _. inr h }
 
+  -- 8 and 9, before those of the call's kind
+  past-9 : Listed p x (Refused 9) → Numbered p x (refusalAt p (client p (caller x)) x) → Numbered p x (refusal p x)
+  past-9 nine its = by-check (Numbered p x) p x (record { is = λ _. inl refl }) (by-turn (Numbered p x) p x (by nine) its)
+
 numbered : (p : Pool) (x : Call) → Numbered p x (refusal p x)
-unfolding refusal refusalAt Listed
+unfolding Listed
 numbered p (Begin c g) =
-    fork _
-    (fork _ (fork _ (fork _ (fork _ no-number (by (inr (inr (inr (inr refl)))))) (by (inr (inr (inr (inl refl)))))) (by (inr (inr (inl refl)))))
-    (by (inr (inl refl)))) eight
-numbered p (Step c) = fork _ (fork _ (fork _ (by (inr (inr (inr (inl refl))))) no-number) (by (inr (inr (inl refl))))) eight
-numbered p (Release c g) = fork _ (fork _ (fork _ (fork _ (by (inr (inr (inr refl)))) no-number) (by (inr (inr (inl refl))))) (by (inr (inl refl)))) eight
+    past-9 (inr (inl refl))
+    (at-begin (Numbered p (Begin c g)) p _ c g no-number (by (inr (inr (inl refl)))) (by (inr (inr (inr (inl refl))))) (by (inr (inr (inr (inr refl))))))
+numbered p (Step c) = past-9 (inr (inr (inl refl))) (at-step (Numbered p (Step c)) p _ c no-number (by (inr (inr (inr (inl refl))))))
+numbered p (Release c g) =
+    past-9 (inr (inl refl)) (at-release (Numbered p (Release c g)) p _ c g no-number (by (inr (inr (inl refl)))) (by (inr (inr (inr refl)))))
 
 -- A granted frame is one of the pool's: check 8 looks at the frame that the stage uses.
 given-in : (p : Pool) (c : ℕ) → ClientRanged p c → T (member (client p c .stage) granting) → given (client p c .stage) (client p c) < total p

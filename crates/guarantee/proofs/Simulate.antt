@@ -144,6 +144,12 @@ module _ {p : Pool} {c : ℕ} {q : Sequential} (acting : Acting p c q) where
   -- ---- the six kinds of move
 
   module _ (busy : k .stage ≢ 0) where
+    -- a page that is not pinned for its client yet is none of its grants
+    wants-unheld : pinsFound (k .stage) ≡ false → member (t .wants) (t .grants) ≡ false
+    wants-unheld e =
+        not-member (t .wants) (t .grants)
+        (open-grants client-related e (t .wants) ∙ ap (grantsOf p c) (client-related .wants busy) ∙ r .singles .wanted-unheld c busy)
+
     pub continues-one : (i j : ℕ) → k .stage ≡ i → {m : Move} → observable m ≡ workingMove k j → Continuing i j → SameView p c m → Simulates p c q m
     continues-one i j e {m} o w same =
         record {
@@ -162,7 +168,7 @@ module _ {p : Pool} {c : ℕ} {q : Sequential} (acting : Acting p c q) where
           next = record { stage = j; wants = t .wants; grants = t .wants ∷ t .grants };
           rule =
               rw (ap (λ (x : Observable). x .answer) o)
-              (adds {j = j} {f = k .found} (rw (client-related .stage ∙ e) h)
+              (adds {j = j} {f = k .found} (rw (client-related .stage ∙ e) h) (wants-unheld (rw e pi))
               (rw (client-related .wants busy) (page-there r related (know .0) live (know .1 live))));
           related =
               same-slots m _ (keeping m j o) (related-pinned client-related (works-on m j o busy) pj (rw e pi))
@@ -193,7 +199,7 @@ module _ {p : Pool} {c : ℕ} {q : Sequential} (acting : Acting p c q) where
         record {
           slots = set (q .slots) s x;
           next = seqResting (t .wants ∷ t .grants);
-          rule = rw (ap (λ (x : Observable). x .answer) o) (admits (rw (client-related .stage ∙ e) h) absent unused s inside vacant);
+          rule = rw (ap (λ (x : Observable). x .answer) o) (admits (rw (client-related .stage ∙ e) h) (wants-unheld (rw e pi)) absent unused s inside vacant);
           related = one-slot m _ (opening m (k .own) o room) (related-admitted client-related (is-granted m (k .own) o room) busy (rw e pi)) changed;
         }
       where

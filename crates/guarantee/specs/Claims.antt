@@ -112,7 +112,7 @@ NoHeldEvicted run = (f n : ℕ) → run (BecomesEvicted f) n → run (λ e. held
 abbrev pub HeldPinned : Pool → Type 0
 HeldPinned p = (f : ℕ) → held p f ≡ true → pinned 1 ≤ pins p f
 
--- a pin for each client at most
+-- SPECIFICATION 1.2: a pin for each client at most
 abbrev pub FewPins : Pool → Type 0
 FewPins p = (f : ℕ) → pins p f ≤ pinned (clientCount p)
 
@@ -355,7 +355,7 @@ Claim-limits =
 
 -- ---- GUARANTEE 14: holdings in page order
 
--- each row is a page that client c holds, once; the pages rise; and each page that the client holds has a row
+-- each row is a page that client c holds, with the number 1; the pages rise; and each page that the client holds has a row
 pub record Listing (p : Pool) (c : ℕ) (rows : List Row) : Type 0 where
   pub right : (i : ℕ) → i < length rows → (row rows i .times ≡ 1) × (0 < timesHeld p c (row rows i .page))
   pub rising : (i j : ℕ) → i < j → j < length rows → row rows i .page < row rows j .page
@@ -365,13 +365,14 @@ pub record Listing (p : Pool) (c : ℕ) (rows : List Row) : Type 0 where
 abbrev pub Claim-holdings : Type 0
 Claim-holdings = (p : Pool) (c : ℕ) (rows : List Row) → Listing p c rows ↔ (rows ≡ rowsOf p c)
 
--- SPECIFICATION 8.1, of every pool that passes check 8: 1 is how often the page of a row is held, and there are as many rows as grants
-pub record HeldOnce (p : Pool) (c : ℕ) : Type 0 where
-  pub times : (i : ℕ) → i < length (rowsOf p c) → row (rowsOf p c) i .times ≡ timesHeld p c (row (rowsOf p c) i .page)
-  pub as-many : length (rowsOf p c) ≡ client p c .held
+-- SPECIFICATION 8.1: the number of a row is that of client c's grants of its page, and there are as many rows as grants
+pub record HeldOnce (p : Pool) (c : ℕ) (rows : List Row) : Type 0 where
+  pub times : (i : ℕ) → i < length rows → row rows i .times ≡ timesHeld p c (row rows i .page)
+  pub as-many : length rows ≡ client p c .held
 
+-- of every pool that passes check 8, from wherever it was handed
 abbrev pub Claim-held-once : Type 0
-Claim-held-once = (p : Pool) (c : ℕ) → valid p ≡ true → HeldOnce p c
+Claim-held-once = (p : Pool) (c : ℕ) → valid p ≡ true → HeldOnce p c (rowsOf p c)
 
 -- ---- all of it
 

@@ -21,7 +21,7 @@ pub data SeqSlot : Type 0 where
   empty : SeqSlot
   stores : (page frame : ℕ) → SeqSlot
 
--- SPECIFICATION 11.1: a client. Its stage is 0 where it rests; a page stands in `grants` once for each grant of it.
+-- SPECIFICATION 11.1: a client. Its stage is 0 where it rests; `grants` has the pages of its grants.
 pub record SeqClient : Type 0 where
   pub stage : ℕ
   pub wants : ℕ
@@ -57,7 +57,7 @@ Unused q f = (g : ℕ) → Keeps q g f → ⊥
 
 -- ---- what it turns down
 
--- the list without its first g
+-- the list without g
 unfoldable pub without : ℕ → List ℕ → List ℕ
 without g [] = []
 without g (x ∷ xs) = choose (eqb x g) xs (x ∷ without g xs)
@@ -89,10 +89,11 @@ evicting i j = eqb i 14 && eqb j 15
 
 -- SPECIFICATION 11.6, a rule for each row: a step of client k, the answer, and the slots and the client after it
 pub data StepRule (q : Sequential) (k : SeqClient) : Answer → List SeqSlot → SeqClient → Type 0 where
-  adds : {j f : ℕ} → T (adding (k .stage) j) → Keeps q (k .wants) f
+  adds : {j f : ℕ} → T (adding (k .stage) j) → member (k .wants) (k .grants) ≡ false → Keeps q (k .wants) f
       → StepRule q k (Working j) (q .slots) (record { stage = j; wants = k .wants; grants = k .wants ∷ k .grants })
   -- fewer than S pages: slot i is empty
-  admits : {f : ℕ} → T (admitting (k .stage)) → Absent q (k .wants) → Unused q f → (i : ℕ) → i < length (q .slots) → seqSlot q i ≡ empty
+  admits : {f : ℕ} → T (admitting (k .stage)) → member (k .wants) (k .grants) ≡ false → Absent q (k .wants) → Unused q f
+      → (i : ℕ) → i < length (q .slots) → seqSlot q i ≡ empty
       → StepRule q k (Granted f) (set (q .slots) i (stores (k .wants) f)) (seqResting (k .wants ∷ k .grants))
   evicts : {j g f : ℕ} → T (evicting (k .stage) j) → (i : ℕ) → seqSlot q i ≡ stores g f → ((c : ℕ) → member g (seqClient q c .grants) ≡ false)
       → StepRule q k (Working j) (set (q .slots) i empty) (record { stage = j; wants = k .wants; grants = k .grants })

@@ -1,6 +1,6 @@
 -- What a call has passed that no check turns down: its pool is valid, its client is one of the pool's, and that client rests where it begins or
--- releases, with room for a grant and none of the page, or with one to release, and works where it steps. So of a working client a call is a step. Of every pool, a handed
--- one too. Assumes nothing.
+-- releases, with room for a grant and none of the page, or with one to release, and works where it steps. So of a working client a call is a step. Of
+-- every pool, a handed one too. Assumes nothing.
 use mathlib.Core.Path.{_≡_, refl}
 use mathlib.Core.Logic.{_≢_}
 use mathlib.Core.Bool.{true, not, _&&_}
@@ -18,6 +18,7 @@ use Rattle.pool.specs.declared.Client.{Client}
 use Rattle.pool.specs.declared.Call.{Call}
 use Rattle.pool.specs.declared.Call.the-variants.{Begin, Step, Release}
 use Rattle.laws.specs.Choices.{by-test}
+use Rattle.laws.specs.Checks.{by-turn, by-check, at-begin, at-step, at-release}
 use Rattle.laws.specs.Scans.{and-parts}
 use Rattle.invariant.proofs.StageTests.{differ}
 
@@ -28,20 +29,16 @@ After8 n = (n ≢ 15) × (n ≢ 8)
 after-8 : (n : ℕ) → T (not (eqb n 15) && not (eqb n 8)) → After8 n
 after-8 n t = let both = and-parts (not (eqb n 15)) _ t in (differ n 15 (both .0), differ n 8 (both .1))
 
-pub refusal-at : (p : Pool) (k : Client) (x : Call) → After8 (refusalAt p k x)
-unfolding refusalAt
-refusal-at p k (Begin c g) =
-    by-test After8
-    (λ _. by-test After8 (λ _. by-test After8 (λ _. after-8 0 tt) (λ _. after-8 18 tt)) (λ _. after-8 12 tt)) (λ _. after-8 10 tt)
-refusal-at p k (Step c) = by-test After8 (λ _. after-8 11 tt) (λ _. after-8 0 tt)
-refusal-at p k (Release c g) = by-test After8 (λ _. by-test After8 (λ _. after-8 13 tt) (λ _. after-8 0 tt)) (λ _. after-8 10 tt)
+refusal-at : (p : Pool) (k : Client) (x : Call) → After8 (refusalAt p k x)
+refusal-at p k (Begin c g) = at-begin After8 p k c g (after-8 0 tt) (after-8 10 tt) (after-8 12 tt) (after-8 18 tt)
+refusal-at p k (Step c) = at-step After8 p k c (after-8 0 tt) (after-8 11 tt)
+refusal-at p k (Release c g) = at-release After8 p k c g (after-8 0 tt) (after-8 10 tt) (after-8 13 tt)
 
 pub turned-by : (p : Pool) (x : Call) → After8 (turnedBy p x)
-turned-by p x = by-test After8 (λ _. refusal-at p (client p (caller x)) x) (λ _. after-8 9 tt)
+turned-by p x = by-turn After8 p x (after-8 9 tt) (refusal-at p _ x)
 
 pub refusal-not-15 : (p : Pool) (x : Call) → refusal p x ≢ 15
-unfolding refusal
-refusal-not-15 p x = by-test (λ n. n ≢ 15) (λ _. turned-by p x .0) (λ _. differ 8 15 tt)
+refusal-not-15 p x = by-check (λ n. n ≢ 15) p x (differ 8 15 tt) (turned-by p x .0)
 
 pub record Allowed (p : Pool) (x : Call) : Type 0 where
   pub ok : valid p ≡ true

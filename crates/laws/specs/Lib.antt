@@ -1,5 +1,6 @@
 pub mod Choices
 pub mod Scans
+pub mod Checks
 pub mod Loops
 pub mod Elements
 pub mod Counting

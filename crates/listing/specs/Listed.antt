@@ -46,7 +46,7 @@ rowsOver rows lent = record { answer = Done (length rows); numbers = rowNumbers 
 abbrev pub refusedOver : ℕ → List ℕ → HeldRows
 refusedOver n lent = record { answer = Refused n; numbers = lent }
 
--- SPECIFICATION 14.6: holdings of client c, on these numbers
+-- SPECIFICATION 14.6, 14.10: holdings of client c, on these numbers
 unfoldable pub heldListing : Pool → ℕ → List ℕ → HeldRows
 heldListing p c lent =
     let n = listingRefusal p c (length lent) in

@@ -372,7 +372,7 @@ holding = handedWith 1 (handedOn (holder (0 ∷ [])) (resting 1) Same (PutPins 0
 abbrev pub holdingAll : ℕ → State
 holdingAll n = stateWith (holder (from 0 n)) (blank n) (sevens (pageBytes * n))
 
--- the same with one grant, and the client works
+-- one page of store; client 0 holds it, and works on it
 abbrev pub working : State
 working = handedWith 1 (handedOn (holder []) (wanting (resting 1) 0) (Open 0 0 0) Keep)
 
@@ -471,7 +471,7 @@ pub record Proved : Type 0 where
       Answers (holdingAll 8) (Asks (Begin 1 8) ∷ Asks (Begin 0 8) ∷ Asks (Begin 0 0) ∷ []) (Refused 9 ∷ Refused 12 ∷ Refused 12 ∷ [])
       × Answers (holdingAll 7) (Asks (Begin 0 7) ∷ Asks (Begin 0 6) ∷ []) (Refused 16 ∷ Refused 18 ∷ [])
       × Answers (handedWith 1 (holder [])) (Asks (Begin 0 1) ∷ Asks (Begin 0 0) ∷ []) (Refused 16 ∷ Done 0 ∷ [])
-      × Answers working (Asks (Begin 0 1) ∷ []) (Refused 10 ∷ []) × Answers bare (Asks (Begin 0 4294967295) ∷ []) (Done 4294967295 ∷ [])
+      × Answers working (Asks (Begin 0 1) ∷ Asks (Begin 0 0) ∷ []) (Refused 10 ∷ Refused 10 ∷ []) × Answers bare (Asks (Begin 0 4294967295) ∷ []) (Done 4294967295 ∷ [])
       × Answers bare (Asks (Begin 0 9) ∷ []) (Refused 18 ∷ [])
   pub order :
       (map (λ n. inOrder n 16) (0 ∷ 8 ∷ 9 ∷ 10 ∷ 12 ∷ 18 ∷ []) ≡ 16 ∷ 8 ∷ 9 ∷ 10 ∷ 12 ∷ 16 ∷ [])

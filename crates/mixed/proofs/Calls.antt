@@ -21,6 +21,7 @@ use Rattle.laws.specs.Choices.{by-test}
 use Rattle.invariant.proofs.StageTests.{differ}
 use Rattle.invariant.proofs.Calls.{call-turned-down}
 use Rattle.memory.specs.Memory.{pageBytes, start, unmarked, moved, memoryAfter, writtenBack, storeAfter, filledFrom, written}
+use Rattle.laws.specs.Checks.{by-turn, by-check, at-release}
 use Rattle.memory.specs.Orders.{first-either, order-cases}
 use Rattle.memory.specs.Requests.{Request, Asks, ReadByte, WriteByte, State, Result, turnedBack, inside, outsideAt, byteRefusal, turnedAwayBy}
 use Rattle.memory.specs.Requests.{refusalOn, actionOn, callOn}
@@ -87,12 +88,9 @@ abbrev pub ByteNumber : ℕ → Type 0
 ByteNumber n = (n ≡ 8) ⊎ ((n ≡ 0) ⊎ T (member n byteNumbers))
 
 release-number : (p : Pool) (c g : ℕ) → ByteNumber (refusal p (Release c g))
-unfolding refusal refusalAt caller
 release-number p c g =
-    by-test ByteNumber
-    (λ _. by-test ByteNumber
-    (λ _. by-test ByteNumber (λ _. by-test ByteNumber (λ _. inr (inr tt)) (λ _. inr (inl refl))) (λ _. inr (inr tt))) (λ _. inr (inr tt)))
-    (λ _. inl refl)
+    by-check ByteNumber p (Release c g) (inl refl)
+    (by-turn ByteNumber p (Release c g) (inr (inr tt)) (at-release ByteNumber p _ c g (inr (inl refl)) (inr (inr tt)) (inr (inr tt))))
 
 byte-number : (n g o : ℕ) → ByteNumber (byteRefusal n g o)
 unfolding byteRefusal

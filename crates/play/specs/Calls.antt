@@ -19,7 +19,8 @@ use Rattle.pool.specs.declared.Call.{Call}
 use Rattle.pool.specs.declared.Call.the-variants.{Begin, Step, Release}
 use Rattle.pool.specs.declared.Client.{Client}
 use Rattle.pool.specs.declared.Pool.{Pool}
-use Rattle.laws.specs.Choices.{by-test, chosen, passed}
+use Rattle.laws.specs.Choices.{chosen, passed}
+use Rattle.laws.specs.Checks.{by-turn, at-begin, at-step, at-release}
 use Rattle.laws.specs.Elements.{client-of-pool}
 use Rattle.laws.specs.Scans.{both-yes}
 use Rattle.dispatch.specs.Ready.{some-client}
@@ -31,15 +32,12 @@ abbrev pub NoneOrHigh : ℕ → Type 0
 NoneOrHigh n = (n ≡ 0) ⊎ (9 ≤ n)
 
 high-at : (p : Pool) (k : Client) (call : Call) → NoneOrHigh (refusalAt p k call)
-unfolding refusalAt
-high-at p k (Begin c g) =
-    by-test NoneOrHigh
-    (λ _. by-test NoneOrHigh (λ _. by-test NoneOrHigh (λ _. inl refl) (λ _. inr (omega arith))) (λ _. inr (omega arith))) (λ _. inr (omega arith))
-high-at p k (Step c) = by-test NoneOrHigh (λ _. inr (omega arith)) (λ _. inl refl)
-high-at p k (Release c g) = by-test NoneOrHigh (λ _. by-test NoneOrHigh (λ _. inr (omega arith)) (λ _. inl refl)) (λ _. inr (omega arith))
+high-at p k (Begin c g) = at-begin NoneOrHigh p k c g (inl refl) (inr (omega arith)) (inr (omega arith)) (inr (omega arith))
+high-at p k (Step c) = at-step NoneOrHigh p k c (inl refl) (inr (omega arith))
+high-at p k (Release c g) = at-release NoneOrHigh p k c g (inl refl) (inr (omega arith)) (inr (omega arith))
 
 pub none-or-high : (p : Pool) (call : Call) → NoneOrHigh (turnedBy p call)
-none-or-high p call = by-test NoneOrHigh (λ _. high-at p (client p (caller call)) call) (λ _. inr (omega arith))
+none-or-high p call = by-turn NoneOrHigh p call (inr (omega arith)) (high-at p _ call)
 
 -- ---- a client's record put back as it was, and nothing else
 

@@ -1,4 +1,4 @@
--- One call's turn: its move, or where the call is turned down by 9 to 13 one that changes nothing. Assumes nothing.
+-- One call's turn: its move, or where the call is turned down one that changes nothing. Assumes nothing.
 use mathlib.Core.Path.{_≡_, refl, sym, ap, _∙_}
 use mathlib.Core.Logic.{_≢_}
 use Prim.Native.Nat.{ℕ, _<_}

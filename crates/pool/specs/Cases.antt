@@ -284,14 +284,14 @@ scannedTwice =
     setup 1 2 3 0 after admit 9 takes 3 counts Hit by 3 ∷ [] shows
     Begin 0 9 gets Refused 18 ∷ asks 1 9 (2 ∷ 3 ∷ []) (Granted 0) ++ Begin 1 9 gets Refused 18 ∷ held at 0 is 1 ∷ pins at 0 is pinned 2
     ∷ Release 0 9 gets Done 9 ∷ Release 0 9 gets Refused 13 ∷ held at 0 is 0 ∷ held at 1 is 1 ∷ pins at 0 is pinned 1
-    ∷ begins 0 9 (2 ∷ []) ++ Begin 1 9 gets Refused 18 ∷ []
+    ∷ begins 0 9 (2 ∷ []) ++ Begin 1 9 gets Refused 18 ∷ Release 1 9 gets Done 9 ∷ pins at 0 is pinned 0 ∷ []
 
--- The eighth grant is given; a ninth begin is refused by 12, of a page that the client holds, too.
+-- The eighth grant is given; a ninth begin is refused by 12, of a page that the client holds, too. At work it is refused by 10.
 abbrev pub eightGrants : Case
 eightGrants =
     setup 8 1 3 0 after admit 1 ++ admit 2 ++ admit 3 ++ admit 4 ++ admit 5 ++ admit 6 ++ admit 7 takes 8 counts Admitted by 18 ∷ [] shows
     Begin 0 1 gets Refused 18 ∷ asks 0 8 fills (Granted 7) ++ held at 0 is 8 ∷ Begin 0 9 gets Refused 12 ∷ Begin 0 1 gets Refused 12
-    ∷ Release 0 5 gets Done 5 ∷ Begin 0 1 gets Refused 18 ∷ Begin 0 5 gets Done 5 ∷ []
+    ∷ Release 0 5 gets Done 5 ∷ Begin 0 1 gets Refused 18 ∷ Begin 0 5 gets Done 5 ∷ Begin 0 1 gets Refused 10 ∷ []
 
 -- Refusal 15 comes at S busy visits one after the other, wherever the sweep then stands: client 1 passes slot 0 on with a count above 0, meets
 -- slot 1 held, and slot 0 held by then, too, halfway through its second lap.

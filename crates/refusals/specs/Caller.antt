@@ -1,4 +1,4 @@
--- Of what the refusals 9 to 13 are told: how many clients there are, the one that calls, and the pages of the grants. Assumes nothing.
+-- Of what the refusals 9 to 13 and 18 are told: how many clients there are, the one that calls, and the pages of the grants. Assumes nothing.
 use mathlib.Core.Path.{_≡_}
 use mathlib.Core.List.{List}
 use Prim.Native.Nat.{ℕ, _<_}

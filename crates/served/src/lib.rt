@@ -104,7 +104,7 @@ pub extern "C" fn foqheran_parts_setup(
     word(Answer::Done(s as u32))
 }
 
-// SPECIFICATION 3.2, 14.5; refused by 16 where the store has no such page.
+// SPECIFICATION 3.2, 14.5; refused by 16 where the store has no such page, and by 18 where the client holds it.
 #[no_mangle]
 pub extern "C" fn foqheran_parts_begin(
     client: u8,

@@ -161,7 +161,7 @@ fn unused() -> Row {
     }
 }
 
-// A page and how often it is held, or a point for a row that is as it was.
+// A page and the number of its grants, or a point for a row that is as it was.
 fn print_held(row: Row) {
     if row.page == 77 && row.times == 77 {
         io::write_all(STDOUT_FILENO, b" .");

@@ -132,8 +132,8 @@ passed-8 p c room = by-test (λ (n : ℕ). n ≡ 0 → valid p ≡ true) (λ v _
 filled : (p : Pool) (c n : ℕ) (rows left : List Row) → Out p c rows left (Done n) → Fills p c n (holdingsRefusal p c (length rows)) rows left
 filled p c n rows left (is-done none answer is) =
     let long : n ≡ length (rowsOf p c) = cc in
-    let many = guarantee .held-once p c (passed-8 p c (length rows) none) .as-many in
-    rw (is, long, take-append-seam (rowsOf p c), drop-append-seam (rowsOf p c)) (none, sym many, refl, guarantee .holdings p c (rowsOf p c) .1 refl, refl)
+    let once = guarantee .held-once p c (passed-8 p c (length rows) none) in
+    rw (is, long, take-append-seam (rowsOf p c), drop-append-seam (rowsOf p c)) (none, refl, guarantee .holdings p c (rowsOf p c) .1 refl, once, refl)
 filled p c n rows left (is-refused some answer is) = let z : _≡_ {A = ℕ} 0 1 = cc in let never : ⊥ = omega arith in absurd never
 
 kept-rows : (p : Pool) (c n : ℕ) (rows left : List Row) → Out p c rows left (Refused n) → Leaves p c n (holdingsRefusal p c (length rows)) rows left

@@ -6,7 +6,6 @@ use mathlib.Core.Logic.{_≢_}
 use mathlib.Core.List.{List, [], _∷_, map}
 use Prim.Native.Nat.{ℕ}
 use lib.ListN.{length, take, drop}
-use Rattle.pool.specs.State.{client}
 use Rattle.pool.specs.Calls.{setupOf, SetUp, callOf, poolAfter}
 use Rattle.pool.specs.Tallies.{zeroTally, tallied}
 use Rattle.pool.specs.Holdings.{holdingsRefusal, holdingsOf}
@@ -23,7 +22,7 @@ use Rattle.calls.specs.declared.Stepped.{Stepped}
 use Rattle.step.specs.declared.Answered.{Answered}
 use Rattle.collecting.specs.Rows.{blank}
 use Rattle.guarantee.specs.Runs.{Event, events}
-use Rattle.guarantee.specs.Claims.{Point3, tallyOf, AddsUp, Listing}
+use Rattle.guarantee.specs.Claims.{Point3, tallyOf, AddsUp, Listing, HeldOnce}
 use Rattle.tie.specs.Contracts.{SetupSays, BeginSays, ReleaseSays, StepTalliedSays, StepOfSays, StepSays}
 use Rattle.tie.specs.Contracts.{HoldingsOnSays, HoldingsOfSays, HoldingsSays, Unasked, Kept}
 
@@ -93,9 +92,9 @@ Claim-sum =
 
 -- Holdings is answered with n on these rows and leaves those. k is the number of the first check that turns it down, 0 if none does.
 module _ (p : Pool) (c n k : ℕ) (rows left : List Row) where
-  -- it is done: the client has n grants, the list's first n rows are the client's (GUARANTEE 14), and those after them are as they were lent
+  -- it is done: the list's first n rows are the client's, one for each of its grants (GUARANTEE 14), and those after them are as they were lent
   abbrev pub Fills : Type 0
-  Fills = (k ≡ 0) × (client p c .held ≡ n) × (length (take n left) ≡ n) × Listing p c (take n left) × (drop n left ≡ drop n rows)
+  Fills = (k ≡ 0) × (length (take n left) ≡ n) × Listing p c (take n left) × HeldOnce p c (take n left) × (drop n left ≡ drop n rows)
 
   -- it is refused: all rows are as they were lent
   abbrev pub Leaves : Type 0

@@ -80,7 +80,7 @@ pub enum Refusal {
     HasEight,
     /// 13: the client has no grant of this page.
     NotHeld,
-    /// 14: the client holds more different pages than the list has rows.
+    /// 14: the client holds more pages than the list has rows.
     FewRows,
     /// 15: every slot was in use when the client came by. Its request is over, and it holds what it held before.
     AllBusy,

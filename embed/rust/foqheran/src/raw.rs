@@ -210,7 +210,7 @@ impl Parts {
         ))
     }
 
-    /// A row is a page and how often it is held.
+    /// A row is a page and 1, the number of grants of it.
     #[rustfmt::skip]
     pub(crate) fn holdings(&self, client: u8, rows: &mut [[u32; 2]]) -> u64 {
         call!(foqheran_parts_holdings(
