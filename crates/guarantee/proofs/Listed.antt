@@ -2,13 +2,13 @@
 -- a frame of the pool, or refuses by 15 (`StageAnswers` in crate `laws`). In a pool from setup and calls 8 is never met. Assumes nothing.
 use mathlib.Core.Path.{_≡_, refl, sym, ap, subst, _∙_}
 use mathlib.Core.Logic.{_≢_, _⊎_, inl, inr}
-use mathlib.Core.Bool.{Bool, _&&_}
+use mathlib.Core.Bool.{_&&_}
 use mathlib.Core.List.{List}
 use native.Mathlib.Omega.{arith}
 use Prim.Native.Nat.{ℕ, _<_}
 use native.Mathlib.Decide.{ℕ-discrete}
 use lib.Dec.{T, leb, leb→le}
-use Rattle.pool.specs.Choose.{choose, member}
+use Rattle.pool.specs.Choose.{member}
 use Rattle.pool.specs.Answers.{refusalOf}
 use Rattle.pool.specs.State.{total, client}
 use Rattle.pool.specs.Valid.{usesOwn, usesFound}
@@ -21,7 +21,6 @@ use Rattle.pool.specs.declared.Call.{Call}
 use Rattle.pool.specs.declared.Call.the-variants.{Begin, Step, Release}
 use Rattle.pool.specs.declared.Answer.{Answer}
 use Rattle.pool.specs.declared.Answer.the-variants.{Refused}
-use Rattle.laws.specs.Choices.{by-test}
 use Rattle.ranges.specs.Ranges.{Names, ClientRanged, ranged}
 use Rattle.invariant.proofs.Reached.{Reached}
 use Rattle.laws.specs.Scans.{and-parts}

@@ -10,7 +10,7 @@ use lib.ListN.{length}
 use borrow.Author.Tests.{eqb-true, eqb-false}
 use Rattle.pool.specs.Choose.{member}
 use Rattle.pool.specs.State.{entryFrame}
-use Rattle.pool.specs.Calls.{caller, refusalAt, refusal, callOf}
+use Rattle.pool.specs.Calls.{refusal, callOf}
 use Rattle.pool.specs.declared.Pool.{Pool}
 use Rattle.pool.specs.declared.Call.{Call}
 use Rattle.pool.specs.declared.Call.the-variants.{Begin, Step, Release}
