@@ -18,7 +18,7 @@ pub mod Simulate
 pub mod SimulateMoves
 pub mod Follow
 pub mod Sequence
--- claim 2, from the invariant; claim 3, from the sequential pool
+-- claim 2, from the invariant; and from the sequential pool, that no held frame is evicted
 pub mod Copies
 -- claim 12: what each move does to the table, beside what it counts; the tally's sum; the pages that come and leave
 pub mod TableMoves

@@ -57,7 +57,7 @@ Unused q f = (g : ℕ) → Keeps q g f → ⊥
 
 -- ---- what it turns down
 
--- the list without g
+-- the list without its first g; no client of this pool has two
 unfoldable pub without : ℕ → List ℕ → List ℕ
 without g [] = []
 without g (x ∷ xs) = choose (eqb x g) xs (x ∷ without g xs)

@@ -14,7 +14,7 @@ use Rattle.pool.specs.Stages.{stage7, stage8, stage9, stage10, stage11, stage12
 use Rattle.pool.specs.Stages.{stage18, stage19, stage20, stage21, stage22, stage23, stageMove}
 use Rattle.pool.specs.Valid.{numbersOk, frameOk, usedOk, stateOk, entryOk, grantOk, countsOk, namesOk, clientOk, valid}
 use Rattle.pool.specs.Calls.{caller, refusalAt, refusal, releaseMove, moveOf, finished, callOf}
-use Rattle.pool.specs.Holdings.{insert, sorted, pagesHeld, timesHeld, rowsOf, holdingsRefusal, holdingsOf}
+use Rattle.pool.specs.Holdings.{insert, sorted, pagesHeld, rowsOf, holdingsRefusal, holdingsOf}
 use Rattle.memory.specs.Memory.{isFrame, byte, mark, isFilled, isChanged, storeByte, copied, unmarked, moved, memoryAfter, writtenBack}
 use Rattle.memory.specs.Memory.{storeAfter, filledFrom, written, cell, content}
 use Rattle.memory.specs.Requests.{lengthOk, setupOn, inside, entryInside, clientInside, pagesInside, unmarkedAt, marksOk, bytesOk, lent}
@@ -31,7 +31,7 @@ unfolding
     around advanced growth raised busyVisit evictOwn stage1 stage2 stage3 stage4 stage5 stage6 stage7 stage8 stage9 stage10 stage11
     stage12 stage13 stage14 stage15 stage16 stage17 stage18 stage19 stage20 stage21 stage22 stage23 stageMove numbersOk frameOk
     usedOk stateOk entryOk grantOk countsOk namesOk clientOk valid caller refusalAt refusal releaseMove moveOf finished callOf insert
-    sorted pagesHeld timesHeld rowsOf holdingsRefusal holdingsOf isFrame byte mark isFilled isChanged storeByte copied unmarked moved
+    sorted pagesHeld rowsOf holdingsRefusal holdingsOf isFrame byte mark isFilled isChanged storeByte copied unmarked moved
     memoryAfter writtenBack storeAfter filledFrom written cell content lengthOk setupOn inside entryInside clientInside pagesInside
     unmarkedAt marksOk bytesOk lent storeOk firstOf inOrder outsideAt byteRefusal turnedAwayBy refusalOn refused writeOf actionOn callOn
     holdingsOn stateAfter played

@@ -17,7 +17,7 @@ use Rattle.pool.specs.Calls.{setupOf, caller, refusalAt, refusal, releas
 use Rattle.pool.specs.Schedule.{number, cut, marked, content, read, lengthOf, performed, endsRun, namedBy, digits, line, lineFor}
 use Rattle.pool.specs.Schedule.{runFrom, ran, endOf, reportOf}
 use Rattle.pool.specs.Tallies.{up, tallied}
-use Rattle.pool.specs.Holdings.{insert, sorted, pagesHeld, timesHeld, rowsOf, holdingsRefusal, holdingsOf}
+use Rattle.pool.specs.Holdings.{insert, sorted, pagesHeld, rowsOf, holdingsRefusal, holdingsOf}
 use Rattle.pool.specs.Cases.{Proved, noted, played, asStep, answersRequest, stepsToAnswer, computed}
 
 pub table : Proved
@@ -30,7 +30,7 @@ unfolding
     stage19 stage20 stage21 stage22 stage23 stageMove numbersOk frameOk usedOk stateOk entryOk grantOk countsOk namesOk clientOk
     valid setupOf caller refusalAt refusal releaseMove moveOf finished callOf poolAfter number cut marked content read lengthOf
     performed endsRun namedBy digits line lineFor runFrom ran endOf reportOf up tallied noted played asStep answersRequest stepsToAnswer
-    computed insert sorted pagesHeld timesHeld rowsOf holdingsRefusal holdingsOf
+    computed insert sorted pagesHeld rowsOf holdingsRefusal holdingsOf
 table =
     record {
       published = (refl, refl, refl, refl, refl, refl, refl, refl, refl);

@@ -15,7 +15,7 @@ maxCap = 100
 abbrev pub maxHeld : ℕ
 maxHeld = 8
 
--- SPECIFICATION 5.3: the most pins of a frame, one for each grant
+-- SPECIFICATION 5.3: the most pins that check 8 lets a frame have; in a run there are at most as many as clients
 abbrev pub maxPins : ℕ
 maxPins = maxClients * maxHeld
 
