@@ -32,6 +32,8 @@ REPORT_SPACE = 49152
 HAND_VALUES = 2**32
 MOST_SLOTS, MOST_CLIENTS, MOST_COUNT = 64, 16, 100
 MOST_GRANTS = 8
+INDEX_PAGES = range(4)  # every request passes through them
+INDEX_COUNT, OTHER_COUNT = 3, 1  # what a page's reference count starts with
 
 
 class Refused(Exception):
@@ -56,9 +58,14 @@ class Frame:
         self.pinning = -1  # evicted
 
     def renew(self, key):
-        """Lines 2 to 7, "new Frame": both numbers start at 1."""
+        """Lines 2 to 7, "new Frame": both numbers start at 1.
+
+        Not in the figure: the count of an index page starts higher, so that
+        it lasts longer, but never above the cap.
+        """
+        start = INDEX_COUNT if key in INDEX_PAGES else OTHER_COUNT
         self.key = key
-        self.refcount = 1
+        self.refcount = min(start, self.cap)
         self.pinning = 1
 
     def incrRC(self):

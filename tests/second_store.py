@@ -410,8 +410,16 @@ def example(about, *pairs):
     return about, "\n".join(script) + "\n", "\n".join(report) + "\n"
 
 
+def to17(visits, held=0):
+    """The stages of a miss up to 17, where so many visits lower a count.
+
+    The last of them evicts. Before each, so many held frames are met.
+    """
+    visit = held * [11, 12] + [11, 12, 13]
+    return [4, 5, 10] + visits * visit + [14, 15, 16, 17]
+
+
 TO_EMPTY_SLOT = [4, 5, 6, 7, 8, 9, 18]
-TO_17 = [4, 5, 10, 11, 12, 13, 14, 15, 16, 17]
 
 ADMITTED = books("0 0 1 0 0 0", ["0x1"])  # page 0, to the one client
 
@@ -422,6 +430,20 @@ def sevenPages():
         yield "begin 0 %d" % page, "0 %d" % page
         yield "step 0", TO_EMPTY_SLOT
         yield "step 0", "2 %d" % frame
+
+
+def lasts(page, cap, visits):
+    """The page alone in a pool with that cap, evicted by so many visits."""
+    return example("Page %d with cap %d is evicted by visit %d."
+                   % (page, cap, visits),
+                   ("setup 1 1 %d 0 0" % cap, "0 1"),
+                   ("begin 0 %d" % page, "0 %d" % page),
+                   ("step 0", TO_EMPTY_SLOT),
+                   ("step 0", "2 0"),
+                   ("release 0 %d" % page, "0 %d" % page),
+                   ("begin 0 9", "0 9"),
+                   ("step 0", to17(visits) + [18]),
+                   ("step 0", "2 1"))
 
 
 EXAMPLES = [
@@ -452,7 +474,7 @@ EXAMPLES = [
             ("write 0 1 63 9", "0 1"),
             ("release 0 1", "0 1"),
             ("begin 0 0", "0 0"),
-            ("step 0", TO_17),
+            ("step 0", to17(3)),  # page 1 has count 3
             ("dump", "0 1 1 " + row(210, b63=9) + "\n1 0 0 " + ZERO
              + "\n2 0 0 " + ZERO + "\n- " + row(5) + "\n- " + row(210)
              + books("0 0 1 0 0 0", [])),
@@ -463,7 +485,7 @@ EXAMPLES = [
             ("step 0", "2 1"),
             ("release 0 0", "0 0"),
             ("begin 0 1", "0 1"),
-            ("step 0", TO_17 + [18]),
+            ("step 0", to17(3) + [18]),  # and so has page 0
             ("step 0", "2 2"),
             ("read 0 1 63", "0 9"),
             ("release 0 1", "0 1"),
@@ -485,9 +507,9 @@ EXAMPLES = [
             ("step 0", "2 1"),
             ("release 0 1", "0 1"),
             ("begin 0 2", "0 2"),
-            ("step 0", TO_17),
+            ("step 0", to17(5)),  # page 0 from 3 to 0, page 1 from 3 to 1
             ("begin 1 0", "0 0"),
-            ("step 1", [2] + TO_17 + [18, 19, 22]),
+            ("step 1", [2] + to17(1) + [18, 19, 22]),
             ("step 1", "2 3"),
             ("read 1 0 0", "0 77"),
             ("step 0", "1 18"),
@@ -594,7 +616,7 @@ EXAMPLES = [
             ("step 0", "2 2"),
             ("release 1 9", "0 9"),
             ("begin 1 7", "0 7"),
-            ("step 1", TO_17 + [18]),
+            ("step 1", to17(1) + [18]),
             ("step 1", "2 3"),
             ("dump", zeros(6) + "\n- " + row(5)
              + books("0 0 3 1 1 0", ["5x1"], ["7x1"]))),
@@ -635,11 +657,11 @@ EXAMPLES = [
                      "4294967294", ["9x1"])),
             ("release 0 9", "0 9"),
             ("begin 0 5", "0 5"),
-            ("step 0", TO_17 + [18]),
+            ("step 0", to17(1) + [18]),
             ("step 0", "2 1"),
             ("release 0 5", "0 5"),
             ("begin 0 7", "0 7"),
-            ("step 0", TO_17 + [18]),
+            ("step 0", to17(1) + [18]),
             ("step 0", "2 2"),
             ("dump", zeros(3) + "\n- " + row(5)
              + books("4294967295 4294967294 4294967295 4294967294 4294967295 "
@@ -675,6 +697,51 @@ EXAMPLES = [
              + books("2 0 8 0 0 0", ["%dx1" % page for page in range(8)],
                      [])),
             ("read 0 2 0", "0 159")),
+    lasts(3, 1, 1),
+    lasts(3, 2, 2),
+    lasts(3, 3, 3),
+    lasts(3, 100, 3),
+    lasts(4, 100, 1),
+    lasts(0, 100, 3),
+    example("A sweep that meets an index page first evicts the other page, "
+            "and the index page is still there.",
+            ("setup 2 1 3 0 0", "0 2"),
+            ("begin 0 3", "0 3"),
+            ("step 0", TO_EMPTY_SLOT),
+            ("step 0", "2 0"),
+            ("release 0 3", "0 3"),
+            ("begin 0 4", "0 4"),
+            ("step 0", TO_EMPTY_SLOT),
+            ("step 0", "2 1"),
+            ("release 0 4", "0 4"),
+            ("begin 0 9", "0 9"),
+            ("step 0", to17(2) + [18]),  # page 3 from 3 to 2, page 4 to 0
+            ("step 0", "2 2"),
+            ("begin 0 3", "0 3"),
+            ("step 0", [2, 3]),
+            ("step 0", "2 0"),
+            ("begin 0 4", "0 4"),
+            ("step 0", [4])),
+    example("From 23 back at 4, an index page gets its count again.",
+            ("setup 2 2 3 0 0", "0 2"),
+            ("begin 1 3", "0 3"),
+            ("step 1", TO_EMPTY_SLOT),
+            ("begin 0 3", "0 3"),
+            ("step 0", TO_EMPTY_SLOT),
+            ("step 0", "2 1"),
+            ("release 0 3", "0 3"),
+            ("begin 0 9", "0 9"),
+            ("step 0", to17(3, held=1)),
+            ("step 1", [19, 22]),
+            ("step 0", [18]),
+            ("step 1", [23, 4, 5]),
+            ("step 0", "2 2"),
+            ("step 1", [10, 11, 12, 15, 16, 17, 18]),
+            ("step 1", "2 3"),
+            ("release 1 3", "0 3"),
+            ("begin 1 5", "0 5"),
+            ("step 1", to17(3, held=1) + [18]),
+            ("step 1", "2 4")),
     example("A setup with a store of 257 pages is refused; nothing follows.",
             ("setup 1 1 3 0 16448", "108 0"),
             ("begin 0 0", ""),

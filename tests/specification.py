@@ -360,15 +360,20 @@ def refusals():
 
 def limits():
     """The limits are those of the definitions and of the code."""
-    defined = dict(re.findall(r"^(max\w+|pageBytes) = (\d+)$", "\n".join(
+    defined = dict(re.findall(r"^(max\w+|pageBytes|index\w+) = (\d+)$", "\n".join(
         read(spec_file(name)) for name in ("Limits", "Memory")), re.M))
-    size, clients, cap, held, page, pages = (
-        int(defined[name]) for name in ("maxSize", "maxClients", "maxCap",
-                                        "maxHeld", "pageBytes", "maxPages"))
+    size, clients, cap, held, page, pages, index, count = (
+        int(defined[name]) for name in (
+            "maxSize", "maxClients", "maxCap", "maxHeld", "pageBytes",
+            "maxPages", "indexPages", "indexCount"))
     for clause, said in (((1, 1), "S is 1 to %d, T is 1 to %d, C is 1 to %d."
                           % (size, clients, cap)),
                          ((1, 2), "-1 to %d" % (clients * held)),
                          ((2, 2), "at most %d open grants" % held),
+                         ((4, 31), "Pages 0 to %d are *index pages*"
+                          % (index - 1)),
+                         ((4, 31), "has count %d then, or C where C is below "
+                          "%d;" % (count, count)),
                          ((5, 3), "-1 to %d" % (clients * held)),
                          ((13, 1), "%d for each page. It has 1 to %d pages"
                           % (page, pages)),
@@ -383,11 +388,13 @@ def limits():
     code = "\n".join(map(read, TYPES))
     for name, limit in (("MAX_SIZE: u8", size), ("MAX_CLIENTS: u8", clients),
                         ("MAX_CAP: u8", cap), ("MAX_HELD: u8", held),
-                        ("PAGE: usize", page), ("MAX_PAGES: u16", pages)):
+                        ("PAGE: usize", page), ("MAX_PAGES: u16", pages),
+                        ("INDEX_PAGES: u32", index),
+                        ("INDEX_COUNT: u8", count)):
         need("pub const %s = %d;" % (name, limit) in code,
              "the code's %s is not %d" % (name, limit))
-    return "the limits: %d, %d, %d, %d; %d bytes, %d pages" % (
-        size, clients, cap, held, page, pages)
+    return ("the limits: %d, %d, %d, %d; %d bytes, %d pages; %d index pages, "
+            "count %d" % (size, clients, cap, held, page, pages, index, count))
 
 
 def rules():

@@ -4,6 +4,8 @@
 const MARK: [u8; 2] = *b"FC";
 const LONGEST_FILE: usize = 16_384;
 const LONGEST_LINE: usize = 24;
+const INDEX_PAGES: u32 = 4;
+const INDEX_COUNT: u8 = 3;
 
 /// How a run ended (SPECIFICATION 10.4).
 #[derive(Clone, Copy, Debug, PartialEq, Eq)]
@@ -177,7 +179,8 @@ impl Pool {
                 || self.team[..self.clients].iter().any(|c| c.names(id));
             if !named {
                 self.last = Some(f);
-                self.frames[f] = Frame { page, pins: 1, count: 1 };
+                let count = if page < INDEX_PAGES { INDEX_COUNT.min(self.cap) } else { 1 };
+                self.frames[f] = Frame { page, pins: 1, count };
                 return id;
             }
             f = if f + 1 == total { 0 } else { f + 1 };

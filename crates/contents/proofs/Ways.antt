@@ -124,7 +124,7 @@ module _ (p : Pool) (c : ℕ) (r : Reached p) where
   goes (gets21 e) = opening 21 _ e tt refl refl refl (idles tt (inl refl))
   goes (takes e z) =
       let f = free-found p (r .shape) z in
-      quiet refl refl refl (takes-frame (freeFrame p) (pinned 1) 1 refl (f .0) (f .1) refl (λ y. differ 4 0 tt (sym e ∙ y)))
+      quiet refl refl refl (takes-frame (freeFrame p) (pinned 1) _ refl (f .0) (f .1) refl (λ y. differ 4 0 tt (sym e ∙ y)))
   goes (fills e s) = quiet refl refl refl (idles tt (inr refl))
   goes (replaces e s) = quiet refl refl refl (idles tt (inr refl))
   goes (refuses v b) = record { way = idles tt (inl refl); page = λ z. absurd (z refl); opens = λ _ _ y. no-open y; told = inr refl }

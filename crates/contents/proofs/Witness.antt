@@ -13,7 +13,7 @@ use Rattle.pool.specs.Frames.{names, referenced, firstTried, freeFrame}
 use Rattle.pool.specs.Moves.{granted}
 use Rattle.pool.specs.Apply.{stored, slotsAfter, pagesAfter, pinsAfter, countsAfter, entryPagesAfter, entryFramesAfter, handAfter, freeAfter, lastAfter}
 use Rattle.pool.specs.Apply.{grantPagesAfter, grantFramesAfter, apply}
-use Rattle.pool.specs.Stages.{around, advanced, growth, raised, busyVisit, evictOwn, stage1, stage2, stage3, stage4, stage5, stage6, stage7, stage8, stage9}
+use Rattle.pool.specs.Stages.{around, advanced, growth, raised, firstCount, busyVisit, evictOwn, stage1, stage2, stage3, stage4, stage5, stage6, stage7, stage8, stage9}
 use Rattle.pool.specs.Stages.{stage10, stage11, stage12, stage13, stage14, stage15, stage16, stage17, stage18, stage19, stage20, stage21, stage22, stage23}
 use Rattle.pool.specs.Stages.{stageMove}
 use Rattle.pool.specs.Valid.{numbersOk, frameOk, usedOk, stateOk, entryOk, grantOk, countsOk, namesOk, clientOk, valid}
@@ -34,7 +34,7 @@ unfolding choose both either scan howMany refusalOf within slot page pins count 
     maps entryOf lookup unusedEntry grantOf holds held names referenced firstTried freeFrame granted
     stored slotsAfter pagesAfter pinsAfter countsAfter entryPagesAfter entryFramesAfter handAfter freeAfter lastAfter grantPagesAfter
     grantFramesAfter apply
-    around advanced growth raised busyVisit evictOwn stage1 stage2 stage3 stage4 stage5 stage6 stage7 stage8 stage9 stage10 stage11 stage12
+    around advanced growth raised firstCount busyVisit evictOwn stage1 stage2 stage3 stage4 stage5 stage6 stage7 stage8 stage9 stage10 stage11 stage12
     stage13 stage14 stage15 stage16 stage17 stage18 stage19 stage20 stage21 stage22 stage23 stageMove
     numbersOk frameOk usedOk stateOk entryOk grantOk countsOk namesOk clientOk valid
     caller refusalAt refusal releaseMove moveOf finished callOf
@@ -43,20 +43,20 @@ unfolding choose both either scan howMany refusalOf within slot page pins count 
     refusalOn refused writeOf actionOn callOn happenings At
 computing = 0
 
--- one slot, one client, and a store of two pages that has 7 throughout
+-- one slot, one client, count cap 1, and a store of five pages that has 7 throughout
 abbrev first : State
-first = setupOn 1 1 3 0 (replicate 128 7) .state
+first = setupOn 1 1 1 0 (replicate 320 7) .state
 
 pub set-up : SetUpOn first
 unfolding computing
-set-up = record { size = 1; clients = 1; cap = 3; hand = 0; done = refl; made = refl }
+set-up = record { size = 1; clients = 1; cap = 1; hand = 0; done = refl; made = refl }
 
--- page 0 is granted, 9 is written at offset 3 and read; page 1 takes its frame's slot; page 0 comes back and is read
+-- index page 0 is granted, 9 is written at offset 3 and read; page 4, which is none, takes its frame's slot; page 0 comes back and is read
 abbrev run : List Happening
 run =
     happenings first
-    (map Asks (admit 0) ++ WriteByte 0 0 3 9 ∷ ReadByte 0 0 3 ∷ ReadByte 0 0 64 ∷ map Asks (Release 0 0 ∷ swap 1 ++ Release 0 1 ∷ swap 0) ++
-    ReadByte 0 0 3 ∷ ReadByte 0 0 2 ∷ Asks (Begin 0 2) ∷ [])
+    (map Asks (admit 0) ++ WriteByte 0 0 3 9 ∷ ReadByte 0 0 3 ∷ ReadByte 0 0 64 ∷ map Asks (Release 0 0 ∷ swap 4 ++ Release 0 4 ∷ swap 0) ++
+    ReadByte 0 0 3 ∷ ReadByte 0 0 2 ∷ Asks (Begin 0 5) ∷ [])
 
 pub writes-9 : At (Writes 0 3 9) run 9
 unfolding computing

@@ -58,7 +58,7 @@ fn stage_move<'a>(
             let its_count = reads::byte_at(counts, n.total, 0, client.found);
             stages::stage3(client, n.cap, its_count)
         }
-        4 => stages::stage4(client, fresh),
+        4 => stages::stage4(client, n.cap, fresh),
         5 => stages::stage5(client, n.free),
         6 => stages::stage6(client, n.free),
         7 => stages::stage7(client, n.hand, n.size),

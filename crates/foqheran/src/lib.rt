@@ -38,10 +38,12 @@ pub use pool::Pool;
 pub use pool::Row;
 pub use pool::Tally;
 
-// ---- the largest pool and store, the bytes of a page, and the number that names no frame
+// ---- the largest pool and store, the bytes of a page, the index pages, and the number that names no frame
 pub use memory::MAX_PAGES;
 pub use memory::PAGE;
 pub use pool::HELD;
+pub use pool::INDEX_COUNT;
+pub use pool::INDEX_PAGES;
 pub use pool::MAX_CAP;
 pub use pool::MAX_CLIENTS;
 pub use pool::MAX_HELD;

@@ -13,9 +13,9 @@ use Rattle.pool.specs.Answers.{refusalOf}
 use Rattle.pool.specs.State.{none, evicted, pinned, clientCount, slot, page, pins, count, client}
 use Rattle.pool.specs.Table.{lookup, entryOf, unusedEntry}
 use Rattle.pool.specs.Frames.{freeFrame}
-use Rattle.pool.specs.Moves.{withOwn, withFound, withVictim, withSeen, withPlace, sweeping, works, stuck, granted, refused15}
+use Rattle.pool.specs.Moves.{withFound, withVictim, withSeen, withPlace, sweeping, works, stuck, granted, refused15}
 use Rattle.pool.specs.Apply.{apply}
-use Rattle.pool.specs.Stages.{around, advanced, growth, raised, nextSlot, busyVisit, noStage, stages, stageMove, stage1, stage2, stage3, stage4, stage5, stage6}
+use Rattle.pool.specs.Stages.{around, advanced, growth, raised, taking, nextSlot, busyVisit, noStage, stages, stageMove, stage1, stage2, stage3, stage4, stage5, stage6}
 use Rattle.pool.specs.Stages.{stage7, stage8, stage9, stage10, stage11, stage12, stage13, stage14, stage15, stage16, stage17, stage18}
 use Rattle.pool.specs.Calls.{caller, refusalAt, refusal, beginMove, moveOf, callOf}
 use Rattle.pool.specs.declared.Pool.{Pool}
@@ -26,7 +26,7 @@ use Rattle.pool.specs.declared.Answer.the-variants.{Done}
 use Rattle.pool.specs.declared.Counted.{Counted}
 use Rattle.pool.specs.declared.Counted.the-variants.{Nothing}
 use Rattle.pool.specs.declared.Write.{Write}
-use Rattle.pool.specs.declared.Write.the-variants.{Keep, PutSlot, PutPins, PutCount, TakeFrame, PutEntry, PutHand, PutFree}
+use Rattle.pool.specs.declared.Write.the-variants.{Keep, PutSlot, PutPins, PutCount, PutEntry, PutHand, PutFree}
 use Rattle.laws.specs.Choices.{chosen, passed}
 use Rattle.invariant.proofs.Reached.{Reached}
 use Rattle.invariant.proofs.After.{client-same, client-other}
@@ -176,7 +176,7 @@ module _ (p : Pool) (b g : ℕ) where
   unfolding stage3
   move3 on = step-is on (granted-is on _ _ _)
 
-  pub move4 : AloneAt p b g 4 → StepIs p b (works (withOwn k (freeFrame p)) 5 (TakeFrame (freeFrame p) (k .page) (pinned 1) 1))
+  pub move4 : AloneAt p b g 4 → StepIs p b (taking k (p .cap) (freeFrame p))
   unfolding stage4
   move4 on = step-is on (not-stuck on (freeFrame p) none refl)
 

@@ -15,8 +15,8 @@ use borrow.Author.Tests.{eq-eqb, ne-eqb}
 use Rattle.pool.specs.State.{none, evicted, pinned, clientCount, slot, page, pins, count, client}
 use Rattle.pool.specs.Table.{lookup, resident}
 use Rattle.pool.specs.Frames.{freeFrame}
-use Rattle.pool.specs.Moves.{withOwn, works}
 use Rattle.pool.specs.Apply.{slotsAfter, pinsAfter, freeAfter, entryPagesAfter, entryFramesAfter, apply}
+use Rattle.pool.specs.Stages.{taking}
 use Rattle.pool.specs.Calls.{callOf}
 use Rattle.pool.specs.declared.Pool.{Pool}
 use Rattle.pool.specs.declared.Client.{Client}
@@ -24,7 +24,6 @@ use Rattle.pool.specs.declared.Move.{Move}
 use Rattle.pool.specs.declared.Outcome.{Outcome}
 use Rattle.pool.specs.declared.Call.the-variants.{Step}
 use Rattle.pool.specs.declared.Answer.the-variants.{Working, Granted, Refused}
-use Rattle.pool.specs.declared.Write.the-variants.{TakeFrame}
 use Rattle.invariant.proofs.Reached.{one, filling, Reached}
 use Rattle.invariant.proofs.After.{slot-kept, pins-else}
 use Rattle.invariant.proofs.Sums.{sum-zero, sum-has}
@@ -152,7 +151,7 @@ module _ (p₀ : Pool) (b g : ℕ) (reached : Reached p₀) (rest : (c : ℕ) �
     result4 e =
         let o = e .alone-at in
         let w = move4 p b g o in
-        let m : Move = works (withOwn k (freeFrame p)) 5 (TakeFrame (freeFrame p) (k .page) (pinned 1) 1) in
+        let m : Move = taking k (p .cap) (freeFrame p) in
         let z : freeFrame p ≢ none = finds-some p (o .reached) b (o .here) (o .stage) in
         let fresh : Unreferenced p (freeFrame p) = unreferenced-means p (freeFrame p) z (free-found p (o .reached .shape) z .1) in
         goes-on 5 (w .answer-is) (at5 (record {

@@ -59,7 +59,7 @@ module _ {p : Pool} {c : ℕ} {q : Sequential} (acting : Acting p c q) (busy : c
   simulated (gets21 e) = answers-one acting busy 21 e tt refl (known 21 e) room refl tt
   simulated (takes e z) =
       continues-at 4 5 e refl tt
-      (take-view p c _ r (freeFrame p) (k .page) (pinned 1) 1 refl (unreferenced-means p (freeFrame p) z (free-found p (r .shape) z .1) .no-slot))
+      (take-view p c _ r (freeFrame p) (k .page) (pinned 1) _ refl (unreferenced-means p (freeFrame p) z (free-found p (r .shape) z .1) .no-slot))
   simulated (fills e s) =
       continues-at 8 9 e refl tt
       (slot-view p c _ r (k .place) (k .own) refl (r .ranges .place-ok c) (r .private .own-unmapped c (known 8 e)) (ap (pins p) s ∙ none-evicted p (r .shape)))

@@ -12,7 +12,7 @@ use Rattle.pool.specs.Frames.{freeFrame}
 use Rattle.pool.specs.Grants.{grantOf}
 use Rattle.pool.specs.Moves.{standing, withOwn, withFound, withVictim, holding, worksAs, works, opens, refused15, completes}
 use Rattle.pool.specs.Apply.{freeAfter}
-use Rattle.pool.specs.Stages.{raised}
+use Rattle.pool.specs.Stages.{raised, taking}
 use Rattle.pool.specs.Calls.{beginMove}
 use Rattle.pool.specs.declared.Pool.{Pool}
 use Rattle.pool.specs.declared.Client.{Client}
@@ -21,7 +21,7 @@ use Rattle.pool.specs.declared.Counted.{Counted}
 use Rattle.pool.specs.declared.Counted.the-variants.{Hit, Join, Admitted, Revived, Drop}
 use Rattle.pool.specs.declared.GrantChange.the-variants.{End}
 use Rattle.pool.specs.declared.Write.{Write}
-use Rattle.pool.specs.declared.Write.the-variants.{Keep, PutSlot, PutPins, PutCount, TakeFrame, PutEntry, PutHand, PutFree}
+use Rattle.pool.specs.declared.Write.the-variants.{Keep, PutSlot, PutPins, PutCount, PutEntry, PutHand, PutFree}
 use Rattle.invariant.proofs.Reached.{one, mapped, victimless, filling, examining, Knows, WillUnmap}
 use Rattle.invariant.proofs.StageTests.{Onward, MayRefuse}
 
@@ -87,7 +87,7 @@ module _ (p : Pool) (c : ℕ) where
     -- 3, 21: and granted
     gets3 : k .stage ≡ 3 → Edge (grants k (k .found) (PutCount (k .found) (raised (p .cap) (count p (k .found)))) Hit)
     gets21 : k .stage ≡ 21 → Edge (grants k (k .found) (PutCount (k .found) (raised (p .cap) (count p (k .found)))) Join)
-    takes : k .stage ≡ 4 → freeFrame p ≢ none → Edge (works (withOwn k (freeFrame p)) 5 (TakeFrame (freeFrame p) (k .page) (pinned 1) 1))
+    takes : k .stage ≡ 4 → freeFrame p ≢ none → Edge (taking k (p .cap) (freeFrame p))
     -- 8, 15: the own frame is put into the slot
     fills : k .stage ≡ 8 → slot p (k .place) ≡ none → Edge (works k 9 (PutSlot (k .place) (k .own)))
     replaces : k .stage ≡ 15 → slot p (k .place) ≡ k .victim → Edge (works k 16 (PutSlot (k .place) (k .own)))

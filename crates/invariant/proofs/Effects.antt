@@ -32,7 +32,7 @@ use Rattle.invariant.proofs.Table.{suc-not, lookup-mapped}
 use Rattle.invariant.proofs.Grants.{GrantsOk, grants-stay, grant-opens, grant-ends}
 use Rattle.invariant.proofs.NeverFails.{Mover, mover}
 use Rattle.invariant.proofs.StageTests.{differ, imp}
-use Rattle.invariant.proofs.Facts.{raised-ok, grant-pinned, found-pinned, one-more-pin}
+use Rattle.invariant.proofs.Facts.{raised-ok, first-ok, grant-pinned, found-pinned, one-more-pin}
 use Rattle.invariant.proofs.Edges.{CountersOnly, keep, hand, counts, free, Edge, moves-on, grants, found1, found18, forgets2, forgets22, pins2, pins19}
 use Rattle.invariant.proofs.Edges.{gets3, gets21, takes, fills, replaces, refuses, evicts14, removes, admits, revives, evicts20, evicts23, begins, releases}
 
@@ -61,8 +61,8 @@ module _ (p : Pool) (c : ℕ) (m : Move) where
   pub data OwnOk : Type 0 where
     own-forgotten : m .next .own ≡ none → OwnOk
     own-stays : m .next .own ≡ k .own → T (imp (unplaced (m .next .stage)) (unplaced (k .stage))) → OwnOk
-    own-taken : k .stage ≡ 4 → m .next .own < total p → referenced p (m .next .own) ≡ false
-        → m .write ≡ TakeFrame (m .next .own) (m .next .page) (pinned 1) 1 → OwnOk
+    own-taken : {n : ℕ} → k .stage ≡ 4 → m .next .own < total p → referenced p (m .next .own) ≡ false
+        → m .write ≡ TakeFrame (m .next .own) (m .next .page) (pinned 1) n → OwnOk
 
   -- the slot at i is empty, or the client takes its evicted victim out of it
   abbrev pub Vacant : ℕ → Type 0
@@ -328,7 +328,7 @@ module _ (p : Pool) (c : ℕ) (here : c < clientCount p) (r : Reached p) where
         opened = λ _ _ x. no-open x;
         entries = entries-stay refl refl;
         pages = page-put (freeFrame p) (f .1) refl;
-        write-ok = record { free-ok = r .ranges .free-ok; last-ok = inr (f .0); count-ok = counts-put _ 1 refl (r .shape .cap-low) };
+        write-ok = record { free-ok = r .ranges .free-ok; last-ok = inr (f .0); count-ok = counts-put _ _ refl (first-ok _ (me .page) (r .shape .cap-low)) };
         not-stuck = tt;
       }
   effect (fills e s) =

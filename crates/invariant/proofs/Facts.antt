@@ -7,10 +7,11 @@ use Prim.Native.Nat.{ℕ, suc, _+_, _*_, _≤_, _<_}
 use native.Mathlib.Omega.{arith}
 use native.Mathlib.Decide.{ℕ-discrete}
 use lib.Dec.{T, eqb}
-use borrow.Author.Tests.{eqb-true, eq-eqb, ne-eqb, ltb-true}
+use borrow.Author.Tests.{eqb-true, eq-eqb, ne-eqb, ltb-true, ltb-false}
+use Rattle.pool.specs.Limits.{indexCount}
 use Rattle.pool.specs.State.{none, evicted, pinned, clientCount, resting, page, pins, client, grantPage, grantFrame}
 use Rattle.pool.specs.Table.{lookup}
-use Rattle.pool.specs.Stages.{raised}
+use Rattle.pool.specs.Stages.{raised, firstCount}
 use Rattle.pool.specs.declared.Pool.{Pool}
 use Rattle.pool.specs.declared.Client.{Client}
 use Rattle.laws.specs.Choices.{by-test}
@@ -24,10 +25,15 @@ use Rattle.invariant.proofs.Table.{suc-not, some-suc, mapped-lookup}
 use Rattle.invariant.proofs.Grants.{grantsOn-none}
 use Rattle.invariant.proofs.NeverFails.{know}
 
--- a raised count
+-- a count that is raised, and one that starts
 pub raised-ok : (cap n : ℕ) → n ≤ cap → raised cap n ≤ cap
 unfolding raised
 raised-ok cap n h = by-test (λ (x : ℕ). x ≤ cap) (λ t. omega (arith, ltb-true n cap t)) (λ _. h)
+
+pub first-ok : (cap g : ℕ) → 1 ≤ cap → firstCount cap g ≤ cap
+unfolding firstCount
+first-ok cap g h =
+    by-test (λ (x : ℕ). x ≤ cap) (λ _. by-test (λ (x : ℕ). x ≤ cap) (λ _. omega arith) (λ t. omega (arith, ltb-false cap indexCount t))) (λ _. h)
 
 -- ---- claims
 

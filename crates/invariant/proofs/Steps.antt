@@ -130,7 +130,7 @@ module _ (p : Pool) (c : ℕ) (here : c < clientCount p) (r : Reached p) where
   unfolding stage3
   step3 e = gets 3 _ _ _ e tt (gets3 e)
 
-  step4 : EdgeAt 4 (λ p k. stage4 k (freeFrame p))
+  step4 : EdgeAt 4 (λ p k. stage4 k (p .cap) (freeFrame p))
   unfolding stage4
   step4 e = by-test IsEdge (λ t. absurd (finds-some p r c here e (eqb-true _ _ t))) (λ t. takes e (eqb-false _ _ t))
 

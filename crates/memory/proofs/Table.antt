@@ -9,7 +9,7 @@ use Rattle.pool.specs.Frames.{names, referenced, firstTried, freeFrame}
 use Rattle.pool.specs.Moves.{granted}
 use Rattle.pool.specs.Apply.{stored, slotsAfter, pagesAfter, pinsAfter, countsAfter, entryPagesAfter, entryFramesAfter, handAfter}
 use Rattle.pool.specs.Apply.{freeAfter, lastAfter, grantPagesAfter, grantFramesAfter, apply}
-use Rattle.pool.specs.Stages.{around, advanced, growth, raised, busyVisit, evictOwn, stage1, stage2, stage3, stage4, stage5, stage6}
+use Rattle.pool.specs.Stages.{around, advanced, growth, raised, firstCount, busyVisit, evictOwn, stage1, stage2, stage3, stage4, stage5, stage6}
 use Rattle.pool.specs.Stages.{stage7, stage8, stage9, stage10, stage11, stage12, stage13, stage14, stage15, stage16, stage17}
 use Rattle.pool.specs.Stages.{stage18, stage19, stage20, stage21, stage22, stage23, stageMove}
 use Rattle.pool.specs.Valid.{numbersOk, frameOk, usedOk, stateOk, entryOk, grantOk, countsOk, namesOk, clientOk, valid}
@@ -28,7 +28,7 @@ unfolding
     choose both either scan howMany refusalOf within slot page pins count entryPage entryFrame client ofClient grantPage grantFrame
     maps entryOf lookup unusedEntry grantOf holds held names referenced firstTried freeFrame granted stored slotsAfter pagesAfter
     pinsAfter countsAfter entryPagesAfter entryFramesAfter handAfter freeAfter lastAfter grantPagesAfter grantFramesAfter apply
-    around advanced growth raised busyVisit evictOwn stage1 stage2 stage3 stage4 stage5 stage6 stage7 stage8 stage9 stage10 stage11
+    around advanced growth raised firstCount busyVisit evictOwn stage1 stage2 stage3 stage4 stage5 stage6 stage7 stage8 stage9 stage10 stage11
     stage12 stage13 stage14 stage15 stage16 stage17 stage18 stage19 stage20 stage21 stage22 stage23 stageMove numbersOk frameOk
     usedOk stateOk entryOk grantOk countsOk namesOk clientOk valid caller refusalAt refusal releaseMove moveOf finished callOf insert
     sorted pagesHeld rowsOf holdingsRefusal holdingsOf isFrame byte mark isFilled isChanged storeByte copied unmarked moved
@@ -55,5 +55,5 @@ table =
       untouched = (refl, refl, refl, refl, refl, refl, refl);
       check8 = (refl, refl, refl);
       holdings = (refl, refl);
-      runs = (refl, refl, refl, refl, refl, refl, refl, refl);
+      runs = (refl, refl, refl, refl, refl, refl, refl, refl, refl);
     }

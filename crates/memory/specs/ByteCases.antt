@@ -59,9 +59,9 @@ counting n = from 0 (pageBytes * n)
 abbrev pub sevens : ℕ → List ℕ
 sevens n = replicate n 7
 
--- S slots and T clients with count cap 3, set up with a store
+-- S slots and T clients, set up with a store. The count cap is 1, so that a sweep takes the first slot whose page nobody holds, an index page's too.
 abbrev pub setUp : ℕ → ℕ → List ℕ → State
-setUp s t store = setupOn s t 3 0 store .state
+setUp s t store = setupOn s t 1 0 store .state
 
 abbrev pub stateWith : Pool → Memory → List ℕ → State
 stateWith p m store = record { pool = p; memory = m; store = store }
@@ -290,6 +290,14 @@ revived =
     ∷ begins 1 1 (sweeps ++ 12 ∷ 11 ∷ 12 ∷ 13 ∷ 14 ∷ 15 ∷ 16 ∷ 17 ∷ []) ++ inStore 0 at 5 is 5
     ∷ goes 1 (18 ∷ []) ++ inStore 0 at 5 is 99 ∷ onPage 0 at 5 is 99 ∷ []
 
+-- With a cap of 3 the sweep for page 5 passes index page 3 by and evicts page 4. So page 4's byte goes to the store, and page 3's stays in its frame.
+abbrev pub indexWritten : Case
+indexWritten =
+    setupOn 2 1 3 0 (sevens 384) .state after
+    calls (admit 3) ++ WriteByte 0 3 5 99 ∷ calls (Release 0 3 ∷ admit 4) ++ WriteByte 0 4 5 98 ∷ calls (Release 0 4 ∷ Begin 0 5 ∷ steps 0 15) shows
+    inStore 3 at 5 is 7 ∷ inStore 4 at 5 is 98 ∷ frame at 3 is 0 ∷ frame at 4 is none ∷ begins 0 3 (2 ∷ 3 ∷ []) ++ step 0 gets Granted 0
+    ∷ reads 0 3 5 99 ∷ []
+
 -- A request that is refused by 15, with written page 0 held in the only slot, leaves bytes, marks and store.
 abbrev pub refusedBy15 : Case
 refusedBy15 =
@@ -498,5 +506,5 @@ pub record Proved : Type 0 where
       (holdingsOn (bufferPool bare) 0 (filler 2) ≡ listed (Done 1) (rowOf 9 1 ∷ filler 1))
       × (holdingsOn (bufferPool (markedBare 3 true false)) 0 (filler 2) ≡ listed (Refused 8) (filler 2))
   pub runs :
-      Holds fillAndRead × Holds writeAndRead × Holds droppedAndBack × Holds takenAnew × Holds revived × Holds refusedBy15 × Holds wrongStore
+      Holds fillAndRead × Holds writeAndRead × Holds droppedAndBack × Holds takenAnew × Holds revived × Holds indexWritten × Holds refusedBy15 × Holds wrongStore
       × Holds storeless

@@ -39,7 +39,7 @@ module _ (p : Pool) (k : Client) where
   pub data Puts (m : Move) : Type 0 where
     refuses : refused (m .answer) ≡ true → m .write ≡ Keep → Puts m
     keeps : T (apart (m .write)) → Elsewhere → Puts m
-    takes : k .stage ≡ 4 → m .write ≡ TakeFrame (freeFrame p) (k .page) (pinned 1) 1 → Puts m
+    takes : {n : ℕ} → k .stage ≡ 4 → m .write ≡ TakeFrame (freeFrame p) (k .page) (pinned 1) n → Puts m
     removes : k .stage ≡ 17 → lookup p (page p (k .victim)) ≡ k .victim
         → m .write ≡ PutEntry (entryOf p (page p (k .victim))) (page p (k .victim)) none → Puts m
     admits : k .stage ≡ 18 → (i : ℕ) → entryFrame p i ≡ none → m .write ≡ PutEntry i (k .page) (k .own) → Puts m

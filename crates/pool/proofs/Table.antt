@@ -9,7 +9,7 @@ use Rattle.pool.specs.Frames.{names, referenced, firstTried, freeFrame}
 use Rattle.pool.specs.Moves.{granted}
 use Rattle.pool.specs.Apply.{stored, slotsAfter, pagesAfter, pinsAfter, countsAfter, entryPagesAfter, entryFramesAfter, handAfter}
 use Rattle.pool.specs.Apply.{freeAfter, lastAfter, grantPagesAfter, grantFramesAfter, apply}
-use Rattle.pool.specs.Stages.{around, advanced, growth, raised, busyVisit, evictOwn, stage1, stage2, stage3, stage4, stage5, stage6}
+use Rattle.pool.specs.Stages.{around, advanced, growth, raised, firstCount, busyVisit, evictOwn, stage1, stage2, stage3, stage4, stage5, stage6}
 use Rattle.pool.specs.Stages.{stage7, stage8, stage9, stage10, stage11, stage12, stage13, stage14, stage15, stage16, stage17}
 use Rattle.pool.specs.Stages.{stage18, stage19, stage20, stage21, stage22, stage23, stageMove}
 use Rattle.pool.specs.Valid.{numbersOk, frameOk, usedOk, stateOk, entryOk, grantOk, countsOk, namesOk, clientOk, valid}
@@ -25,7 +25,7 @@ unfolding
     choose both either scan howMany codeOf valueOf refusalOf unreadOf within slot page pins count entryPage entryFrame client
     ofClient grantPage grantFrame maps entryOf lookup unusedEntry resident pagesInTable grantOf holds held names referenced
     firstTried freeFrame granted stored slotsAfter pagesAfter pinsAfter countsAfter entryPagesAfter entryFramesAfter handAfter
-    freeAfter lastAfter grantPagesAfter grantFramesAfter apply around advanced growth raised busyVisit evictOwn stage1 stage2
+    freeAfter lastAfter grantPagesAfter grantFramesAfter apply around advanced growth raised firstCount busyVisit evictOwn stage1 stage2
     stage3 stage4 stage5 stage6 stage7 stage8 stage9 stage10 stage11 stage12 stage13 stage14 stage15 stage16 stage17 stage18
     stage19 stage20 stage21 stage22 stage23 stageMove numbersOk frameOk usedOk stateOk entryOk grantOk countsOk namesOk clientOk
     valid setupOf caller refusalAt refusal releaseMove moveOf finished callOf poolAfter number cut marked content read lengthOf
@@ -39,8 +39,10 @@ table =
       refused-of-two = (refl, refl, refl);
       stalled = (refl, refl, refl);
       meanwhile = (refl, refl, refl, refl);
+      index-pages = (refl, refl, refl);
+      first-counts = (refl, refl, refl, refl, refl, refl, refl, refl);
       check8 = (refl, refl);
-      handed-calls = (refl, refl, refl, refl, refl, refl, refl, refl, refl, refl);
+      handed-calls = (refl, refl, refl, refl, refl, refl, refl, refl, refl);
       in-page-order = (refl, refl, refl, refl);
       list-kept = (refl, refl, refl, refl, refl);
       once = refl;

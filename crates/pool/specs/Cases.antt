@@ -353,6 +353,34 @@ foundRemoved =
     ∷ goes 1 (4 ∷ []) ++ own at 1 is none ∷ pins at 3 is evicted ∷ goes 1 (5 ∷ []) ++ own at 1 is 4
     ∷ goes 1 (10 ∷ 11 ∷ []) ++ start at 1 is 4 ∷ place at 1 is 0 ∷ pagesInTable is 0 ∷ []
 
+-- ---- index pages beside others
+
+-- A sweep meets index page 3 first, and yet the other page goes; and so with the next sweep. The third takes page 3.
+abbrev pub indexOutlives : Case
+indexOutlives =
+    setup 2 1 3 0 after admitAndRelease 3 ++ admitAndRelease 4 takes 15 counts
+    Drop by 17 ∷ Admitted by 18 ∷ Drop by 17 ∷ Admitted by 18 ∷ Drop by 17 ∷ Admitted by 18 ∷ [] shows
+    count at 0 is 3 ∷ count at 1 is 1 ∷ asks 0 5 (sweeps ++ 12 ∷ 13 ∷ 11 ∷ evicts) (Granted 2) ++ Release 0 5 gets Done 5 ∷ count at 0 is 2 ∷ lookup at 4 is none
+    ∷ asks 0 6 (sweeps ++ 12 ∷ 13 ∷ 11 ∷ evicts) (Granted 3) ++ Release 0 6 gets Done 6 ∷ count at 0 is 1 ∷ lookup at 3 is 0 ∷ lookup at 5 is none
+    ∷ asks 0 7 (sweeps ++ evicts) (Granted 1) ++ lookup at 3 is none ∷ lookup at 6 is 3 ∷ []
+
+-- Page 4 was had again, so that both pages have the count 2, and client 0 evicts index page 3 on its second lap.
+abbrev pub indexEvicted : List Call
+indexEvicted = admitAndRelease 3 ++ admitAndRelease 4 ++ hitAndRelease 4 ++ Begin 0 7 ∷ steps 0 16
+
+-- Client 1 has taken a frame for page 3 when client 0's 17 removes the page. It goes from 23 to 4 and takes another, which has the first count again.
+abbrev pub indexAnew : Case
+indexAnew =
+    setup 2 2 2 0 after indexEvicted takes 18 counts Drop by 17 ∷ Drop by 17 ∷ [] shows
+    begins 1 3 (2 ∷ 4 ∷ 5 ∷ []) ++ own at 1 is 3 ∷ count at 3 is 2 ∷ goes 1 (10 ∷ 11 ∷ evicts ++ 19 ∷ 22 ∷ []) ++ goes 0 (18 ∷ [])
+    ++ goes 1 (23 ∷ 4 ∷ 5 ∷ []) ++ own at 1 is 4 ∷ count at 4 is 2 ∷ []
+
+-- The same without that removal: page 3 is mapped to the frame at 22, whose count is the one that it had since 4.
+abbrev pub indexRevived : Case
+indexRevived =
+    setup 2 2 2 0 after indexEvicted takes 15 counts Drop by 17 ∷ Revived by 22 ∷ [] shows
+    asks 1 3 (2 ∷ sweeps ++ evicts ++ 19 ∷ 22 ∷ []) (Granted 3) ++ count at 3 is 2 ∷ []
+
 -- ---- what a case comes to
 
 -- the lines with the answers and values that a pool gives, and what its calls count
@@ -525,9 +553,11 @@ ownPinnedTwice =
     handed (standing (withFound (withOwn (resting 0) 0) 1) 20) Same (PutPins 0 (pinned 2)) plays
     Step 0 gets Working 21 ∷ pins at 0 is pinned 2 ∷ own at 0 is none ∷ []
 
--- A frame that is taken again has count 1, whatever its count was.
-abbrev pub takenAgain : HandedCase
-takenAgain = handed (standing (resting 0) 4) Same (PutCount 0 3) plays Step 0 gets Working 5 ∷ own at 0 is 0 ∷ count at 0 is 1 ∷ []
+-- SPECIFICATION 4.31: where the count cap is C, frame 0 is taken for page g and has the count n then, though it had the count C.
+abbrev pub takenFor : ℕ → ℕ → ℕ → HandedCase
+takenFor g c n =
+    handedOn (fresh 2 1 c 0) (standing (wanting (resting 0) g) 4) Same (PutCount 0 c) plays
+    Step 0 gets Working 5 ∷ own at 0 is 0 ∷ count at 0 is n ∷ []
 
 -- The search starts after frame 2, at 3, which slot 0 names, and goes round the end to 0.
 abbrev pub searchedRound : HandedCase
@@ -635,9 +665,13 @@ pub record Proved : Type 0 where
   pub refused-of-two : Holds claimedSlot × Holds threeBusy × Holds midLap
   pub stalled : Holds fillRound × Holds stalledVictim × Holds stalledFound
   pub meanwhile : Holds pinnedMeanwhile × Holds evictedMeanwhile × Holds swappedMeanwhile × Holds foundRemoved
+  pub index-pages : Holds indexOutlives × Holds indexAnew × Holds indexRevived
+  pub first-counts :
+      Plays (takenFor 3 1 1) × Plays (takenFor 3 2 2) × Plays (takenFor 3 3 3) × Plays (takenFor 3 100 3) × Plays (takenFor 0 100 3)
+      × Plays (takenFor 4 1 1) × Plays (takenFor 4 100 1) × Plays (takenFor 4294967295 100 1)
   pub check8 : Check8 sound true × Check8 broken false
   pub handed-calls :
-      Plays fullyPinned × Plays holdsWanted × Plays ownPinnedTwice × Plays takenAgain × Plays searchedRound × Plays joinRaises × Plays onlyEvicted × Plays dropped
+      Plays fullyPinned × Plays holdsWanted × Plays ownPinnedTwice × Plays searchedRound × Plays joinRaises × Plays onlyEvicted × Plays dropped
       × Plays notReplaced × Plays notRemoved
   pub in-page-order :
       Lists outOfOrder 0 (filler 4) (Done 3) (risen ++ filler 1) × Lists outOfOrder 0 (filler 3) (Done 3) risen

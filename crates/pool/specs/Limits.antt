@@ -1,4 +1,4 @@
--- The largest pool. Each limit has a name here; the code's constant of that name has the same number. Assumes nothing.
+-- The largest pool, and the index pages. Each number has a name here; the code's constant of that name is the same. Assumes nothing.
 use Prim.Native.Nat.{ℕ, _+_, _*_}
 
 -- SPECIFICATION 1.1: the most slots, the most clients, the highest count cap
@@ -18,6 +18,13 @@ maxHeld = 8
 -- SPECIFICATION 5.3: the most pins that check 8 lets a frame have; in a run there are at most as many as clients
 abbrev pub maxPins : ℕ
 maxPins = maxClients * maxHeld
+
+-- SPECIFICATION 4.31: the index is as many pages, from page 0 on; the count that they start with, where the cap allows it
+abbrev pub indexPages : ℕ
+indexPages = 4
+
+abbrev pub indexCount : ℕ
+indexCount = 3
 
 -- how many frames, and places of the table, and how many grants the largest pool has
 abbrev pub maxFrames : ℕ

@@ -4,6 +4,7 @@ use mathlib.Core.List.{List, [], _∷_}
 use Prim.Native.Nat.{ℕ, _+_, _-_, _%_}
 use lib.Dec.{eqb, ltb}
 use lib.ListN.{getD}
+use Rattle.pool.specs.Limits.{indexPages, indexCount}
 use Rattle.pool.specs.Choose.{choose}
 use Rattle.pool.specs.State.{none, evicted, pinned, slot, page, pins, count}
 use Rattle.pool.specs.Table.{entryOf, lookup, unusedEntry}
@@ -34,6 +35,10 @@ growth size i s = choose (ltb i s) (i + size + 1 - s) (i + 1 - s)
 -- SPECIFICATION 4.26: a count after it was raised
 unfoldable pub raised : ℕ → ℕ → ℕ
 raised cap n = choose (ltb n cap) (n + 1) n
+
+-- SPECIFICATION 4.31: the count that a frame starts with, which is taken for page g
+unfoldable pub firstCount : ℕ → ℕ → ℕ
+firstCount cap g = choose (ltb g indexPages) (choose (ltb cap indexCount) cap indexCount) 1
 
 -- ---- what several stages share
 
@@ -75,9 +80,13 @@ module _ (k : Client) where
   unfoldable pub stage3 : ℕ → ℕ → Move
   stage3 cap n = grantedFound cap n Hit
 
+  -- SPECIFICATION 4.31: frame f is taken for the page, and starts with its first count
+  abbrev pub taking : ℕ → ℕ → Move
+  taking cap f = works (withOwn k f) 5 (TakeFrame f (k .page) (pinned 1) (firstCount cap (k .page)))
+
   -- stage 4: take a frame. SPECIFICATION 4.30: there may be none.
-  unfoldable pub stage4 : ℕ → Move
-  stage4 f = choose (eqb f none) (stuck k) (works (withOwn k f) 5 (TakeFrame f (k .page) (pinned 1) 1))
+  unfoldable pub stage4 : ℕ → ℕ → Move
+  stage4 cap f = choose (eqb f none) (stuck k) (taking cap f)
 
   -- stage 5: read free
   unfoldable pub stage5 : ℕ → Move
@@ -179,7 +188,7 @@ stages =
     ∷ (λ p k. stage1 k (lookup p (k .page)))
     ∷ (λ p k. stage2 k (pins p (k .found)))
     ∷ (λ p k. stage3 k (p .cap) (count p (k .found)))
-    ∷ (λ p k. stage4 k (freeFrame p))
+    ∷ (λ p k. stage4 k (p .cap) (freeFrame p))
     ∷ (λ p k. stage5 k (p .free))
     ∷ (λ p k. stage6 k (p .free))
     ∷ (λ p k. stage7 k (p .hand) (p .size))

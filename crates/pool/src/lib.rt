@@ -25,6 +25,11 @@ pub const MAX_HELD: u8 = 8;
 
 pub const MAX_PINS: u8 = NO_PIN + MAX_CLIENTS * MAX_HELD;
 
+// SPECIFICATION 4.31: the index is as many pages, from page 0 on; the count that they start with, where C allows it.
+pub const INDEX_PAGES: u32 = 4;
+
+pub const INDEX_COUNT: u8 = 3;
+
 // How long the arrays are, by what they are over. HELD is one client's part of the grants.
 pub const SLOTS: usize = MAX_SIZE as usize;
 

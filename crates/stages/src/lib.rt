@@ -4,12 +4,14 @@ ghost use mathlib.Core.Path.{_≡_};
 ghost use Prim.Native.Nat.{_%_, _<_, _≤_};
 ghost use Rattle.pool.specs.Limits.{maxSize, maxPins};
 ghost use Rattle.pool.specs.State.{pinned};
-ghost use Rattle.pool.specs.Stages.{growth};
+ghost use Rattle.pool.specs.Stages.{growth, firstCount};
 ghost use Rattle.pool.specs.Stages.{stage1, stage2, stage3, stage4, stage5, stage6, stage7, stage8, stage9, stage10, stage11, stage12};
 ghost use Rattle.pool.specs.Stages.{stage13, stage14, stage15, stage16, stage17, stage18, stage19, stage20, stage21, stage22, stage23};
 use pool::Client;
 use pool::Counted;
 use pool::EVICTED;
+use pool::INDEX_COUNT;
+use pool::INDEX_PAGES;
 use pool::Move;
 use pool::NO_PIN;
 use pool::NONE;
@@ -36,6 +38,16 @@ fn growth(size: u32, i: u32, s: u32) -> u32
         return i + size + 1 - s;
     }
     i + 1 - s
+}
+
+// SPECIFICATION 4.31.
+fn first_count(cap: u8, page: u32) -> u8
+    ensures { λ r. ⌜ r ≡ firstCount cap page ⌝ }
+{
+    if page < INDEX_PAGES {
+        return if cap < INDEX_COUNT { cap } else { INDEX_COUNT };
+    }
+    1
 }
 
 // ---- the stages
@@ -73,15 +85,20 @@ pub fn stage3(client: Client, cap: u8, count: u8) -> Move
 }
 
 // Three numbers are set in one action: nobody else names the frame yet, so nobody could see it half set.
-pub fn stage4(client: Client, fresh: u8) -> Move
-    ensures { λ r. ⌜ r ≡ stage4 client fresh ⌝ }
+pub fn stage4(client: Client, cap: u8, fresh: u8) -> Move
+    ensures { λ r. ⌜ r ≡ stage4 client cap fresh ⌝ }
 {
     if fresh == NONE {
         return moves::stuck(client);
     }
     let mut next = client;
     next.own = fresh;
-    moves::works(next, 5, Write::TakeFrame(fresh, client.page, ONE_PIN, 1))
+    let count = first_count(cap, client.page);
+    moves::works(
+        next,
+        5,
+        Write::TakeFrame(fresh, client.page, ONE_PIN, count),
+    )
 }
 
 // Free never rises: once it is 0, a slot is had only by a sweep.

@@ -34,8 +34,10 @@ pub use pool::Row;
 pub use pool::Tally;
 pub use step::Answered;
 
-// ---- the largest pool, and the number that names no frame
+// ---- the largest pool, the index pages, and the number that names no frame
 pub use pool::HELD;
+pub use pool::INDEX_COUNT;
+pub use pool::INDEX_PAGES;
 pub use pool::MAX_CAP;
 pub use pool::MAX_CLIENTS;
 pub use pool::MAX_HELD;

@@ -268,7 +268,7 @@ fn short_of(run: Run, client: u8, stage: u32) -> Run {
 // A begin, and steps until the client stands at the stage, is granted or is refused.
 fn requested_to(run: Run, client: u8, page: u32, stage: u32) -> Run {
     let mut now = played(run, Call::Begin(client, page));
-    for i in 0u32..40 {
+    for i in 0u32..60 {
         now = short_of(now, client, stage);
     }
     now
@@ -280,7 +280,8 @@ fn requested(run: Run, client: u8, page: u32) -> Run {
 
 // ---- the parts
 
-// Eight grants are given, and the next begin is refused by 12. Then one grant ends, and the ninth page takes its slot.
+// Eight grants are given, and the next begin is refused by 12. Then one grant ends, that of an index page, and the ninth page takes its slot when the
+// sweep comes by for the third time.
 fn nine_grants() {
     let mut run = started(8, 1, 3, 0);
     for page in 1u32..10 {
@@ -312,7 +313,7 @@ fn next_seed(seed: u32) -> u32 {
 }
 
 // The call that a number of the sequence says: of 16, three begin, two release and the others step. Client 3, which is T, comes up once in 16. Pages
-// are 0 to 5.
+// are 0 to 5, of which the first four are index pages.
 fn call_by(seed: u32) -> Call {
     let client = (seed / 65536 % 16 / 5) as u8;
     let kind = seed / 1048576 % 16;

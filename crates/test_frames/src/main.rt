@@ -38,8 +38,8 @@ fn print_taken(state: State, page: u32) {
 }
 
 fn main() {
-    // No page is requested twice, so that every count is 1: a sweep evicts the first frame that it meets and that is not held.
-    let mut state = set_up(64, 16, 100, 0);
+    // With C 1 every count is 1 or 0, an index page's too: a sweep evicts the first frame that it meets and that is not held.
+    let mut state = set_up(64, 16, 1, 0);
 
     // Each page takes the frame of its own number: the one after the last, and never taken before. Page 94 is kept.
     state = visits(state, 0, 94);

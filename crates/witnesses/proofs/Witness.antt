@@ -16,7 +16,7 @@ use Rattle.pool.specs.Frames.{names, referenced, firstTried, freeFrame}
 use Rattle.pool.specs.Moves.{granted}
 use Rattle.pool.specs.Apply.{stored, slotsAfter, pagesAfter, pinsAfter, countsAfter, entryPagesAfter, entryFramesAfter, handAfter, freeAfter, lastAfter}
 use Rattle.pool.specs.Apply.{grantPagesAfter, grantFramesAfter, apply}
-use Rattle.pool.specs.Stages.{around, advanced, growth, raised, busyVisit, evictOwn, stage1, stage2, stage3, stage4, stage5, stage6, stage7, stage8, stage9}
+use Rattle.pool.specs.Stages.{around, advanced, growth, raised, firstCount, busyVisit, evictOwn, stage1, stage2, stage3, stage4, stage5, stage6, stage7, stage8, stage9}
 use Rattle.pool.specs.Stages.{stage10, stage11, stage12, stage13, stage14, stage15, stage16, stage17, stage18, stage19, stage20, stage21, stage22, stage23}
 use Rattle.pool.specs.Stages.{stageMove}
 use Rattle.pool.specs.Valid.{numbersOk, frameOk, usedOk, stateOk, entryOk, grantOk, countsOk, namesOk, clientOk, valid}
@@ -37,7 +37,7 @@ unfolding choose both either scan howMany refusalOf within slot page pins count 
     maps entryOf lookup unusedEntry grantOf holds held names referenced firstTried freeFrame granted
     stored slotsAfter pagesAfter pinsAfter countsAfter entryPagesAfter entryFramesAfter handAfter freeAfter lastAfter grantPagesAfter
     grantFramesAfter apply
-    around advanced growth raised busyVisit evictOwn stage1 stage2 stage3 stage4 stage5 stage6 stage7 stage8 stage9 stage10 stage11 stage12
+    around advanced growth raised firstCount busyVisit evictOwn stage1 stage2 stage3 stage4 stage5 stage6 stage7 stage8 stage9 stage10 stage11 stage12
     stage13 stage14 stage15 stage16 stage17 stage18 stage19 stage20 stage21 stage22 stage23 stageMove
     numbersOk frameOk usedOk stateOk entryOk grantOk countsOk namesOk clientOk valid
     setupOf caller refusalAt refusal releaseMove moveOf finished callOf poolAfter events At takesEffect
@@ -50,9 +50,9 @@ pub accepted : SetUp first
 unfolding computing
 accepted = set-up 1 1 3 0 refl
 
--- page 9 is admitted and released, and page 5 takes its slot: event 18 is the stage 14, event 19 the stage 15, event 22 the answer
+-- page 9 is admitted and released, and index page 3 takes its slot: event 18 is the stage 14, event 19 the stage 15, event 22 the answer
 abbrev pub swap-run : List Event
-swap-run = events first (admitAndRelease 9 ++ Begin 0 5 ∷ steps 0 12)
+swap-run = events first (admitAndRelease 9 ++ Begin 0 3 ∷ steps 0 12)
 
 -- page 9 is granted at event 8 and released at event 9
 pub told : At (GrantedTo 0) swap-run 8

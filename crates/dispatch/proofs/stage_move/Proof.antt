@@ -2,8 +2,7 @@
 -- row's move: the rows below are those of `stages`, one for each return. Assumes nothing.
 use borrow.Author.Needs.{needs}
 use native.Mathlib.Omega.{arith}
-use mathlib.Core.Path.{_∙_, ap}
-use Rattle.pool.specs.Stages.{stage4}
+use mathlib.Core.Path.{_∙_}
 use Rattle.pool.specs.Table.{lookup}
 use Rattle.dispatch.specs.Lent.{at-stage, no-stage, lent-slot, lent-page, lent-pins, lent-count, lent-entry, lent-mapped, lent-unused}
 use Rattle.dispatch.proofs.stage_move.Statement.{statement}
@@ -31,7 +30,7 @@ stage-move-spec =
     (λ c p l f. at-stage p _ 1 (c .before .before .match .keys1) (c .stage1 .ensures ∙ simp (c .before .lookup .ensures, lent-entry l, lent-mapped l)))
     (λ c p l f. at-stage p _ 2 (c .before .before .match .keys2) (c .stage2 .ensures ∙ simp (c .before .byte-at .ensures, lent-pins l)))
     (λ c p l f. at-stage p _ 3 (c .before .before .match .keys3) (c .stage3 .ensures ∙ simp (c .before .byte-at2 .ensures, lent-count l, l .cap)))
-    (λ c p l f. let four = c .before .match .keys4 in at-stage p _ 4 four (c .stage4 .ensures ∙ ap (stage4 (c .before .before .args .client)) (f four)))
+    (λ c p l f. let four = c .before .match .keys4 in at-stage p _ 4 four (c .stage4 .ensures ∙ simp (f four, l .cap)))
     (λ c p l f. at-stage p _ 5 (c .before .match .keys5) (c .stage5 .ensures ∙ simp (l .free)))
     (λ c p l f. at-stage p _ 6 (c .before .match .keys6) (c .stage6 .ensures ∙ simp (l .free)))
     (λ c p l f. at-stage p _ 7 (c .before .match .keys7) (c .stage7 .ensures ∙ simp (l .hand, l .size)))

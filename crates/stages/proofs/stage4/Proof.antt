@@ -1,4 +1,4 @@
--- The code and `stage4` test the same numbers in the same order, and each call ensures that branch of the definition. Assumes nothing.
+-- The code and `stage4` make one choice, and each call ensures its branch of the definition; the count is what `first_count` ensures. Assumes nothing.
 use borrow.Author.Needs.{needs}
 use mathlib.Core.Path.{_∙_}
 use Rattle.pool.specs.Choose.{choose}
@@ -13,7 +13,7 @@ returns c = c .stuck .ensures ∙ search tests
 
 returns-2 : tie.Need-returns-2
 unfolding stage4 choose
-returns-2 c = c .works .ensures ∙ search tests
+returns-2 c = c .works .ensures ∙ rw (c .before .first-count .ensures) (search tests)
 
 pub stage4-spec : {M : Type 1} → statement M
-stage4-spec = tie.close (tie.spec (λ c κs. search needs) returns (λ c κs. search needs) returns-2)
+stage4-spec = tie.close (tie.spec (λ c κs. search needs) returns (λ c κs. search needs) (λ c κs. search needs) returns-2)
