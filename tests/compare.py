@@ -69,8 +69,11 @@ def padded(length):
 
 
 def hand_wraps():
-    """A sweep that starts below 2**32 and ends above it, S no power of 2."""
-    pages = b"".join(visit(0, page, 12) for page in range(12))
+    """A sweep that starts below 2**32 and ends above it, S no power of 2.
+
+    There are no index pages, so that the first visit of a sweep evicts.
+    """
+    pages = b"".join(visit(0, page, 12) for page in range(4, 16))
     return generate.setup_record(3, 2, 2, 2**32 - 5) + pages
 
 
@@ -134,6 +137,80 @@ def most_references():
     return bytes(script.data)
 
 
+def visits(script, client, page):
+    """The times that a client's sweep for a page lowers a count."""
+    before = len(report(script.data))
+    script.fix(client, page)
+    must_be(page in script.held(client), True, "that page %d is granted" % page)
+    return report(script.data)[before:].count(b" %d 1 13\n" % client)
+
+
+def first_count(page, cap, count):
+    """A page alone in its pool: the sweep for another one tells the count that it started with."""
+    script = generate.Script(1, 1, cap, 0)
+    script.fix(0, page)
+    script.release(0, page)
+    must_be(visits(script, 0, 9), count, "the count")
+    return bytes(script.data)
+
+
+# A page, the cap and the page's first count. The last page would be page 3 if its highest byte were left out.
+FIRST_COUNTS = ((3, 1, 1), (3, 2, 2), (3, 3, 3), (3, 100, 3), (0, 100, 3), (4, 100, 1), (2**24 + 3, 100, 1))
+
+
+def index_outlives():
+    """A sweep meets page 3 and then page 4: it evicts page 4, and page 3 is still there for a hit."""
+    script = generate.Script(2, 1, 100, 0)
+    for page in (3, 4):
+        script.fix(0, page)
+        script.release(0, page)
+    must_be(visits(script, 0, 9), 2, "the visits")
+    must_be(sorted(script.pool.cache.HASHTBL), [3, 9], "the pages that are there")
+    script.release(0, 9)
+    for page in (3, 4):
+        script.fix(0, page)
+    must_be(script.held(0), [3, 4], "the held pages")
+    return bytes(script.data)
+
+
+def index_revived():
+    """Page 3 is evicted and revived at 22; it goes at the third visit after that."""
+    script = generate.Script(2, 2, 100, 0)
+    script.fix(0, 3)
+    script.release(0, 3)
+    script.fix(1, 9)
+    script.begin(0, 5)
+    script.until(0, 17)
+    script.release(1, 9)
+    script.begin(1, 3)
+    script.until(1, 22)
+    script.step(1)
+    must_be(script.held(1), [3], "what client 1 holds after 22")
+    script.finish(0)
+    script.release(1, 3)
+    must_be(visits(script, 1, 7), 3, "the visits")
+    return bytes(script.data)
+
+
+def index_taken_anew():
+    """A frame is taken for page 3, given up at 23 and taken anew; the page goes at the third visit after that."""
+    script = generate.Script(2, 2, 100, 0)
+    script.begin(1, 3)
+    script.until(1, 18)
+    script.fix(0, 3)
+    script.release(0, 3)
+    script.begin(0, 9)
+    script.until(0, 17)
+    script.until(1, 22)
+    script.finish(0)
+    script.until(1, 23)
+    must_be(script.clients[1].stage, 23, "the stage of client 1")
+    script.finish(1)
+    script.release(1, 3)
+    must_be(visits(script, 1, 5), 3, "the visits")
+    return bytes(script.data)
+
+
 def edge_files():
     """Names and bytes of files that random ones would rarely be."""
     yield "empty", b""
@@ -146,6 +223,11 @@ def edge_files():
     yield "frames go round", frames_go_round()
     yield "16 pins and 128 grants", most_pins()
     yield "count 100", most_references()
+    for page, cap, count in FIRST_COUNTS:
+        yield "page %d with cap %d" % (page, cap), first_count(page, cap, count)
+    yield "index page outlives another", index_outlives()
+    yield "index page revived", index_revived()
+    yield "index page taken anew", index_taken_anew()
 
 
 def generated(count):

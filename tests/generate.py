@@ -8,9 +8,10 @@ The first form writes one schedule file to standard output. SEED is a whole
 number from 0 on; the same seed always gives the same bytes.
 
 The second form makes the files of the seeds FIRST to LAST, plays each with
-second.py and prints how often each edge between stages was taken and how
-often each refusal and each ending was met, and by how many files. Its exit
-status is 1 if any of them is missing. Seeds 0 to 59 together miss none.
+second.py and prints how often each edge between stages was taken, how often
+each refusal and each ending was met and what became of index pages and of
+others, and by how many files. Its exit status is 1 if any of them is missing.
+Seeds 0 to 59 together miss none.
 
 What kind of file a seed gives goes by a fixed rotation of 60 (ROTATION), so
 that the rare kinds come up regularly; all else is drawn from the seed.
@@ -28,6 +29,8 @@ import second  # noqa: E402 (after the line above, or it comes too late)
 LONGEST_FILE = second.LONGEST_FILE
 MOST_CALLS = 2046  # the most whole records of 8 bytes after a setup
 LARGEST = 2**32 - 1  # of a page or a hand
+INDEX = second.INDEX_PAGES
+ENDS = (INDEX[0], INDEX[-1], INDEX[-1] + 1, LARGEST)  # of both sorts of page
 
 
 class Dice(random.Random):
@@ -140,6 +143,9 @@ def draw_cap(dice):
     return dice.pick((1, 1, 2, 2, 3, 3, 4))
 
 
+CAPS = (1, 2, 3, 4, 100)  # below, at and above what an index page starts with
+
+
 def draw_hand(dice):
     """Every other one so high that the hand soon goes round to 0."""
     if dice.chance(1, 2):
@@ -149,14 +155,14 @@ def draw_hand(dice):
 
 
 def draw_pages(dice, count):
-    """So many different pages, now and then with the two at the ends."""
+    """So many different pages, now and then with those of ENDS."""
     pages = []
     far = dice.chance(1, 4)
     while len(pages) < count:
         page = dice.below(LARGEST + 1) if far else dice.below(3 * count + 3)
         if page not in pages:
             pages.append(page)
-    for page in (0, LARGEST):
+    for page in ENDS:
         if dice.chance(1, 3) and page not in pages:
             pages[dice.below(count)] = page
     return pages
@@ -200,6 +206,9 @@ def bursts(dice, clients):
         client = dice.below(clients)
         for _ in range(dice.between(2, 25)):
             yield client
+
+
+ORDERS = (round_robin, anyone, one_stalled, bursts)
 
 
 # Calls by the turn.
@@ -256,8 +265,7 @@ def play(dice, script, order, calls, pages=None, greed=None, percent=None):
 
 def play_on(dice, script):
     """A short random end for a scripted file."""
-    order = dice.pick((round_robin, anyone, one_stalled, bursts))
-    play(dice, script, order, dice.between(0, 80))
+    play(dice, script, dice.pick(ORDERS), dice.between(0, 80))
     return bytes(script.data)
 
 
@@ -278,9 +286,17 @@ def crowd(dice, order):
     or replaced while someone stands between two stages.
     """
     script = draw_script(dice, slots=dice.between(1, 4),
-                         clients=dice.between(3, 16), cap=dice.between(1, 2))
+                         clients=dice.between(3, 16), cap=dice.between(1, 4))
     pages = draw_pages(dice, script.slots + dice.between(1, 2))
     play(dice, script, order, dice.between(150, 400), pages, greed=0)
+    return bytes(script.data)
+
+
+def both_sorts(dice):
+    """Index pages and as many others drive one another out of few slots."""
+    script = draw_script(dice, slots=dice.between(2, 5), cap=dice.pick(CAPS))
+    play(dice, script, dice.pick(ORDERS), dice.between(150, 400),
+         range(2 * len(INDEX)), greed=dice.pick((0, 2)))
     return bytes(script.data)
 
 
@@ -323,14 +339,18 @@ def hand_goes_round(dice):
 
 
 def fill(dice, script, spare):
-    """Fill all slots with pages nobody holds, each with a count of 1.
+    """Fill all slots with pages nobody holds, all with the same count.
 
+    Beside an index page the others are asked for until they have its count.
     Gives a list of pages: so many spare ones and then those in the slots.
     """
     pages = draw_pages(dice, spare + script.slots)
+    index = any(page in INDEX for page in pages[spare:])
     for page in pages[spare:]:
-        script.fix(0, page)
-        script.release(0, page)
+        times = second.INDEX_COUNT if index and page not in INDEX else 1
+        for _ in range(times):
+            script.fix(0, page)
+            script.release(0, page)
     return pages
 
 
@@ -460,6 +480,51 @@ def removed_first(dice):
     script.step(0)
     script.until(1, dice.pick((23, 4, None)))
     script.finish(0)
+    return play_on(dice, script)
+
+
+def drive_out(script, page):
+    """Client 0 asks for other pages until it has evicted this one (at 17)."""
+    table, me = script.pool.cache.HASHTBL, script.clients[0]
+    while script.room() and (me.removed is None
+                             or table.get(page) is not me.removed):
+        end_visit(script, 0)
+        script.begin(0, next(other for other in range(100, 200)
+                             if other not in table))
+        script.until(0, 17)
+
+
+def end_visit(script, client):
+    """A request comes to its end, and all its client holds is given back."""
+    script.finish(client)
+    for page in script.held(client):
+        script.release(client, page)
+
+
+def taken_anew(dice):
+    """Client 1 wants an index page, and another, that client 0 has evicted
+    and is about to remove. Once it maps the page anew (22, granted), once the
+    page is removed before (22 to 23) and it takes a frame anew (4).
+
+    Each time the page is driven out again, and how long that takes shows the
+    count that it had.
+    """
+    script = draw_script(dice, slots=dice.between(2, 3),
+                         clients=dice.between(2, 4), cap=dice.pick(CAPS))
+    for page in (dice.pick(INDEX), dice.pick(ENDS[2:])):
+        script.fix(1, page)
+        for first in (1, 0):
+            end_visit(script, 1)
+            drive_out(script, page)
+            script.begin(1, page)
+            script.until(1, 22)
+            script.step(first)
+            script.finish(1 - first)
+            script.finish(first)
+            end_visit(script, 0)
+        end_visit(script, 1)
+        drive_out(script, page)
+        end_visit(script, 0)
     return play_on(dice, script)
 
 
@@ -825,9 +890,9 @@ ROTATION = (
     (promised_slots, 4),
     (bad_setup, CAP_AT, (0,)),
     (mixed, anyone, 60, 300),
-    (all_held,),
+    (taken_anew,),
     (cut_second_setup,),
-    (silly,),
+    (both_sorts,),
     (eight_grants,),
     (bad_setup, CAP_AT, (101, 102, 128, 255)),
     (crowd, bursts),
@@ -910,6 +975,14 @@ TURNED_DOWN = (
     "18 begin of a page held",
     "18 begin of a page others hold, too",
 )
+
+SORTS = tuple(what % sort for what in (
+    *("4 %%s, C %s" % cap for cap in ("1", "2", "3", "4", "above 4")),
+    "4 %s, after 23",
+    "14 %s evicted",
+    "14 %s evicted, both in slots",
+    "22 %s revived",
+) for sort in ("index page", "other page"))
 
 
 def record_at(schedule, number):
@@ -1015,6 +1088,64 @@ def turned_down(schedule, report):
             holders[page].remove(client)
 
 
+def sort_of(page):
+    return "index page" if page in INDEX else "other page"
+
+
+class Sorts:
+    """What the steps of a pool do to both sorts of page, in the words of
+    SORTS."""
+
+    def __init__(self, pool):
+        cap = pool.cache.frames[0].cap
+        self.pool, self.cap = pool, cap if cap <= 4 else "above 4"
+        self.anew = set()  # clients that come from 23
+
+    def before(self, number):
+        """Look at a client that is there and is about to be stepped."""
+        client = self.pool.clients[number]
+        self.number, self.stage = number, client.stage
+        self.sort = sort_of(client.e.key if client.e else client.page)
+        self.slots = {sort_of(frame.key)
+                      for frame in self.pool.cache.CLOCKBUF.POOL
+                      if frame and frame.pinning >= 0}
+
+    def after(self, code, value):
+        """What that step did, by its answer."""
+        if code > second.REFUSAL:
+            return
+        if self.stage == 4:
+            yield "4 %s, C %s" % (self.sort, self.cap)
+            if self.number in self.anew:
+                yield "4 %s, after 23" % self.sort
+            self.anew.discard(self.number)
+        elif self.stage == 14 and value == 15:
+            yield "14 %s evicted" % self.sort
+            if len(self.slots) == 2:
+                yield "14 %s evicted, both in slots" % self.sort
+        elif self.stage == 22 and code == second.GRANTED:
+            yield "22 %s revived" % self.sort
+        elif self.stage == 23:
+            self.anew.add(self.number)
+
+
+def sorts_met(schedule, records):
+    """What a run does to both sorts of page."""
+    if records == 0:
+        return
+    pool = second.Pool(*second.readRecord(schedule[:10], True)[1:])
+    sorts = Sorts(pool)
+    for number in range(1, records):
+        kind, client, page = second.readRecord(
+            record_at(schedule, number)[:10], False)
+        stepped = kind == second.STEP and client < len(pool.clients)
+        if stepped:
+            sorts.before(client)
+        answer = second.call(pool, kind, client, page)
+        if stepped:
+            yield from sorts.after(*answer)
+
+
 class Count:
     """How often things were met, and in how many files."""
 
@@ -1046,6 +1177,7 @@ def edge_name(edge):
 def cover(first, last):
     """Print what the files of the seeds take; the exit status."""
     edges, endings, refusals = Count(EDGES), Count(ENDINGS), Count(TURNED_DOWN)
+    sorts = Count(SORTS)
     files = size = high_hands = 0
     for seed in range(first, last + 1):
         schedule = generate(seed)
@@ -1053,6 +1185,7 @@ def cover(first, last):
         edges.add_file(edges_taken(report))
         endings.add_file(endings_met(schedule, records, refusal))
         refusals.add_file(turned_down(schedule, report))
+        sorts.add_file(sorts_met(schedule, records))
         files += 1
         size += len(schedule)
         if records > 0:
@@ -1067,13 +1200,15 @@ def cover(first, last):
     endings.show()
     print("\nrefusals after which a run goes on")
     refusals.show()
+    print("\nboth sorts of page")
+    sorts.show()
     print()
     missing = (["edge " + name for name in edges.missing(edge_name)]
-               + endings.missing() + refusals.missing())
+               + endings.missing() + refusals.missing() + sorts.missing())
     if missing:
         print("missing: " + "; ".join(missing))
         return 1
-    print("all %d edges and all endings taken" % len(EDGES))
+    print("all %d edges, all endings and both sorts of page met" % len(EDGES))
     return 0
 
 

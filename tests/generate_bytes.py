@@ -18,7 +18,8 @@ import sys
 
 sys.dont_write_bytecode = True  # leave no compiled files beside the sources
 
-from generate import LARGEST, Dice  # noqa: E402
+from generate import (CAPS, INDEX, LARGEST, SORTS, Dice,  # noqa: E402
+                      Sorts)
 from second_store import (MOST_GRANTS, NUMBERS, PAGE, SPACE,  # noqa: E402
                           Player, Tally, place, readScript)
 
@@ -43,14 +44,17 @@ class Script:
         self.length = PAGE * pages
         self.player = Player()
         self.do("setup", self.slots, clients or dice.between(2, 4),
-                dice.pick((1, 2, 2, 3)),
+                dice.pick(CAPS),
                 dice.pick((0, dice.below(9), LARGEST - dice.below(6))),
                 self.length)
         if dice.chance(1, 5):
             self.do("tally", LARGEST - dice.below(2))
         self.clients = self.player.pool.clients
         few = min(self.slots, 8) + dice.between(2, 3)
-        first = dice.below(max(pages - few, 0) + 1)
+        last = max(pages - few, 0)
+        if dice.chance(1, 2):  # so that there are index pages
+            last = min(last, INDEX[-1])
+        first = dice.below(last + 1)
         self.pages = list(range(first, first + min(few, pages or few)))
         if pages == 0 and dice.chance(1, 2):
             self.pages[0] = LARGEST
@@ -420,6 +424,7 @@ PATHS = (
     *("a list of %s" % rows for rows in ("no row", "one row", "2 to 7 rows",
                                          "8 rows")),
     "a list in another order than granted", "a list of a client that works",
+    *SORTS,
 )
 
 
@@ -483,6 +488,7 @@ class Watch(Player):
     def watch_setup(self, name, slots, clients, cap, hand, length):
         code, value = super().call(name, slots, clients, cap, hand, length)
         if code == 0:
+            self.sorts = Sorts(self.pool)
             self.take("setup, length %d", length)
             if (slots, clients) == (64, 16):
                 self.take("setup, S 64 and T 16")
@@ -527,7 +533,9 @@ class Watch(Player):
         stored = self.space[place(page)]
         before = [marks(frame) for frame in cache.frames]
         tally = self.tally.line()
+        self.sorts.before(number)
         code, value = self.make(name, number)
+        self.taken += self.sorts.after(code, value)
         self.watch_tally(stage, code, value, self.tally.line() == tally)
         if code == 108 and stage in (17, 22) and mapped and old.changed:
             self.take("8 at %d with a changed page", stage)

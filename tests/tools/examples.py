@@ -43,6 +43,18 @@ def second_example():
             "the picture beside it")
 
 
+def third_example():
+    schedule = example("index-pages.txt")
+    lines = explain.explain(schedule, answers_to(schedule)).splitlines()
+    dropped = [int(re.search(r"dropped: page (\d+)", line)[1])
+               for line in lines if "dropped: " in line]
+    same(dropped, [4, 5, 3], "the pages that go, one after the other")
+    taken = [line for line in lines if "an index page" in line]
+    same([re.search(r"count (\d+)", line)[1] for line in taken], ["3"],
+         "the count of the index page")
+    return "examples/index-pages.txt: page 3 outlives pages 4 and 5"
+
+
 # The README.
 
 
@@ -102,4 +114,5 @@ def readme_commands():
     return "README.md, %d commands, the statuses of ./replay" % len(typed)
 
 
-TESTS = (first_example, second_example, readme_listings, readme_commands)
+TESTS = (first_example, second_example, third_example, readme_listings,
+         readme_commands)

@@ -23,6 +23,7 @@ BUSY = "slot {was_place}: frame {was_victim} is in use, busy visit {visit} of {s
 GIVEN_UP = "gives its candidate up: frame {was_own} is evicted"
 HAND = "the hand is {now_hand} now: slot {now_hand_slot}"
 PINNED = "frame {was_found} is pinned: {now_found_pins} now"
+TAKES = "takes frame {now_own} for page {wanted}"
 STANDS = "frame {was_own} stands in slot {was_place}, a candidate for page {wanted}"
 RAISED = "the count of frame {value} is {now_found_count} now"
 AT_CAP = "the count of frame {value} stays {cap}, the cap"
@@ -37,7 +38,10 @@ SENTENCES = {
     (2, 4): "frame {was_found} is evicted and cannot be pinned",
     (3, GRANT, "raised"): "a hit: " + RAISED,
     (3, GRANT, "at the cap"): "a hit: " + AT_CAP,
-    (4, 5): "takes frame {now_own} for page {wanted}, with one pin and count 1",
+    (4, 5, "index page"): TAKES + ", an index page, with one pin and count 3",
+    (4, 5, "index page, C 2"): TAKES + ", an index page, with one pin and count 2",
+    (4, 5, "index page, C 1"): TAKES + ", an index page, with one pin and count 1",
+    (4, 5, "other page"): TAKES + ", with one pin and count 1",
     (5, 6): "{now_seen_slots} left to claim",
     (5, 10): "no slot is left to claim: it has to sweep",
     (6, 7): "claims a slot: free is {now_free} now",
@@ -190,6 +194,12 @@ class Told:
                     for at in (self.before, self.number))
         return "raised" if was < now else "at the cap"
 
+    def sort(self):  # by SPECIFICATION 4.31
+        if self.was["wanted"] > 3:
+            return "other page"
+        return ("index page" if self.run.cap >= 3
+                else "index page, C %d" % self.run.cap)
+
     def slot_case(self):
         page, pins, _ = self.frame(self.in_slot(), self.before)
         if pins < 0:
@@ -262,6 +272,7 @@ class Told:
 CASES = {
     (3, GRANT): Told.raised,
     (21, GRANT): Told.raised,
+    (4, 5): Told.sort,
     (11, 12): Told.slot_case,
     (13, 14): lambda told: "lowered" if told.victim()[2] else "0 before",
     (14, 15): lambda told: "raised" if told.victim()[2] else "0 still",

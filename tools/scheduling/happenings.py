@@ -4,6 +4,8 @@ A sentence for each row of the tables in docs/SPECIFICATION.md, section 4,
 with the numbers that decided it.
 """
 
+import second
+
 from . import words
 from .records import BEGIN, RELEASE, SETUP, STEP
 from .moments import EVICTED, IN_USE, dropped
@@ -74,8 +76,10 @@ def stage3(step):
 
 
 def stage4(step):
-    return "takes frame %d for page %d, with one pin and count 1" % (
-        step.now.own, step.page)
+    own = step.now.own
+    sort = ", an index page" if step.page in second.INDEX_PAGES else ""
+    return "takes frame %d for page %d%s, with one pin and count %d" % (
+        own, step.page, sort, step.after.frames[own].count)
 
 
 def stage5(step):

@@ -29,6 +29,7 @@ use Rattle.guarantee.proofs.GrantLists.{grant-lists}
 use Rattle.guarantee.proofs.TurnedDown.{same-stage, turned-down, refused}
 use Rattle.guarantee.proofs.Limits.{limits}
 use Rattle.guarantee.proofs.Holdings.{holdings, held-once}
+use Rattle.guarantee.proofs.Lasts.{lasts}
 
 point3 : Claim-point3
 point3 p u calls =
@@ -73,4 +74,5 @@ guarantee =
       limits = limits;
       holdings = holdings;
       held-once = held-once;
+      lasts = λ p u calls. lasts p calls (first-reached u);
     }

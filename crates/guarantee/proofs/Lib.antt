@@ -40,6 +40,9 @@ pub mod Alone
 pub mod SweepMoves
 pub mod Meetings
 pub mod BusySweep
+-- claim 23: what each stage's move is to the counts; how often a frame is visited before it is evicted
+pub mod CountMoves
+pub mod Lasts
 -- claim 14: of every pool, a handed one too
 pub mod Holdings
 -- all of it, as the record `Guarantee`

@@ -7,10 +7,11 @@ use mathlib.Core.List.{List, [], _∷_}
 use Prim.Native.Nat.{ℕ, suc, _+_, _≤_, _<_}
 use lib.Dec.{T, eqb}
 use lib.ListN.{length, set, replicate}
-use Rattle.pool.specs.State.{none, evicted, pinned, clientCount, total, resting, slot, pins, client, grantPage, grantFrame}
+use Rattle.pool.specs.State.{none, evicted, pinned, clientCount, total, resting, slot, pins, count, client, grantPage, grantFrame}
 use Rattle.pool.specs.Table.{lookup, resident, pagesInTable}
 use Rattle.pool.specs.Grants.{held}
 use Rattle.pool.specs.Frames.{freeFrame}
+use Rattle.pool.specs.Stages.{firstCount}
 use Rattle.pool.specs.Valid.{valid}
 use Rattle.pool.specs.Calls.{SetUp, caller, callOf, poolAfter}
 use Rattle.pool.specs.Tallies.{largest, zeroTally, tallied}
@@ -25,7 +26,7 @@ use Rattle.pool.specs.declared.Answer.{Answer}
 use Rattle.pool.specs.declared.Answer.the-variants.{Done, Working, Granted, Refused}
 use Rattle.pool.specs.declared.Counted.{Counted}
 use Rattle.pool.specs.declared.Counted.the-variants.{Nothing, Admitted, Drop, Refusal}
-use Rattle.guarantee.specs.Runs.{Event, events, At, Run, along, IsCall, NoneBetween, Throughout, StepAt, Begins, GrantedTo, Releases, ExactlyOne, SameRequest}
+use Rattle.guarantee.specs.Runs.{Event, events, At, Run, along, IsCall, NoneBetween, Throughout, StepAt, Begins, GrantedTo, Releases, ExactlyOne, AtLeast, SameRequest}
 use Rattle.guarantee.specs.Sequential.{Sequential, Keeps, seqClient, start, Rule, adding, admitting}
 use Rattle.guarantee.specs.BusySweep.{Claim-busy-sweep}
 
@@ -374,6 +375,27 @@ pub record HeldOnce (p : Pool) (c : ℕ) (rows : List Row) : Type 0 where
 abbrev pub Claim-held-once : Type 0
 Claim-held-once = (p : Pool) (c : ℕ) → valid p ≡ true → HeldOnce p c (rowsOf p c)
 
+-- ---- GUARANTEE 23: how long a page stays
+
+-- frame f is taken for a page whose first count is t
+abbrev pub TakesWith : ℕ → ℕ → Event → Type 0
+TakesWith f t e = (k : Takes f e) × (firstCount (e .before .cap) (client (e .before) (k .client-of) .page) ≡ t)
+
+-- a 13 of a client whose sweep looks at frame f; a 14 that evicts it
+abbrev pub ComesBy : ℕ → Event → Type 0
+ComesBy f e = (c : ℕ) × StepAt c 13 e × (client (e .before) c .victim ≡ f)
+
+abbrev pub SweepsOut : ℕ → Event → Type 0
+SweepsOut f e = (c : ℕ) × StepAt c 14 e × BecomesEvicted f e
+
+-- SPECIFICATION 4.31: the frame has this count then; and before a 14 evicts it, sweeps come by at least so often
+pub record Lasts (run : Run) : Type 0 where
+  pub starts : (f t n : ℕ) → run (TakesWith f t) n → run (λ e. count (e .next) f ≡ t) n
+  pub visited : (f t k n : ℕ) → run (TakesWith f t) k → k < n → NoneBetween (Takes f) run k n → run (SweepsOut f) n → AtLeast (ComesBy f) run k t n
+
+abbrev pub Claim-lasts : Type 0
+Claim-lasts = (p : Pool) → SetUp p → (calls : List Call) → Lasts (along (events p calls))
+
 -- ---- all of it
 
 pub record Guarantee : Type 0 where
@@ -388,3 +410,4 @@ pub record Guarantee : Type 0 where
   pub limits : Claim-limits
   pub holdings : Claim-holdings
   pub held-once : Claim-held-once
+  pub lasts : Claim-lasts

@@ -75,3 +75,8 @@ SameRequest run c k n = NoneBetween (Begins c) run k n
 -- exactly one of the events k + 1 to n has the property
 abbrev pub ExactlyOne : (Event → Type 0) → Run → ℕ → ℕ → Type 0
 ExactlyOne P run k n = (j : ℕ) × (k < j) × (j ≤ n) × run P j × ((i : ℕ) → k < i → i ≤ n → run P i → i ≡ j)
+
+-- at least t of the events between k and n have the property
+pub data AtLeast (P : Event → Type 0) (run : Run) (k : ℕ) : ℕ → ℕ → Type 0 where
+  enough : {n : ℕ} → AtLeast P run k 0 n
+  one-more : {t m n : ℕ} → k < m → m < n → run P m → AtLeast P run k t m → AtLeast P run k (suc t) n

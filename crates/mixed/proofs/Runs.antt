@@ -20,7 +20,7 @@ use Rattle.laws.specs.Choices.{chosen}
 use Rattle.invariant.proofs.Valid.{valid-reached}
 use Rattle.guarantee.specs.Runs.{Event, events, At, along, GrantedTo}
 use Rattle.guarantee.specs.BusySweep.{BusySweep}
-use Rattle.guarantee.specs.Claims.{OneEach, OneCopy, HeldPinned, FewPins, tallyOf, CountsPages, AddsUp, GrantedWithin, WithinLimits}
+use Rattle.guarantee.specs.Claims.{OneEach, OneCopy, HeldPinned, FewPins, tallyOf, CountsPages, AddsUp, GrantedWithin, WithinLimits, Lasts}
 use Rattle.guarantee.proofs.TurnedDown.{same-answer, same-pool, other-answer, other-call}
 use Rattle.guarantee.proofs.Frames.{held-pinned}
 use Rattle.guarantee.proofs.Copies.{one-each, one-copy}
@@ -35,11 +35,11 @@ use Rattle.mixed.specs.Mixed.{ofCall, amid, IsByte, Point3On, ListedOn, 
 use Rattle.mixed.proofs.Passes.{bytes-yes, store-yes, turned-away}
 use Rattle.mixed.proofs.Calls.{same, turned16, as-call, byte-leaves, same-length}
 use Rattle.mixed.proofs.Embedded.{tally-same}
-use Rattle.mixed.proofs.Transported.{grants-in, no-held-evicted-in, taken-out-once-in, one-effect-in, refused-alone-in, busy-sweep-in}
+use Rattle.mixed.proofs.Transported.{grants-in, no-held-evicted-in, taken-out-once-in, one-effect-in, refused-alone-in, lasts-in, busy-sweep-in}
 use Rattle.mixed.proofs.Lists.{Erased, erased, throughout-on, kept-after, bytes-apart, follows-on}
 use Rattle.mixed.proofs.Answers.{listed-now}
 
--- ---- point 3, refusal 15 in company, the tally's sum
+-- ---- point 3, refusal 15 in company, how long a page stays, the tally's sum
 
 module _ (x : State) (k : Kept x) (u : SetUp (x .pool)) (rs : List Request) where
   inner : Erased x rs
@@ -65,6 +65,9 @@ module _ (x : State) (k : Kept x) (u : SetUp (x .pool)) (rs : List Request) wher
 
   pub busy-sweep-from : BusySweep (x .pool .size) (amid (happenings x rs))
   busy-sweep-from = busy-sweep-in (inner .embedded) (x .pool .size) (guarantee .busy-sweep (x .pool) u (inner .calls))
+
+  pub lasts-from : Lasts (amid (happenings x rs))
+  lasts-from = lasts-in (inner .embedded) (guarantee .lasts (x .pool) u (inner .calls))
 
   pub sum-from : AddsUp (stateAfter x rs .pool) (tallyOn zeroTally (happenings x rs))
   sum-from =

@@ -5,17 +5,17 @@ use mathlib.Core.Logic.{_⊎_, _↔_}
 use mathlib.Core.Bool.{false}
 use mathlib.Core.List.{List}
 use Prim.Native.Nat.{ℕ, _≤_, _<_}
-use Rattle.pool.specs.State.{pins, client, grantPage, grantFrame}
+use Rattle.pool.specs.State.{pins, count, client, grantPage, grantFrame}
 use Rattle.pool.specs.Table.{resident}
 use Rattle.pool.specs.Grants.{held}
 use Rattle.pool.specs.Calls.{caller}
 use Rattle.pool.specs.declared.Pool.{Pool}
 use Rattle.pool.specs.declared.Call.the-variants.{Begin, Step}
 use Rattle.pool.specs.declared.Answer.the-variants.{Done, Refused}
-use Rattle.guarantee.specs.Runs.{Event, along, NoneBetween, Begins, GrantedTo, ExactlyOne}
+use Rattle.guarantee.specs.Runs.{Event, along, NoneBetween, Begins, GrantedTo, ExactlyOne, AtLeast, enough, one-more}
 use Rattle.guarantee.specs.BusySweep.{MeetsBusy, finds-empty, finds-pinned, BusyVisit, SeesFrame, Refused15, MeetsAllBusy, BusySince, BusySweep}
 use Rattle.guarantee.specs.Claims.{GrantsAsTold, GrantLists, BecomesEvicted, NoHeldEvicted, Evicts, Replaces, Takes, TakenOut, TakenOutOnce, TakesEffect}
-use Rattle.guarantee.specs.Claims.{AnswersTo, TakesEffectOnce, OneEffect, AllHeld, TurnedDown, Alone, RefusedAlone}
+use Rattle.guarantee.specs.Claims.{AnswersTo, TakesEffectOnce, OneEffect, AllHeld, TurnedDown, Alone, RefusedAlone, TakesWith, ComesBy, SweepsOut, Lasts}
 use Rattle.guarantee.proofs.TurnedDown.{other-answer, other-call}
 use Rattle.memory.specs.Happenings.{Happening}
 use Rattle.mixed.specs.Mixed.{amid}
@@ -152,6 +152,28 @@ module _ {hs : List Happening} {es : List Event} (s : Embedded hs es) where
       ((λ w. b .0 (at-back (λ e. e .answer ≡ Refused 15) s (dn .0) w)), (λ w. at-up (λ e. e .answer ≡ Refused 15) s (dn .0) (b .1 w)))
 
   -- ---- refused in company
+
+  at-least-up : (P : Event → Type 0) {k t n : ℕ} → AtLeast P (along es) k t n → AtLeast P (amid hs) (up s k) t (up s n)
+  at-least-up P enough = enough
+  at-least-up P {k} {n = n} (one-more {m = m} a b w rest) = one-more (up-less s k m a) (up-less s m n b) (at-up P s m w) (at-least-up P rest)
+
+  pub lasts-in : Lasts (along es) → Lasts (amid hs)
+  lasts-in base =
+      record {
+        starts = λ f t n a. let d = taken-down f t n a in subst (amid hs (λ e. count (e .next) f ≡ t)) (d .1) (at-up _ s (d .0) (base .starts f t (d .0) (d .2)));
+        visited = λ f t k n a l anew out.
+            let dk = taken-down f t k a in
+            let dn = down (SweepsOut f) (λ e x w. no-step x (w .1 .0)) n out in
+            let i : ℕ = dk .0 in
+            let j : ℕ = dn .0 in
+            let later : up s i < up s j = rw (dk .1, dn .1) l in
+            let not-anew : NoneBetween (Takes f) (amid hs) (up s i) (up s j) = rw (dk .1, dn .1) anew in
+            rw (← dk .1, ← dn .1)
+            (at-least-up (ComesBy f) (base .visited f t i j (dk .2) (up-less-back s i j later) (none-down (Takes f) i j not-anew) (dn .2)));
+      }
+    where
+      taken-down : (f t n : ℕ) → amid hs (TakesWith f t) n → (m : ℕ) × (up s m ≡ n) × along es (TakesWith f t) m
+      taken-down f t n a = down (TakesWith f t) (λ e x w. no-step x (w .0 .step-of .0)) n a
 
   module _ (slots c : ℕ) where
     abbrev Sweeps : Event → Type 0

@@ -30,7 +30,7 @@ use Rattle.guarantee.specs.Runs.{Event, At, Run, GrantedTo}
 use Rattle.guarantee.specs.Sequential.{Sequential, start, seqRefusal, Rule}
 use Rattle.guarantee.specs.BusySweep.{BusySweep}
 use Rattle.guarantee.specs.Claims.{GrantLists, OneEach, OneCopy, NoHeldEvicted, HeldPinned, FewPins, TakenOutOnce, SamePages, SameStages, OneEffect, RefusedAlone, Listed}
-use Rattle.guarantee.specs.Claims.{withClient, CountsPages, AddsUp}
+use Rattle.guarantee.specs.Claims.{withClient, CountsPages, AddsUp, Lasts}
 use Rattle.memory.specs.Memory.{maxPages, isFilled, isChanged, copiedPage, unmarked, moved}
 use Rattle.memory.specs.Requests.{Request, Asks, ReadByte, WriteByte, State, Result, bytesOk, storeOk, firstOf, inOrder, outsideAt, byteRefusal, refusalOn, refused}
 use Rattle.memory.specs.Requests.{callOn, bufferPool, holdingsOn}
@@ -171,6 +171,10 @@ Claim-refused-on = (x : State) (r : Request) → callOn x r .answer ≡ Refused 
 abbrev pub Claim-busy-sweep-on : Type 0
 Claim-busy-sweep-on = (x : State) → SetUpOn x → (rs : List Request) → BusySweep (x .pool .size) (amid (happenings x rs))
 
+-- GUARANTEE 23: sweeps come by a frame as often as its page's first count says before one evicts it, whatever was read and written meanwhile
+abbrev pub Claim-lasts-on : Type 0
+Claim-lasts-on = (x : State) → SetUpOn x → (rs : List Request) → Lasts (amid (happenings x rs))
+
 -- ---- pages that came and pages that left
 
 -- each request of a run counts them; reads and writes, by which no page comes or leaves, count nothing (`LeavesPool`)
@@ -308,6 +312,7 @@ pub record GuaranteeOn : Type 0 where
   pub turned-down : Claim-turned-down-on
   pub refused : Claim-refused-on
   pub busy-sweep : Claim-busy-sweep-on
+  pub lasts : Claim-lasts-on
   pub drops : Claim-drops-on
   pub sum : Claim-sum-on
   pub limits : Claim-limits-on
