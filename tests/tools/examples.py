@@ -52,7 +52,10 @@ def third_example():
     taken = [line for line in lines if "an index page" in line]
     same([re.search(r"count (\d+)", line)[1] for line in taken], ["3"],
          "the count of the index page")
-    return "examples/index-pages.txt: page 3 outlives pages 4 and 5"
+    same(picture.draw(schedule), (EXAMPLES / "index-pages.svg").read_text(),
+         "examples/index-pages.svg, the picture of examples/index-pages.txt")
+    return ("examples/index-pages.txt: page 3 outlives pages 4 and 5, and the "
+            "picture beside it")
 
 
 # The README.
