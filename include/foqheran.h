@@ -52,10 +52,12 @@ enum {
     FOQHERAN_MOST_GRANTS = 8, // of one client at one time
     FOQHERAN_MOST_PAGES = 256, // of a store
     FOQHERAN_PAGE_BYTES = 64,
-    FOQHERAN_INDEX_PAGES = 4, // pages 0 to 3, which last longer than others: see foqheran_setup
-    FOQHERAN_INDEX_COUNT = 3,
     FOQHERAN_MOST_FRAMES = FOQHERAN_MOST_SLOTS + 2 * FOQHERAN_MOST_CLIENTS
 };
+
+// How many pages, from page 0 on, are index pages, which stay longer than others; and the reference count that such a
+// page comes in with, where the cap is not lower: see foqheran_setup.
+enum { FOQHERAN_INDEX_PAGES = 4, FOQHERAN_INDEX_COUNT = 3 };
 
 // How many frames a pool of so many slots and clients has: they are numbered from 0. A program that keeps the pages'
 // bytes in buffers of its own needs one buffer a frame, which is more than one a slot.
@@ -315,10 +317,11 @@ static inline size_t foqheran_lent_length(const uint8_t *store, size_t length)
 // pool that was set up without a store gets NULL and 0.
 
 // Makes a new pool of 1 to 64 slots and 1 to 16 clients, all at rest. `cap` is the most that a page's reference count
-// can be, 1 to 100: the higher, the longer a page that is asked for often outlives the others. A page that comes in
-// starts with the count 1, and an index page, 0 to 3, with 3, or with `cap` where that is lower: with a cap of 3 or
-// more an index page outlives others that are asked for as often. `hand` is where the first search for a slot starts:
-// any number. Without a store pages may have any numbers of 32 bits, and reads and writes are refused by 16.
+// can be, 1 to 100: the higher, the longer a page that is asked for often outlives the others. A page comes in with the
+// count 1, and an index page, 0 to 3, with 3, or with `cap` if that is below 3. Each further request for it adds one,
+// up to `cap`; each sweep that finds it unused takes one off, and evicts it where that leaves 0. `hand` is where the
+// first search for a slot starts: any number. Without a store pages may have any numbers of 32 bits, and reads and
+// writes are refused by 16.
 //
 // Done with the number of slots, or refused by 8: then the pool is as it was, set up or not.
 static inline foqheran_answer foqheran_setup(struct foqheran_pool *pool, uint8_t slots, uint8_t clients, uint8_t cap,

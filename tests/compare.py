@@ -154,8 +154,8 @@ def first_count(page, cap, count):
     return bytes(script.data)
 
 
-# A page, the cap and the page's first count. The last page would be page 3 if its highest byte were left out.
-FIRST_COUNTS = ((3, 1, 1), (3, 2, 2), (3, 3, 3), (3, 100, 3), (0, 100, 3), (4, 100, 1), (2**24 + 3, 100, 1))
+# A page, the cap and the page's first count. The last two pages would be index pages if the highest byte were left out, or if numbers had a sign.
+FIRST_COUNTS = ((3, 1, 1), (3, 2, 2), (3, 3, 3), (3, 100, 3), (0, 100, 3), (4, 100, 1), (2**24 + 3, 100, 1), (2**32 - 1, 100, 1))
 
 
 def index_outlives():

@@ -507,10 +507,10 @@ def taken_anew(dice):
     page is removed before (22 to 23) and it takes a frame anew (4).
 
     Each time the page is driven out again, and how long that takes shows the
-    count that it had.
+    count that it had (with a cap of 1 all would be alike).
     """
     script = draw_script(dice, slots=dice.between(2, 3),
-                         clients=dice.between(2, 4), cap=dice.pick(CAPS))
+                         clients=dice.between(2, 4), cap=dice.pick(CAPS[1:]))
     for page in (dice.pick(INDEX), dice.pick(ENDS[2:])):
         script.fix(1, page)
         for first in (1, 0):
@@ -978,10 +978,10 @@ TURNED_DOWN = (
 
 SORTS = tuple(what % sort for what in (
     *("4 %%s, C %s" % cap for cap in ("1", "2", "3", "4", "above 4")),
-    "4 %s, after 23",
+    "4 %s, after 23, C above 1",
     "14 %s evicted",
     "14 %s evicted, both in slots",
-    "22 %s revived",
+    "22 %s revived, C above 1",
 ) for sort in ("index page", "other page"))
 
 
@@ -1116,15 +1116,15 @@ class Sorts:
             return
         if self.stage == 4:
             yield "4 %s, C %s" % (self.sort, self.cap)
-            if self.number in self.anew:
-                yield "4 %s, after 23" % self.sort
+            if self.number in self.anew and self.cap != 1:
+                yield "4 %s, after 23, C above 1" % self.sort
             self.anew.discard(self.number)
         elif self.stage == 14 and value == 15:
             yield "14 %s evicted" % self.sort
             if len(self.slots) == 2:
                 yield "14 %s evicted, both in slots" % self.sort
-        elif self.stage == 22 and code == second.GRANTED:
-            yield "22 %s revived" % self.sort
+        elif self.stage == 22 and code == second.GRANTED and self.cap != 1:
+            yield "22 %s revived, C above 1" % self.sort
         elif self.stage == 23:
             self.anew.add(self.number)
 

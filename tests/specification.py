@@ -358,8 +358,21 @@ def refusals():
     return "%d refusals: why, and what becomes of a run" % len(found)
 
 
+# What C and Rust call them, in one order.
+SERVERS = {
+    TOP / "include" / "foqheran.h": [
+        "FOQHERAN_" + name for name in (
+            "MOST_SLOTS", "MOST_CLIENTS", "MOST_CAP", "MOST_GRANTS",
+            "MOST_PAGES", "PAGE_BYTES", "INDEX_PAGES", "INDEX_COUNT")],
+    TOP / "embed" / "rust" / "foqheran" / "src" / "lib.rs": [
+        "MOST_SLOTS: u8", "MOST_CLIENTS: u8", "MOST_CAP: u8",
+        "MOST_GRANTS: usize", "MOST_PAGES: usize", "PAGE_BYTES: usize",
+        "INDEX_PAGES: u32", "INDEX_COUNT: u8"],
+}
+
+
 def limits():
-    """The limits are those of the definitions and of the code."""
+    """The limits are those of the definitions, the code, C and Rust."""
     defined = dict(re.findall(r"^(max\w+|pageBytes|index\w+) = (\d+)$", "\n".join(
         read(spec_file(name)) for name in ("Limits", "Memory")), re.M))
     size, clients, cap, held, page, pages, index, count = (
@@ -393,6 +406,11 @@ def limits():
                         ("INDEX_COUNT: u8", count)):
         need("pub const %s = %d;" % (name, limit) in code,
              "the code's %s is not %d" % (name, limit))
+    for path, names in SERVERS.items():
+        for name, limit in zip(names, (size, clients, cap, held, pages, page,
+                                       index, count)):
+            need("%s = %d" % (name, limit) in read(path),
+                 "%s of %s is not %d" % (name, path.name, limit))
     return ("the limits: %d, %d, %d, %d; %d bytes, %d pages; %d index pages, "
             "count %d" % (size, clients, cap, held, page, pages, index, count))
 

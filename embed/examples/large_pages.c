@@ -15,7 +15,7 @@
 // in. A page is a list of counts with its own number and their sum; a tick adds one to a count and to the sum. The
 // program keeps books of which frame each held page is in and of each page's sum, which no second copy of a page could
 // agree with, and compares them at each grant and each tick, and in the end with the file. FILE is made anew; without
-// it, it is a temporary one.
+// it, it is a temporary one. There is no index: pages 0 to 3, which to the pool are index pages, just stay longer.
 
 #define _POSIX_C_SOURCE 200809L
 

@@ -5,7 +5,8 @@
 // Each client is a thread. All of them share one pool, behind one lock, and the pool is lent the file's content as its
 // store: a list is a page, with one byte an item, which counts how often the item was packed. A client asks for a list,
 // moves its request on by one action whenever it gets the lock, ticks off some items, and gives the list back; now and
-// then it holds two. The pool has a slot for each client, so that lists are dropped and come back all the time.
+// then it holds two. The pool has a slot for each client, so that lists are dropped and come back all the time. There
+// is no index: lists 0 to 3, which have the numbers of index pages, just stay longer than the others.
 //
 // A tick is a read of the byte and a write of one more. If two clients ever had two copies of a list, a tick of one
 // would be missing in the other's, and the count wrong from then on. The program notices that itself: it keeps books of

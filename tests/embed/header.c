@@ -1,5 +1,5 @@
 // Tries what include/foqheran.h says besides the answers of each call: helpers, what NULL means, refused setups, whole
-// requests, snapshots, and its example. A test program, in C and in C++: it prints nothing if all is well.
+// requests, snapshots, index pages, and its example. A test program, in C and in C++: it prints nothing if all is well.
 
 #include "foqheran.h"
 #include <stdio.h>
@@ -142,6 +142,19 @@ static void eight_grants(void)
     MUST(rows[7].page == 7 && rows[7].times == 1);
 }
 
+// A page that was granted once has the count that it came in with.
+static void index_pages(void)
+{
+    for (uint8_t cap = 1; cap <= 2 * FOQHERAN_INDEX_COUNT; cap++) {
+        for (uint32_t page = 0; page < 2 * FOQHERAN_INDEX_PAGES; page++) {
+            uint8_t first = page >= FOQHERAN_INDEX_PAGES ? 1 : cap < FOQHERAN_INDEX_COUNT ? cap : FOQHERAN_INDEX_COUNT;
+            MUST(foqheran_is_done(foqheran_setup(&pool, 1, 1, cap, 0, NULL, 0)));
+            foqheran_answer answer = foqheran_request(&pool, 0, page, NULL, NULL, 0);
+            MUST(foqheran_is_granted(answer) && pool.counts[foqheran_value(answer)] == first);
+        }
+    }
+}
+
 // Memory from elsewhere, where a client holds pages 1 and 2, and then page 1 twice: the check refuses it. What the calls
 // do with it is SPECIFICATION 14.10.
 static void held_twice(void)
@@ -189,6 +202,7 @@ int main(void)
     requests();
     snapshots();
     eight_grants();
+    index_pages();
     held_twice();
     example();
     return 0;

@@ -9,7 +9,7 @@ use native.Mathlib.Nat.{not-suc-le-zero, le-of-suc-le-suc}
 use native.Mathlib.Omega.{arith}
 use Rattle.pool.specs.State.{none, evicted, clientCount, slot, pins, client}
 use Rattle.pool.specs.Apply.{apply}
-use Rattle.pool.specs.Calls.{caller, moveOf, callOf}
+use Rattle.pool.specs.Calls.{caller, refusal, moveOf, callOf}
 use Rattle.pool.specs.declared.Pool.{Pool}
 use Rattle.pool.specs.declared.Client.{Client}
 use Rattle.pool.specs.declared.Move.{Move}
@@ -29,7 +29,7 @@ use Rattle.invariant.proofs.Calls.{reached-call}
 use Rattle.guarantee.specs.Runs.{eventOf, events, At, along}
 use Rattle.guarantee.specs.Claims.{Evicts, Replaces, Takes, TakenOutOnce}
 use Rattle.guarantee.proofs.Along.{at-some, at-both}
-use Rattle.guarantee.proofs.TurnedDown.{TurnedOrMove, turned, one-move, turned-or-move}
+use Rattle.guarantee.proofs.TurnedDown.{moved, TurnedOrMove, turned, one-move, turned-or-move}
 
 -- ---- a frame that is out stays so until a stage 4 takes it
 
@@ -56,6 +56,18 @@ module _ (p : Pool) (r : Reached p) (f : ℕ) (z : f ≢ none) (unowned : (c : �
         no-own = all-clients p c m (r .shape) (λ _ k. k .own ≢ f) here (λ d _. unowned d) u;
       }
 
+-- a call whose client stands at 4 takes the frame that its move makes the own frame
+pub takes-frame : (p : Pool) (x : Call) {f : ℕ} → Reached p → refusal p x ≡ 0 → callOf p x ≡ moved p x → client p (caller x) .stage ≡ 4
+    → moveOf p x .next .own ≡ f → Takes f (eventOf p x)
+takes-frame p x r e q s o =
+    let c : ℕ = caller x in
+    record {
+      client-of = c;
+      step-of = (only-step p x (allowed p x e) (λ y. let n : _≡_ {A = ℕ} 4 0 = sym s ∙ y in omega arith), s);
+      takes = ap (λ (y : Outcome). client (y .pool) c .own) q
+          ∙ (ap (λ (k : Client). k .own) (client-same p c (moveOf p x) (r .shape) (call-edge p x r e .0)) ∙ o);
+    }
+
 out-call : (p : Pool) (x : Call) (f : ℕ) → Reached p → f ≢ none → OutOfSlot p f → OutOfSlot (callOf p x .pool) f ⊎ Takes f (eventOf p x)
 out-call p x f r z o = go (turned-or-move p x)
   where
@@ -77,12 +89,7 @@ out-call p x f r z o = go (turned-or-move p x)
         by : Dec (client p c .stage ≡ 4) → Dec (moveOf p x .next .own ≡ f) → OutOfSlot (callOf p x .pool) f ⊎ Takes f (eventOf p x)
         by (no s) _ = inl (stays (not-own p r f z (o .no-own) c (moveOf p x) (w .0) (w .1) s))
         by (yes s) (no u) = inl (stays u)
-        by (yes s) (yes u) =
-            inr (record {
-              client-of = c;
-              step-of = (only-step p x (allowed p x e) (λ y. let n : _≡_ {A = ℕ} 4 0 = sym s ∙ y in omega arith), s);
-              takes = ap (λ (y : Outcome). client (y .pool) c .own) q ∙ (ap (λ (k : Client). k .own) (client-same p c (moveOf p x) (r .shape) (w .0)) ∙ u);
-            })
+        by (yes s) (yes u) = inr (takes-frame p x r e q s u)
 
 -- ---- a stage 15 that replaces it makes it so
 

@@ -381,17 +381,17 @@ Claim-held-once = (p : Pool) (c : ℕ) → valid p ≡ true → HeldOnce p c (ro
 abbrev pub TakesWith : ℕ → ℕ → Event → Type 0
 TakesWith f t e = (k : Takes f e) × (firstCount (e .before .cap) (client (e .before) (k .client-of) .page) ≡ t)
 
--- a 13 of a client whose sweep looks at frame f; a 14 that evicts it
-abbrev pub ComesBy : ℕ → Event → Type 0
-ComesBy f e = (c : ℕ) × StepAt c 13 e × (client (e .before) c .victim ≡ f)
+-- a 13 takes one off the count of frame f; a 14 evicts it
+abbrev pub Lowers : ℕ → Event → Type 0
+Lowers f e = (c : ℕ) × StepAt c 13 e × (client (e .before) c .victim ≡ f) × (0 < count (e .before) f)
 
 abbrev pub SweepsOut : ℕ → Event → Type 0
 SweepsOut f e = (c : ℕ) × StepAt c 14 e × BecomesEvicted f e
 
--- SPECIFICATION 4.31: the frame has this count then; and before a 14 evicts it, sweeps come by at least so often
+-- SPECIFICATION 4.31: the frame has this count then; and unless another 4 takes it, its count is lowered at least so often before a 14 evicts it
 pub record Lasts (run : Run) : Type 0 where
   pub starts : (f t n : ℕ) → run (TakesWith f t) n → run (λ e. count (e .next) f ≡ t) n
-  pub visited : (f t k n : ℕ) → run (TakesWith f t) k → k < n → NoneBetween (Takes f) run k n → run (SweepsOut f) n → AtLeast (ComesBy f) run k t n
+  pub visited : (f t k n : ℕ) → run (TakesWith f t) k → k < n → NoneBetween (Takes f) run k n → run (SweepsOut f) n → AtLeast (Lowers f) run k t n
 
 abbrev pub Claim-lasts : Type 0
 Claim-lasts = (p : Pool) → SetUp p → (calls : List Call) → Lasts (along (events p calls))

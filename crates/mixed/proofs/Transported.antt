@@ -15,7 +15,7 @@ use Rattle.pool.specs.declared.Answer.the-variants.{Done, Refused}
 use Rattle.guarantee.specs.Runs.{Event, along, NoneBetween, Begins, GrantedTo, ExactlyOne, AtLeast, enough, one-more}
 use Rattle.guarantee.specs.BusySweep.{MeetsBusy, finds-empty, finds-pinned, BusyVisit, SeesFrame, Refused15, MeetsAllBusy, BusySince, BusySweep}
 use Rattle.guarantee.specs.Claims.{GrantsAsTold, GrantLists, BecomesEvicted, NoHeldEvicted, Evicts, Replaces, Takes, TakenOut, TakenOutOnce, TakesEffect}
-use Rattle.guarantee.specs.Claims.{AnswersTo, TakesEffectOnce, OneEffect, AllHeld, TurnedDown, Alone, RefusedAlone, TakesWith, ComesBy, SweepsOut, Lasts}
+use Rattle.guarantee.specs.Claims.{AnswersTo, TakesEffectOnce, OneEffect, AllHeld, TurnedDown, Alone, RefusedAlone, TakesWith, Lowers, SweepsOut, Lasts}
 use Rattle.guarantee.proofs.TurnedDown.{other-answer, other-call}
 use Rattle.memory.specs.Happenings.{Happening}
 use Rattle.mixed.specs.Mixed.{amid}
@@ -151,7 +151,7 @@ module _ {hs : List Happening} {es : List Event} (s : Embedded hs es) where
       subst (λ (n : ℕ). amid hs (λ e. e .answer ≡ Refused 15) n ↔ ((resident p g ≡ false) × AllHeld p)) (dn .1)
       ((λ w. b .0 (at-back (λ e. e .answer ≡ Refused 15) s (dn .0) w)), (λ w. at-up (λ e. e .answer ≡ Refused 15) s (dn .0) (b .1 w)))
 
-  -- ---- refused in company
+  -- ---- how long a page stays
 
   at-least-up : (P : Event → Type 0) {k t n : ℕ} → AtLeast P (along es) k t n → AtLeast P (amid hs) (up s k) t (up s n)
   at-least-up P enough = enough
@@ -169,11 +169,13 @@ module _ {hs : List Happening} {es : List Event} (s : Embedded hs es) where
             let later : up s i < up s j = rw (dk .1, dn .1) l in
             let not-anew : NoneBetween (Takes f) (amid hs) (up s i) (up s j) = rw (dk .1, dn .1) anew in
             rw (← dk .1, ← dn .1)
-            (at-least-up (ComesBy f) (base .visited f t i j (dk .2) (up-less-back s i j later) (none-down (Takes f) i j not-anew) (dn .2)));
+            (at-least-up (Lowers f) (base .visited f t i j (dk .2) (up-less-back s i j later) (none-down (Takes f) i j not-anew) (dn .2)));
       }
     where
       taken-down : (f t n : ℕ) → amid hs (TakesWith f t) n → (m : ℕ) × (up s m ≡ n) × along es (TakesWith f t) m
       taken-down f t n a = down (TakesWith f t) (λ e x w. no-step x (w .0 .step-of .0)) n a
+
+  -- ---- refused in company
 
   module _ (slots c : ℕ) where
     abbrev Sweeps : Event → Type 0

@@ -364,7 +364,15 @@ indexOutlives =
     ∷ asks 0 6 (sweeps ++ 12 ∷ 13 ∷ 11 ∷ evicts) (Granted 3) ++ Release 0 6 gets Done 6 ∷ count at 0 is 1 ∷ lookup at 3 is 0 ∷ lookup at 5 is none
     ∷ asks 0 7 (sweeps ++ evicts) (Granted 1) ++ lookup at 3 is none ∷ lookup at 6 is 3 ∷ []
 
--- Page 4 was had again, so that both pages have the count 2, and client 0 evicts index page 3 on its second lap.
+-- A hit raises the count of an index page by one, as that of any other: above 3 where the cap allows it, and from 1, to which a sweep has lowered it, to 2.
+abbrev pub indexHit : Case
+indexHit =
+    setup 1 2 4 0 after admitAndRelease 3 takes 3 counts Hit by 3 ∷ Hit by 3 ∷ [] shows
+    asks 0 3 (2 ∷ 3 ∷ []) (Granted 0) ++ count at 0 is 4 ∷ Release 0 3 gets Done 3
+    ∷ begins 0 5 (sweeps ++ 12 ∷ 13 ∷ 11 ∷ 12 ∷ 13 ∷ 11 ∷ 12 ∷ 13 ∷ 11 ∷ []) ++ count at 0 is 1
+    ∷ asks 1 3 (2 ∷ 3 ∷ []) (Granted 0) ++ count at 0 is 2 ∷ []
+
+-- With a cap of 2, page 4 was had again, so that both pages have the count 2, and client 0 evicts index page 3 on its second lap.
 abbrev pub indexEvicted : List Call
 indexEvicted = admitAndRelease 3 ++ admitAndRelease 4 ++ hitAndRelease 4 ++ Begin 0 7 ∷ steps 0 16
 
@@ -665,10 +673,10 @@ pub record Proved : Type 0 where
   pub refused-of-two : Holds claimedSlot × Holds threeBusy × Holds midLap
   pub stalled : Holds fillRound × Holds stalledVictim × Holds stalledFound
   pub meanwhile : Holds pinnedMeanwhile × Holds evictedMeanwhile × Holds swappedMeanwhile × Holds foundRemoved
-  pub index-pages : Holds indexOutlives × Holds indexAnew × Holds indexRevived
+  pub index-pages : Holds indexOutlives × Holds indexHit × Holds indexAnew × Holds indexRevived
   pub first-counts :
       Plays (takenFor 3 1 1) × Plays (takenFor 3 2 2) × Plays (takenFor 3 3 3) × Plays (takenFor 3 100 3) × Plays (takenFor 0 100 3)
-      × Plays (takenFor 4 1 1) × Plays (takenFor 4 100 1) × Plays (takenFor 4294967295 100 1)
+      × Plays (takenFor 1 100 3) × Plays (takenFor 2 100 3) × Plays (takenFor 4 1 1) × Plays (takenFor 4 100 1) × Plays (takenFor 4294967295 100 1)
   pub check8 : Check8 sound true × Check8 broken false
   pub handed-calls :
       Plays fullyPinned × Plays holdsWanted × Plays ownPinnedTwice × Plays searchedRound × Plays joinRaises × Plays onlyEvicted × Plays dropped

@@ -1,4 +1,5 @@
--- The largest pool, and the index pages. Each number has a name here; the code's constant of that name is the same. Assumes nothing.
+-- The largest pool, and the index pages. Each number has a name here, and the code has a constant of that name (pins it stores as one more). Assumes
+-- nothing.
 use Prim.Native.Nat.{ℕ, _+_, _*_}
 
 -- SPECIFICATION 1.1: the most slots, the most clients, the highest count cap
@@ -19,7 +20,7 @@ maxHeld = 8
 abbrev pub maxPins : ℕ
 maxPins = maxClients * maxHeld
 
--- SPECIFICATION 4.31: the index is as many pages, from page 0 on; the count that they start with, where the cap allows it
+-- SPECIFICATION 4.31: how many pages the index has, from page 0 on; the count that they start with, where the cap allows it
 abbrev pub indexPages : ℕ
 indexPages = 4
 

@@ -25,7 +25,7 @@ pub const MAX_HELD: u8 = 8;
 
 pub const MAX_PINS: u8 = NO_PIN + MAX_CLIENTS * MAX_HELD;
 
-// SPECIFICATION 4.31: the index is as many pages, from page 0 on; the count that they start with, where C allows it.
+// SPECIFICATION 4.31: how many pages the index has, from page 0 on; the count that they start with, where C allows it.
 pub const INDEX_PAGES: u32 = 4;
 
 pub const INDEX_COUNT: u8 = 3;

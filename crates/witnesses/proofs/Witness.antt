@@ -1,5 +1,5 @@
 -- The claims are not empty: in one run a grant is told and released, an eviction at 14 is taken out of its slot, and a request takes effect and is
--- granted; in another a request alone is refused by 15; in a third a sweep comes by an index page three times and evicts it. All are short runs from an
+-- granted; in another a request alone is refused by 15; in a third a sweep lowers the count of an index page three times and evicts it. All are short runs from an
 -- accepted setup of one slot and one client, and are computed. Assumes nothing.
 use mathlib.Core.Path.{_≡_, refl, sym, ap, subst}
 use mathlib.Core.Logic.{_⊎_, inl, inr}
@@ -28,7 +28,7 @@ use Rattle.pool.specs.declared.Call.the-variants.{Begin, Step}
 use Rattle.laws.specs.Setups.{set-up}
 use Rattle.invariant.proofs.After.{client-past}
 use Rattle.guarantee.specs.Runs.{Event, events, At, along, Begins, GrantedTo, Releases}
-use Rattle.guarantee.specs.Claims.{Evicts, TakenOut, takesEffect, TakesEffect, TurnedDown, Alone, TakesWith, ComesBy, SweepsOut}
+use Rattle.guarantee.specs.Claims.{Evicts, TakenOut, takesEffect, TakesEffect, TurnedDown, Alone, TakesWith, Lowers, SweepsOut}
 use Rattle.guarantee.proofs.TurnedDown.{other-call}
 
 -- all that a run computes
@@ -88,7 +88,7 @@ pub grants-frame : At (GrantedTo 0) swap-run 22
 unfolding computing
 grants-frame = (1, refl, refl)
 
--- index page 3 is admitted and released, and page 5 takes its slot: event 2 is the stage 4, and the sweep comes by at events 17, 20 and 23, before the
+-- index page 3 is admitted and released, and page 5 takes its slot: event 2 is the stage 4, and its count is lowered at events 17, 20 and 23, before the
 -- stage 14 at event 24
 abbrev pub index-run : List Event
 index-run = events first (admitAndRelease 3 ++ Begin 0 5 ∷ steps 0 14)
@@ -97,9 +97,9 @@ pub taken-with : At (TakesWith 0 3) index-run 2
 unfolding computing
 taken-with = (record { client-of = 0; step-of = (refl, refl); takes = refl }, refl)
 
-pub comes-by : At (ComesBy 0) index-run 17 × At (ComesBy 0) index-run 20 × At (ComesBy 0) index-run 23
+pub lowered : At (Lowers 0) index-run 17 × At (Lowers 0) index-run 20 × At (Lowers 0) index-run 23
 unfolding computing
-comes-by = ((0, (refl, refl), refl), (0, (refl, refl), refl), (0, (refl, refl), refl))
+lowered = ((0, (refl, refl), refl, omega arith), (0, (refl, refl), refl, omega arith), (0, (refl, refl), refl, omega arith))
 
 pub swept-out : At (SweepsOut 0) index-run 24
 unfolding computing

@@ -3,7 +3,8 @@
 //!
 //! The pool says which frame a page is in, and at which action a buffer's content has to go: a step may leave a duty,
 //! which is carried out before the pool's lock is let go. There is one buffer for each of the S + 2T frames. A client
-//! works on a page that it holds under the buffer's own lock, while others step the pool.
+//! works on a page that it holds under the buffer's own lock, while others step the pool. There is no index: pages 0 to
+//! 3, which to the pool are index pages, just stay longer.
 //!
 //! The program watches itself: whether a page is ever held in two frames, whether a buffer has another page's bytes,
 //! whether a count that is read is the one that was written last, and whether all of them are in the file at the end.

@@ -4,7 +4,8 @@
 //! The store is a file's content. Each flight case has its packing list on a page of 64 bytes, and the bytes 0 to 5
 //! say how often each of its six lines was ticked off. A bench is a thread and a client of the pool: it makes each
 //! call under the lock and lets go of it between two calls, so that the requests of all benches go on at the same
-//! time, one action here and one there.
+//! time, one action here and one there. There is no index: the first four lists, which have the numbers of index
+//! pages, just stay longer than the others.
 //!
 //! The program watches itself: whether a page is ever held in two frames, whether a byte that is read is the one that
 //! was written last, and whether every tick is in the file at the end. If not, it says so and ends with status 1.

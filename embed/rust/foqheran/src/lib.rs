@@ -84,9 +84,9 @@ pub const MOST_GRANTS: usize = 8;
 pub const MOST_PAGES: usize = 256;
 /// The bytes of a page.
 pub const PAGE_BYTES: usize = 64;
-/// Pages from 0 on that are index pages, which last longer than others: see [`Pool::new`].
+/// How many pages, from page 0 on, are index pages, which stay longer than others: see [`Pool::new`].
 pub const INDEX_PAGES: u32 = 4;
-/// The reference count that an index page starts with, where the cap is not lower.
+/// The reference count that an index page comes in with, where the cap is not lower.
 pub const INDEX_COUNT: u8 = 3;
 
 /// A page buffer pool, with a store of its own or without one.
@@ -110,9 +110,10 @@ impl Pool {
     /// A new pool that has no bytes: of so many slots, 1 to 64, and clients, 1 to 16, all of them at rest.
     ///
     /// `cap` is the most that a page's reference count can be, 1 to 100: the higher it is, the longer a page that is
-    /// asked for often outlives the others. A page that comes in starts with the count 1, and an index page, 0 to 3,
-    /// with 3, or with `cap` where that is lower: with a cap of 3 or more an index page outlives others that are asked
-    /// for as often. `hand` says where the first search for a slot starts, and may be any number.
+    /// asked for often outlives the others. A page comes in with the count 1, and an index page, 0 to 3, with 3, or
+    /// with `cap` if that is below 3. Each further request for it adds one, up to `cap`; each sweep that finds it
+    /// unused takes one off, and evicts it where that leaves 0. `hand` says where the first search for a slot starts,
+    /// and may be any number.
     ///
     /// Pages may have any numbers, and [`read`](Pool::read) and [`write`](Pool::write) are refused by 16. What the
     /// frames hold is the caller's: see [`step`](Pool::step).

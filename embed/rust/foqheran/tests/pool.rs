@@ -1,6 +1,6 @@
 //! What the doc tests do not show.
 
-use foqheran::{Answer, Duty, Pool, Refusal, Row, Step};
+use foqheran::{Answer, Duty, Pool, Refusal, Row, Step, INDEX_COUNT, INDEX_PAGES};
 
 fn sendable<T: Send>(value: T) -> T {
     value
@@ -69,6 +69,25 @@ fn a_page_that_is_evicted_and_revived_is_moved_and_not_dropped() {
     let tally = pool.tally();
     assert_eq!((tally.admitted, tally.revived, tally.drops), (2, 1, 1));
     assert_eq!(pool.check(), Ok(()));
+}
+
+#[test]
+fn index_pages_stay_longer() {
+    for cap in [1, 2, 3, 100] {
+        for page in [0, INDEX_PAGES - 1, INDEX_PAGES] {
+            let mut pool = Pool::new(1, 1, cap, 0).unwrap();
+            pool.request(0, page).unwrap();
+            pool.release(0, page).unwrap();
+            pool.begin(0, 9).unwrap();
+            let mut steps = 1;
+            while !matches!(pool.step(0).unwrap().answer, Answer::Granted(_)) {
+                steps += 1;
+            }
+            // each visit of the sweep has three steps; the request has nine others
+            let visits = if page < INDEX_PAGES { INDEX_COUNT.min(cap) } else { 1 };
+            assert_eq!(steps, 9 + 3 * i32::from(visits), "page {page}, cap {cap}");
+        }
+    }
 }
 
 #[test]
