@@ -198,9 +198,10 @@ started : (p : Pool) (x : Call) → Reached p → (f t : ℕ) → TakesWith f t 
 started p x r f t (k, w) =
     let c : ℕ = k .client-of in
     let e = k .step-of .1 in
+    let first : firstCount (p .cap) (client p c .page) ≡ t = omega (arith, w) in
     subst (λ (y : Call). client (callOf p y .pool) c .own ≡ f → Started t f (callOf p y .pool)) (sym (k .step-of .0))
-    (λ o. subst (λ (g : ℕ). Started t g (callOf p (Step c) .pool)) (sym (own-is p r c t e w) ∙ o)
-    (subst (Started t (freeFrame p)) (sym (takes-by p r c t e w)) (started-own p r c t e w))) (k .takes)
+    (λ o. subst (λ (g : ℕ). Started t g (callOf p (Step c) .pool)) (sym (own-is p r c t e first) ∙ o)
+    (subst (Started t (freeFrame p)) (sym (takes-by p r c t e first)) (started-own p r c t e first))) (k .takes)
 
 -- a 14 evicts its victim and no other frame
 abbrev EvictsOnly : Pool → ℕ → ℕ → Move → Type 0
