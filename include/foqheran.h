@@ -319,9 +319,9 @@ static inline size_t foqheran_lent_length(const uint8_t *store, size_t length)
 // Makes a new pool of 1 to 64 slots and 1 to 16 clients, all at rest. `cap` is the most that a page's reference count
 // can be, 1 to 100: the higher, the longer a page that is asked for often outlives the others. A page comes in with the
 // count 1, and an index page, 0 to 3, with 3, or with `cap` if that is below 3. Each further request for it adds one,
-// up to `cap`; each sweep that finds it unused takes one off, and evicts it where that leaves 0. `hand` is where the
-// first search for a slot starts: any number. Without a store pages may have any numbers of 32 bits, and reads and
-// writes are refused by 16.
+// up to `cap`. Each time that a sweep comes by and finds it unused, it takes one off, and evicts the page where that
+// leaves 0; a sweep may come by several times. `hand` is where the first search for a slot starts: any number. Without
+// a store pages may have any numbers of 32 bits, and reads and writes are refused by 16.
 //
 // Done with the number of slots, or refused by 8: then the pool is as it was, set up or not.
 static inline foqheran_answer foqheran_setup(struct foqheran_pool *pool, uint8_t slots, uint8_t clients, uint8_t cap,
@@ -391,7 +391,7 @@ static inline foqheran_answer foqheran_request(struct foqheran_pool *pool, uint8
                                                struct foqheran_tally *tally, uint8_t *store, size_t length)
 {
     if (foqheran_lent_length(store, length) != (size_t)FOQHERAN_PAGE_BYTES * pool->store_pages) {
-        return (foqheran_answer)(FOQHERAN_REFUSED + FOQHERAN_OUT_OF_RANGE) << 32;
+        return ((foqheran_answer)FOQHERAN_REFUSED + FOQHERAN_OUT_OF_RANGE) << 32;
     }
     foqheran_answer answer = foqheran_begin(pool, client, page);
     if (foqheran_is_refused(answer)) {

@@ -409,7 +409,7 @@ def limits():
     for path, names in SERVERS.items():
         for name, limit in zip(names, (size, clients, cap, held, pages, page,
                                        index, count)):
-            need("%s = %d" % (name, limit) in read(path),
+            need(re.search(r"\b%s = %d\b" % (name, limit), read(path)),
                  "%s of %s is not %d" % (name, path.name, limit))
     return ("the limits: %d, %d, %d, %d; %d bytes, %d pages; %d index pages, "
             "count %d" % (size, clients, cap, held, page, pages, index, count))

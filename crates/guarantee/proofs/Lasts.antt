@@ -73,7 +73,7 @@ module _ (p : Pool) (r : Reached p) (f d : ℕ) (due : Due p f d) where
   data After (c : ℕ) (m : Move) : Type 0 where
     anew : client p c .stage ≡ 4 → m .next .own ≡ f → After c m
     no-visit : Due (apply p c m) f d → After c m
-    a-visit : d ≢ 0 → client p c .stage ≡ 13 → client p c .victim ≡ f → Due (apply p c m) f (d - 1) → After c m
+    a-visit : d ≢ 0 → client p c .stage ≡ 13 → count (apply p c m) f < count p f → Due (apply p c m) f (d - 1) → After c m
 
   module _ (c : ℕ) (m : Move) (here : c < clientCount p) where
     due-next : (e : ℕ) → e ≤ d → e ≤ count (apply p c m) f → (m .next .stage ≡ 14 → m .next .victim ≡ f → e ≡ 0) → Due (apply p c m) f e
@@ -113,8 +113,9 @@ module _ (p : Pool) (r : Reached p) (f d : ℕ) (due : Due p f d) where
         by (yes e) (yes z) = no-visit (due-next d (omega arith) (omega arith) (λ _ _. z))
         by (yes e) (no z) =
             let was = ap (count p) e in
-            a-visit z s (sym e)
-            (due-next (d - 1) (omega arith) (omega (arith, due .left, was, put-here v _ w e)) (λ t _. omega (arith, due .left, was, h t .1)))
+            let is = put-here v _ w e in
+            a-visit z s (omega (arith, due .left, was, is))
+            (due-next (d - 1) (omega arith) (omega (arith, due .left, was, is)) (λ t _. omega (arith, due .left, was, h t .1)))
         by (no e) _ = no-visit (due-next d (omega arith) (put-else v (count p v - 1) (rw w refl) e) (λ t q. absurd (e (sym q ∙ h t .0))))
     after-move (starts {n} s w t) = by (ℕ-discrete f (m .next .own))
       where
@@ -146,8 +147,9 @@ after-call p x r f d due = go (turned-or-move p x)
         by : After p r f d due c (moveOf p x) → AfterCall p x f d
         by (anew s o) = takes (takes-frame p x r e q s o)
         by (no-visit h) = as-due (subst (λ (y : Outcome). Due (y .pool) f d) (sym q) h)
-        by (a-visit z s v h) =
-            visits z (c, (step 12 s, s), v, omega (arith, due .left)) (subst (λ (y : Outcome). Due (y .pool) f (d - 1)) (sym q) h)
+        by (a-visit z s l h) =
+            let now : count (callOf p x .pool) f ≡ count (apply p c (moveOf p x)) f = ap (λ (y : Outcome). count (y .pool) f) q in
+            visits z (c, (step 12 s, s), omega (arith, l, now)) (subst (λ (y : Outcome). Due (y .pool) f (d - 1)) (sym q) h)
 
 -- ---- it starts with the 4 that takes the frame, and the 14 that evicts it finds nothing due
 
@@ -256,5 +258,5 @@ pub lasts : (p : Pool) (calls : List Call) → Reached p → Lasts (along (event
 lasts p calls r =
     record {
       starts = λ f t. at-each (TakesWith f t) (λ e. count (e .next) f ≡ t) (λ p x r w. started p x r f t w .0) p calls r;
-      visited = λ f t k n. visits-after f p calls r t k n;
+      lowered = λ f t k n. visits-after f p calls r t k n;
     }

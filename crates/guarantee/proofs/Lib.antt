@@ -40,7 +40,7 @@ pub mod Alone
 pub mod SweepMoves
 pub mod Meetings
 pub mod BusySweep
--- claim 23: what each stage's move is to the counts; how often a frame is visited before it is evicted
+-- claim 23: what each stage's move is to the counts; how often the count of a frame is lowered before it is evicted
 pub mod CountMoves
 pub mod Lasts
 -- claim 14: of every pool, a handed one too

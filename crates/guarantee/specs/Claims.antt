@@ -381,9 +381,9 @@ Claim-held-once = (p : Pool) (c : ℕ) → valid p ≡ true → HeldOnce p c (ro
 abbrev pub TakesWith : ℕ → ℕ → Event → Type 0
 TakesWith f t e = (k : Takes f e) × (firstCount (e .before .cap) (client (e .before) (k .client-of) .page) ≡ t)
 
--- a 13 takes one off the count of frame f; a 14 evicts it
+-- a 13 lowers the count of frame f; a 14 evicts it
 abbrev pub Lowers : ℕ → Event → Type 0
-Lowers f e = (c : ℕ) × StepAt c 13 e × (client (e .before) c .victim ≡ f) × (0 < count (e .before) f)
+Lowers f e = (c : ℕ) × StepAt c 13 e × (count (e .next) f < count (e .before) f)
 
 abbrev pub SweepsOut : ℕ → Event → Type 0
 SweepsOut f e = (c : ℕ) × StepAt c 14 e × BecomesEvicted f e
@@ -391,7 +391,7 @@ SweepsOut f e = (c : ℕ) × StepAt c 14 e × BecomesEvicted f e
 -- SPECIFICATION 4.31: the frame has this count then; and unless another 4 takes it, its count is lowered at least so often before a 14 evicts it
 pub record Lasts (run : Run) : Type 0 where
   pub starts : (f t n : ℕ) → run (TakesWith f t) n → run (λ e. count (e .next) f ≡ t) n
-  pub visited : (f t k n : ℕ) → run (TakesWith f t) k → k < n → NoneBetween (Takes f) run k n → run (SweepsOut f) n → AtLeast (Lowers f) run k t n
+  pub lowered : (f t k n : ℕ) → run (TakesWith f t) k → k < n → NoneBetween (Takes f) run k n → run (SweepsOut f) n → AtLeast (Lowers f) run k t n
 
 abbrev pub Claim-lasts : Type 0
 Claim-lasts = (p : Pool) → SetUp p → (calls : List Call) → Lasts (along (events p calls))

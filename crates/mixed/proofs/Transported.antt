@@ -161,7 +161,7 @@ module _ {hs : List Happening} {es : List Event} (s : Embedded hs es) where
   lasts-in base =
       record {
         starts = λ f t n a. let d = taken-down f t n a in subst (amid hs (λ e. count (e .next) f ≡ t)) (d .1) (at-up _ s (d .0) (base .starts f t (d .0) (d .2)));
-        visited = λ f t k n a l anew out.
+        lowered = λ f t k n a l anew out.
             let dk = taken-down f t k a in
             let dn = down (SweepsOut f) (λ e x w. no-step x (w .1 .0)) n out in
             let i : ℕ = dk .0 in
@@ -169,7 +169,7 @@ module _ {hs : List Happening} {es : List Event} (s : Embedded hs es) where
             let later : up s i < up s j = rw (dk .1, dn .1) l in
             let not-anew : NoneBetween (Takes f) (amid hs) (up s i) (up s j) = rw (dk .1, dn .1) anew in
             rw (← dk .1, ← dn .1)
-            (at-least-up (Lowers f) (base .visited f t i j (dk .2) (up-less-back s i j later) (none-down (Takes f) i j not-anew) (dn .2)));
+            (at-least-up (Lowers f) (base .lowered f t i j (dk .2) (up-less-back s i j later) (none-down (Takes f) i j not-anew) (dn .2)));
       }
     where
       taken-down : (f t n : ℕ) → amid hs (TakesWith f t) n → (m : ℕ) × (up s m ≡ n) × along es (TakesWith f t) m

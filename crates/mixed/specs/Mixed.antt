@@ -171,7 +171,8 @@ Claim-refused-on = (x : State) (r : Request) → callOn x r .answer ≡ Refused 
 abbrev pub Claim-busy-sweep-on : Type 0
 Claim-busy-sweep-on = (x : State) → SetUpOn x → (rs : List Request) → BusySweep (x .pool .size) (amid (happenings x rs))
 
--- GUARANTEE 23: a frame starts with its page's first count, which is lowered at least so often before a 14 evicts it, whatever was read and written meanwhile
+-- GUARANTEE 23: a frame starts with its page's first count, and unless another 4 takes it, its count is lowered at least so often before a 14 evicts it,
+-- whatever was read and written meanwhile
 abbrev pub Claim-lasts-on : Type 0
 Claim-lasts-on = (x : State) → SetUpOn x → (rs : List Request) → Lasts (amid (happenings x rs))
 

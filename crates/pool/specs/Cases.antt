@@ -80,7 +80,7 @@ abbrev pub steps : ℕ → ℕ → List Call
 steps c zero = []
 steps c (suc n) = Step c ∷ steps c n
 
--- a page is admitted to an empty slot that the hand points at; is had again; takes the only slot from a page without grants; is refused, since
+-- a page is admitted to an empty slot that the hand points at; is had again; takes the only slot from a page without grants and of count 1; is refused, since
 -- the only slot's page is held, and its request has taken a frame by then
 abbrev pub admit : ℕ → List Call
 admit g = Begin 0 g ∷ steps 0 8

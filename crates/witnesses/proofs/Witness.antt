@@ -99,7 +99,7 @@ taken-with = (record { client-of = 0; step-of = (refl, refl); takes = refl }, re
 
 pub lowered : At (Lowers 0) index-run 17 × At (Lowers 0) index-run 20 × At (Lowers 0) index-run 23
 unfolding computing
-lowered = ((0, (refl, refl), refl, omega arith), (0, (refl, refl), refl, omega arith), (0, (refl, refl), refl, omega arith))
+lowered = ((0, (refl, refl), omega arith), (0, (refl, refl), omega arith), (0, (refl, refl), omega arith))
 
 pub swept-out : At (SweepsOut 0) index-run 24
 unfolding computing

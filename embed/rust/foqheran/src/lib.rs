@@ -111,9 +111,9 @@ impl Pool {
     ///
     /// `cap` is the most that a page's reference count can be, 1 to 100: the higher it is, the longer a page that is
     /// asked for often outlives the others. A page comes in with the count 1, and an index page, 0 to 3, with 3, or
-    /// with `cap` if that is below 3. Each further request for it adds one, up to `cap`; each sweep that finds it
-    /// unused takes one off, and evicts it where that leaves 0. `hand` says where the first search for a slot starts,
-    /// and may be any number.
+    /// with `cap` if that is below 3. Each further request for it adds one, up to `cap`. Each time that a sweep comes
+    /// by and finds it unused, it takes one off, and evicts the page where that leaves 0; a sweep may come by several
+    /// times. `hand` says where the first search for a slot starts, and may be any number.
     ///
     /// Pages may have any numbers, and [`read`](Pool::read) and [`write`](Pool::write) are refused by 16. What the
     /// frames hold is the caller's: see [`step`](Pool::step).
