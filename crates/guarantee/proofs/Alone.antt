@@ -21,8 +21,8 @@ use Rattle.pool.specs.declared.Answer.the-variants.{Done, Refused}
 use Rattle.invariant.proofs.Reached.{Reached}
 use Rattle.invariant.proofs.Allowed.{allowed, only-step}
 use Rattle.invariant.proofs.Calls.{reached-call}
-use Rattle.guarantee.specs.Runs.{Event, eventOf, events, At, along, Begins}
-use Rattle.guarantee.specs.Claims.{AllHeld, AnswersTo, TurnedDown, RefusedAlone}
+use Rattle.guarantee.specs.Runs.{Event, eventOf, events, At, along, Begins, AnswersTo, TurnedDown}
+use Rattle.guarantee.specs.Claims.{AllHeld, RefusedAlone}
 use Rattle.guarantee.proofs.TurnedDown.{same-pool, other-answer, other-call, turned-down, turned, one-move, turned-or-move}
 use Rattle.guarantee.proofs.OneClient.{working-unanswered, rest-unanswered}
 use Rattle.guarantee.proofs.AloneSteps.{begun-is, begun-rests, begun-alone}

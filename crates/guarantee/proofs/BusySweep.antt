@@ -26,8 +26,7 @@ use Rattle.invariant.proofs.Setup.{first-rests, first-reached}
 use Rattle.invariant.proofs.Steps.{around-ok}
 use Rattle.invariant.proofs.Allowed.{Allowed, may-release}
 use Rattle.invariant.proofs.Calls.{call-moves, never-stuck, reached-call}
-use Rattle.guarantee.specs.Runs.{Event, eventOf, events, At, along, Begins}
-use Rattle.guarantee.specs.Claims.{AnswersTo, TurnedDown}
+use Rattle.guarantee.specs.Runs.{Event, eventOf, events, At, along, Begins, AnswersTo, TurnedDown}
 use Rattle.guarantee.specs.BusySweep.{MeetsBusy, finds-empty, finds-pinned, BusyVisit, Refused15, MeetsAllBusy, BusySince, BusySweep, Claim-busy-sweep}
 use Rattle.guarantee.proofs.Along.{at-each}
 use Rattle.guarantee.proofs.TurnedDown.{same-answer, same-pool, other-answer, other-call, turned, one-move, turned-or-move, refused-by}

@@ -30,6 +30,8 @@ use Rattle.guarantee.proofs.TurnedDown.{same-stage, turned-down, refuse
 use Rattle.guarantee.proofs.Limits.{limits}
 use Rattle.guarantee.proofs.Holdings.{holdings, held-once}
 use Rattle.guarantee.proofs.Lasts.{lasts}
+use Rattle.guarantee.proofs.StepBounds.{bounds}
+use Rattle.guarantee.proofs.Progress.{gets-through}
 
 point3 : Claim-point3
 point3 p u calls =
@@ -75,4 +77,6 @@ guarantee =
       holdings = holdings;
       held-once = held-once;
       lasts = λ p u calls. lasts p calls (first-reached u);
+      bounds = bounds;
+      progress = λ p u calls. gets-through p calls (first-reached u);
     }

@@ -43,6 +43,9 @@ pub mod BusySweep
 -- claim 23: what each stage's move is to the counts; how often the count of a frame is lowered before it is evicted
 pub mod CountMoves
 pub mod Lasts
+-- claim 24: the arithmetic of its numbers; each call lowers the rank, or keeps it, or answers
+pub mod StepBounds
+pub mod Progress
 -- claim 14: of every pool, a handed one too
 pub mod Holdings
 -- all of it, as the record `Guarantee`

@@ -10,7 +10,7 @@ use native.Mathlib.Decide.{ℕ-discrete, decLt}
 use native.Mathlib.Nat.{mod-lt}
 use native.Mathlib.Omega.{arith}
 use lib.Dec.{T, eqb}
-use borrow.Author.Tests.{eqb-true, eqb-false, ltb-true, ltb-false, not-true, not-false}
+use borrow.Author.Tests.{eqb-true, eqb-false, not-true, not-false}
 use Rattle.pool.specs.State.{none, evicted, clientCount, slot, pins, client}
 use Rattle.pool.specs.Table.{lookup, resident}
 use Rattle.pool.specs.Moves.{works, withPlace}
@@ -20,22 +20,22 @@ use Rattle.pool.specs.Calls.{beginMove, callOf, poolAfter}
 use Rattle.pool.specs.declared.Pool.{Pool}
 use Rattle.pool.specs.declared.Client.{Client}
 use Rattle.pool.specs.declared.Move.{Move}
-use Rattle.pool.specs.declared.Outcome.{Outcome}
 use Rattle.pool.specs.declared.Call.{Call}
 use Rattle.pool.specs.declared.Call.the-variants.{Begin, Step}
 use Rattle.pool.specs.declared.Answer.the-variants.{Done, Granted}
 use Rattle.pool.specs.declared.Write.the-variants.{Keep}
-use Rattle.laws.specs.Choices.{by-test}
-use Rattle.invariant.proofs.Reached.{one, sumTo, filling, WillUnmap, Shape, Reached}
+use Rattle.invariant.proofs.Reached.{one, filling, WillUnmap, Shape, Reached}
 use Rattle.invariant.proofs.After.{pins-kept, slot-kept}
 use Rattle.invariant.proofs.Writes.{keepsTable, lookup-kept}
 use Rattle.invariant.proofs.Searches.{pins-named}
 use Rattle.invariant.proofs.Table.{suc-not, lookup-mapped}
-use Rattle.invariant.proofs.Sums.{sum-zero, sum-has, sum-some-test}
+use Rattle.invariant.proofs.Facts.{filling-empty}
+use Rattle.invariant.proofs.Steps.{around-is}
+use Rattle.invariant.proofs.Sums.{sum-zero, sum-has}
 use Rattle.invariant.proofs.Calls.{reached-after}
 use Rattle.guarantee.specs.Runs.{events, At}
 use Rattle.guarantee.specs.Claims.{GrantedWithin, WithinLimits, Claim-limits}
-use Rattle.guarantee.proofs.TurnedDown.{turned, one-move, turned-or-move}
+use Rattle.guarantee.proofs.TurnedDown.{same-numbers}
 use Rattle.guarantee.proofs.AloneSteps.{AloneAt, StepIs, begun-is, begun-alone, after-step, alone-next, move1, move1-found, move2, move3}
 use Rattle.guarantee.proofs.AloneSteps.{move4, move5, move6, move7, move8, move8-next, move9, move18}
 
@@ -88,13 +88,6 @@ admission9 p b g on a = let w = move9 p b g on in within-next p b 1 (admission18
 admission8-empty : (p : Pool) (b g : ℕ) → AloneAt p b g 8 → lookup p g ≡ none → slot p (client p b .place) ≡ none → GrantedWithin p b 3
 admission8-empty p b g on a e = let w = move8 p b g on e in within-next p b 2 (admission9 _ b g (alone-next w 9 on refl refl) (absent-next on w tt a))
 
--- the slot after slot i
-pub around-is : (s i : ℕ) → i < s → ((suc i < s) × (around s i ≡ suc i)) ⊎ ((suc i ≡ s) × (around s i ≡ 0))
-unfolding around
-around-is s i h =
-    by-test (λ (n : ℕ). ((suc i < s) × (n ≡ suc i)) ⊎ ((suc i ≡ s) × (n ≡ 0)))
-    (λ t. inl (omega (arith, ltb-true (i + 1) s t), omega arith)) (λ t. inr (omega (arith, ltb-false (i + 1) s t), refl))
-
 -- the empty slot i is d places on from place j
 record Ahead (p : Pool) (j i d : ℕ) : Type 0 where
   place : j < p .size
@@ -139,10 +132,6 @@ admission8 (suc d) p b g i on a h =
           (next-is on w (λ q k. Ahead q (k .place) i d) (ahead-next p b _ (on .reached .shape) refl (closer p _ i d h)))))
     ]
 
--- some slot is empty where the empty slots are not none
-pub some-empty : (p : Pool) → sumTo (λ i. one (eqb (slot p i) none)) (p .size) ≢ 0 → (i : ℕ) × (i < p .size) × (slot p i ≡ none)
-some-empty p z = let r = sum-some-test (λ i. eqb (slot p i) none) (p .size) z in (r .0, r .1, eqb-true _ none (r .2))
-
 admission7 : (p : Pool) (b g n : ℕ) → p .size ≡ n → AloneAt p b g 7 → lookup p g ≡ none → GrantedWithin p b (n + 3)
 unfolding slotsAfter
 admission7 p b g n sz on a =
@@ -161,13 +150,7 @@ admission7 p b g n sz on a =
     place = mod-lt (p .hand) (on .reached .shape .size-low)
 
     e : (i : ℕ) × (i < p .size) × (slot p i ≡ none)
-    e =
-        some-empty p (λ z. omega (
-          arith,
-          on .reached .evictions .empties,
-          ap (λ (x : ℕ). one (filling x)) (on .stage),
-          sum-has (λ c. one (filling (client p c .stage))) (clientCount p) b (on .here),
-        ))
+    e = filling-empty p (on .reached) b 7 (on .here) (on .stage) tt
 
     far : (d : ℕ) × (d < p .size) × ((j + d ≡ e .0) ⊎ (j + d ≡ e .0 + p .size))
     far =
@@ -260,14 +243,10 @@ module _ (p : Pool) (r : Reached p) (rest : (c : ℕ) → client p c .stage ≡ 
 
 -- ---- the claim
 
-size-call : (p : Pool) (x : Call) → callOf p x .pool .size ≡ p .size
-unfolding apply
-size-call p x = elim (turned-or-move p x) [ turned _ _ e ↦ ap (λ (o : Outcome). o .pool .size) e | one-move _ _ e ↦ ap (λ (o : Outcome). o .pool .size) e ]
-
 size-after : (p : Pool) (calls : List Call) → poolAfter p calls .size ≡ p .size
 unfolding poolAfter
 size-after p [] = refl
-size-after p (x ∷ calls) = size-after (callOf p x .pool) calls ∙ size-call p x
+size-after p (x ∷ calls) = size-after (callOf p x .pool) calls ∙ same-numbers (λ s _ _. s) p x
 
 pub limits : Claim-limits
 limits p u calls b g rest a = limits-from (poolAfter p calls) (reached-after u calls) rest (p .size) b g (size-after p calls) a

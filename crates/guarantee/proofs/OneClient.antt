@@ -19,8 +19,7 @@ use Rattle.invariant.proofs.Reached.{Shape, Reached}
 use Rattle.invariant.proofs.After.{client-same, client-other}
 use Rattle.invariant.proofs.Allowed.{Allowed, allowed, may-step}
 use Rattle.invariant.proofs.Calls.{reached-call}
-use Rattle.guarantee.specs.Runs.{Event, eventOf, events, At, Begins}
-use Rattle.guarantee.specs.Claims.{AnswersTo, TurnedDown}
+use Rattle.guarantee.specs.Runs.{Event, eventOf, events, At, Begins, AnswersTo, TurnedDown}
 use Rattle.guarantee.proofs.TurnedDown.{same-answer, same-stage, other-answer, other-call, moved, TurnedOrMove, turned, one-move, turned-or-move}
 use Rattle.guarantee.proofs.TurnedDown.{turned-down-not-15, is-done, is-stuck, done-or-stuck}
 

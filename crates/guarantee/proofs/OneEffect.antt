@@ -23,9 +23,9 @@ use Rattle.laws.specs.Scans.{and-parts}
 use Rattle.invariant.proofs.StageTests.{T-false}
 use Rattle.invariant.proofs.Allowed.{may-begin, may-release}
 use Rattle.invariant.proofs.Calls.{reached-call}
-use Rattle.guarantee.specs.Runs.{Event, eventOf, events, At, along, NoneBetween, Begins, GrantedTo}
+use Rattle.guarantee.specs.Runs.{Event, eventOf, events, At, along, NoneBetween, Begins, GrantedTo, AnswersTo, TurnedDown}
 use Rattle.guarantee.specs.Sequential.{adding, admitting}
-use Rattle.guarantee.specs.Claims.{AnswersTo, TurnedDown, takesEffect, TakesEffect, TakesEffectOnce, OneEffect}
+use Rattle.guarantee.specs.Claims.{takesEffect, TakesEffect, TakesEffectOnce, OneEffect}
 use Rattle.guarantee.proofs.Along.{at-each}
 use Rattle.laws.specs.StageAnswers.{on-successors, on-grants, StageAnswer, goes, grants, refuses, sticks, stage-answer}
 use Rattle.guarantee.proofs.TurnedDown.{same-answer, same-stage, other-answer}

@@ -30,6 +30,7 @@ use Rattle.invariant.proofs.Sums.{sum-zero, sum-has}
 use Rattle.invariant.proofs.Writes.{countersOnly, keepsTable, untouched, lookup-kept}
 use Rattle.invariant.proofs.Searches.{none-evicted, free-found, Unreferenced, unreferenced-means}
 use Rattle.invariant.proofs.NeverFails.{finds-some}
+use Rattle.invariant.proofs.Facts.{some-empty}
 use Rattle.invariant.proofs.StageTests.{T-false}
 use Rattle.invariant.proofs.Steps.{around-ok}
 use Rattle.guarantee.specs.Claims.{AllHeld}
@@ -37,7 +38,7 @@ use Rattle.guarantee.proofs.AloneSteps.{AloneAt, StepIs, alone-next, mo
 use Rattle.guarantee.proofs.AloneSteps.{move8, move8-next, move9, move10, move11, move12-evicted, move12-unpinned, move12-busy, move12-refused}
 use Rattle.guarantee.proofs.AloneSteps.{move13-zero, move13-more, move14, move15, move16, move17-removes, move17-keeps, move18}
 use Rattle.guarantee.proofs.SinceBegin.{SameAsBegin, counters-slot, counters-pins, same-as-begin-next, absent-removed}
-use Rattle.guarantee.proofs.Limits.{next-is, absent-next, some-empty, found-not-evicted}
+use Rattle.guarantee.proofs.Limits.{next-is, absent-next, found-not-evicted}
 use Rattle.guarantee.proofs.Frames.{held-pinned}
 use Rattle.guarantee.proofs.Sweep.{pins-held, Before, before-none, before-next, before-all}
 

@@ -15,7 +15,7 @@ use Rattle.laws.specs.Scans.{some-yes}
 use Rattle.invariant.proofs.Reached.{grantsOn, claims, claimed, Balance, unclaimed, counted, orphan, Reached}
 use Rattle.invariant.proofs.Sums.{sum-some, sum-some-test}
 use Rattle.invariant.proofs.Facts.{none-own}
-use Rattle.guarantee.proofs.Limits.{around-is}
+use Rattle.invariant.proofs.Steps.{around-is}
 
 -- ---- held and pinned
 

@@ -8,7 +8,7 @@ use native.Mathlib.Omega.{arith}
 use lib.Dec.{T, eqb}
 use borrow.Author.Tests.{eqb-true, eqb-false, not-true}
 use Rattle.pool.specs.Answers.{refusalOf}
-use Rattle.pool.specs.State.{resting, client}
+use Rattle.pool.specs.State.{resting, clientCount, client}
 use Rattle.pool.specs.Moves.{refused15, stuck}
 use Rattle.pool.specs.Apply.{slotsAfter, pagesAfter, pinsAfter, countsAfter, entryPagesAfter, entryFramesAfter, handAfter, freeAfter, lastAfter}
 use Rattle.pool.specs.Apply.{grantPagesAfter, grantFramesAfter, apply}
@@ -81,6 +81,15 @@ turned-or-move p x =
     (λ v. one-move (eqb-true _ _ t) (eqb-false _ _ (not-true _ (both-true _ _ v .0))) refl)
     (λ _. turned 8 (inr refl) refl))
     (λ t. turned (refusal p x) (inl (refl, eqb-false _ _ t)) refl)
+
+-- so the numbers of the setup stay
+pub same-numbers : (f : ℕ → ℕ → ℕ → ℕ) (p : Pool) (x : Call)
+    → let q = callOf p x .pool in
+    f (q .size) (clientCount q) (q .cap) ≡ f (p .size) (clientCount p) (p .cap)
+unfolding apply
+same-numbers f p x =
+    let numbers : (Outcome → ℕ) = λ o. f (o .pool .size) (clientCount (o .pool)) (o .pool .cap) in
+    elim (turned-or-move p x) [ turned _ _ e ↦ ap numbers e | one-move _ _ e ↦ ap numbers e ]
 
 pub turned-down-not-15 : (p : Pool) (x : Call) (n : ℕ) → TurnedDownBy p x n → n ≢ 15
 turned-down-not-15 p x n (inl r) z = refusal-not-15 p x (r .0 ∙ z)

@@ -26,9 +26,11 @@ use Rattle.pool.specs.declared.Answer.{Answer}
 use Rattle.pool.specs.declared.Answer.the-variants.{Done, Working, Granted, Refused}
 use Rattle.pool.specs.declared.Counted.{Counted}
 use Rattle.pool.specs.declared.Counted.the-variants.{Nothing, Admitted, Drop, Refusal}
-use Rattle.guarantee.specs.Runs.{Event, events, At, Run, along, IsCall, NoneBetween, Throughout, StepAt, Begins, GrantedTo, Releases, ExactlyOne, AtLeast, SameRequest}
+use Rattle.guarantee.specs.Runs.{Event, events, At, Run, along, IsCall, NoneBetween, Throughout, StepAt, Begins, GrantedTo, Releases, AnswersTo, TurnedDown, ExactlyOne, AtLeast}
+use Rattle.guarantee.specs.Runs.{SameRequest}
 use Rattle.guarantee.specs.Sequential.{Sequential, Keeps, seqClient, start, Rule, adding, admitting}
 use Rattle.guarantee.specs.BusySweep.{Claim-busy-sweep}
+use Rattle.guarantee.specs.Progress.{Claim-bounds, Claim-progress}
 
 -- ---- GUARANTEE 2: one copy
 
@@ -179,10 +181,6 @@ takesEffect i (Refused n) = false
 abbrev pub TakesEffect : ℕ → Event → Type 0
 TakesEffect c e = (e .asked ≡ Step c) × T (takesEffect (client (e .before) c .stage) (e .answer))
 
--- the request of client c is answered
-abbrev pub AnswersTo : ℕ → Event → Type 0
-AnswersTo c e = (e .asked ≡ Step c) × (((f : ℕ) × (e .answer ≡ Granted f)) ⊎ (e .answer ≡ Refused 15))
-
 -- The request of client c that event n answers, and its one effect. Its begin is the client's last that is done before n, and no request of the
 -- client is answered between the two: so event n answers this very request.
 pub record TakesEffectOnce (run : Run) (c n : ℕ) : Type 0 where
@@ -201,10 +199,6 @@ OneEffect run = (c n : ℕ) → run (GrantedTo c) n → TakesEffectOnce run c n
 
 abbrev pub AllHeld : Pool → Type 0
 AllHeld p = (i : ℕ) → i < p .size → (slot p i ≢ none) × (held p (slot p i) ≡ true)
-
--- a call that is turned down, by whichever number but 15
-abbrev pub TurnedDown : Event → Type 0
-TurnedDown e = (n : ℕ) × (e .answer ≡ Refused n) × (n ≢ 15)
 
 -- Client c begins on page g at event k, in pool p, and is answered at event n; at the begin the others rest, and every call of the pool between the
 -- two events is this client's or is turned down.
@@ -411,3 +405,5 @@ pub record Guarantee : Type 0 where
   pub holdings : Claim-holdings
   pub held-once : Claim-held-once
   pub lasts : Claim-lasts
+  pub bounds : Claim-bounds
+  pub progress : Claim-progress

@@ -1,4 +1,5 @@
 pub mod Runs
 pub mod Sequential
 pub mod BusySweep
+pub mod Progress
 pub mod Claims

@@ -1,5 +1,6 @@
 -- Runs, and what the claims say of their events. Assumes nothing.
 use mathlib.Core.Path.{_≡_}
+use mathlib.Core.Logic.{_≢_, _⊎_}
 use mathlib.Core.List.{List, [], _∷_}
 use Prim.Native.Nat.{ℕ, zero, suc, _≤_, _<_}
 use Rattle.pool.specs.State.{client}
@@ -8,7 +9,7 @@ use Rattle.pool.specs.declared.Pool.{Pool}
 use Rattle.pool.specs.declared.Call.{Call}
 use Rattle.pool.specs.declared.Call.the-variants.{Begin, Step, Release}
 use Rattle.pool.specs.declared.Answer.{Answer}
-use Rattle.pool.specs.declared.Answer.the-variants.{Done, Granted}
+use Rattle.pool.specs.declared.Answer.the-variants.{Done, Granted, Refused}
 use Rattle.pool.specs.declared.Counted.{Counted}
 
 -- one call of a run: the pool it was handed, what was asked and answered, what the tally counted, and the pool it returned
@@ -67,6 +68,14 @@ GrantedTo c e = (f : ℕ) × (e .asked ≡ Step c) × (e .answer ≡ Granted f)
 
 abbrev pub Releases : ℕ → Event → Type 0
 Releases c e = (g : ℕ) × (e .asked ≡ Release c g) × (e .answer ≡ Done g)
+
+-- the request of client c is answered: granted, or refused by 15
+abbrev pub AnswersTo : ℕ → Event → Type 0
+AnswersTo c e = (e .asked ≡ Step c) × (((f : ℕ) × (e .answer ≡ Granted f)) ⊎ (e .answer ≡ Refused 15))
+
+-- a call that is turned down, by whichever number but 15
+abbrev pub TurnedDown : Event → Type 0
+TurnedDown e = (n : ℕ) × (e .answer ≡ Refused n) × (n ≢ 15)
 
 -- Client c's request that is begun at event k is its last up to event n: no later begin of the client is done before n.
 abbrev pub SameRequest : Run → ℕ → ℕ → ℕ → Type 0

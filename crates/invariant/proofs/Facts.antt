@@ -9,17 +9,17 @@ use native.Mathlib.Decide.{ℕ-discrete}
 use lib.Dec.{T, eqb}
 use borrow.Author.Tests.{eqb-true, eq-eqb, ne-eqb, ltb-true, ltb-false}
 use Rattle.pool.specs.Limits.{indexCount}
-use Rattle.pool.specs.State.{none, evicted, pinned, clientCount, resting, page, pins, client, grantPage, grantFrame}
+use Rattle.pool.specs.State.{none, evicted, pinned, clientCount, resting, slot, page, pins, client, grantPage, grantFrame}
 use Rattle.pool.specs.Table.{lookup}
 use Rattle.pool.specs.Stages.{raised, firstCount}
 use Rattle.pool.specs.declared.Pool.{Pool}
 use Rattle.pool.specs.declared.Client.{Client}
 use Rattle.laws.specs.Choices.{by-test}
-use Rattle.invariant.proofs.Reached.{one, mapped, InSlot, FoundMapped, Knows, grantsOf, grantsOn, claims, claimed, pinsFound, unplaced, examining, Orphan, Balance, unclaimed, counted}
-use Rattle.invariant.proofs.Reached.{orphan, Reached}
+use Rattle.invariant.proofs.Reached.{one, sumTo, mapped, InSlot, FoundMapped, Knows, grantsOf, grantsOn, claims, claimed, pinsFound, unplaced, examining, Orphan, Balance, unclaimed, counted}
+use Rattle.invariant.proofs.Reached.{orphan, filling, Reached}
 use Rattle.invariant.proofs.StageTests.{T-true, T-false, and-false, examining-cases}
 use Rattle.invariant.proofs.After.{client-here}
-use Rattle.invariant.proofs.Sums.{one-is, one-not, one-at-most, sum-zero, sum-one, sum-has, sum-two, sum-below, sum-gap}
+use Rattle.invariant.proofs.Sums.{one-is, one-not, one-at-most, sum-zero, sum-one, sum-has, sum-two, sum-below, sum-gap, sum-some-test}
 use Rattle.invariant.proofs.Searches.{grantFrame-past, grant-in}
 use Rattle.invariant.proofs.Table.{suc-not, some-suc, mapped-lookup}
 use Rattle.invariant.proofs.Grants.{grantsOn-none}
@@ -255,3 +255,15 @@ module _ (p : Pool) (r : Reached p) where
       go (inr (inl q)) = in-slot (know p r d 13 q .1 .1)
       go (inr (inr (inl q))) = in-slot (know p r d 14 q .1 .1)
       go (inr (inr (inr q))) = omega (arith, know p r d 15 q .1 .1, two)
+
+-- ---- empty slots
+
+-- some slot is empty where the empty slots are not none
+pub some-empty : (p : Pool) → sumTo (λ i. one (eqb (slot p i) none)) (p .size) ≢ 0 → (i : ℕ) × (i < p .size) × (slot p i ≡ none)
+some-empty p z = let r = sum-some-test (λ i. eqb (slot p i) none) (p .size) z in (r .0, r .1, eqb-true _ none (r .2))
+
+-- there is one for a client that has claimed a slot and not filled it
+pub filling-empty : (p : Pool) → Reached p → (c i : ℕ) → c < clientCount p → client p c .stage ≡ i → T (filling i) → (j : ℕ) × (j < p .size) × (slot p j ≡ none)
+filling-empty p r c i here e t =
+    let f : one (filling (client p c .stage)) ≡ 1 = ap (λ (x : ℕ). one (filling x)) e ∙ ap one (T-true (filling i) t) in
+    some-empty p (λ z. let y : ⊥ = omega (arith, f, r .evictions .empties, sum-has (λ d. one (filling (client p d .stage))) (clientCount p) c here) in y)

@@ -2,13 +2,13 @@
 -- of its definition. A branch that would be stuck is shut by a clause: a frame and an unused entry are there (`NeverFails`), free is not 0 at 6, an own
 -- frame has pins 1, a working client has room for a grant. Assumes nothing.
 use mathlib.Core.Path.{_≡_, refl, sym, ap, _∙_}
-use mathlib.Core.Logic.{_≢_, inl, inr}
+use mathlib.Core.Logic.{_≢_, _⊎_, inl, inr}
 use mathlib.Core.Bool.{not}
-use Prim.Native.Nat.{ℕ, _+_, _-_, _≤_, _<_, _%_}
+use Prim.Native.Nat.{ℕ, suc, _+_, _-_, _≤_, _<_, _%_}
 use native.Mathlib.Nat.{mod-lt}
 use native.Mathlib.Omega.{arith}
 use lib.Dec.{T, eqb}
-use borrow.Author.Tests.{eqb-true, eqb-false, lt-ltb, ltb-true}
+use borrow.Author.Tests.{eqb-true, eqb-false, lt-ltb, ltb-true, ltb-false}
 use Rattle.pool.specs.Limits.{maxHeld}
 use Rattle.pool.specs.State.{none, evicted, clientCount, slot, page, pins, count, client, grantFrame}
 use Rattle.pool.specs.Table.{entryOf, lookup, unusedEntry}
@@ -41,9 +41,16 @@ use Rattle.invariant.proofs.Edges.{CountersOnly, keep, hand, counts, fr
 use Rattle.invariant.proofs.Edges.{pins2, pins19, gets3, gets21, takes, fills, replaces, refuses, evicts14, removes, admits, revives, evicts20, evicts23}
 use Rattle.invariant.proofs.Edges.{begins, releases}
 
+-- the slot after slot i
 pub around-ok : (s i : ℕ) → 0 < s → around s i < s
 unfolding around
 around-ok s i h = by-test (λ (x : ℕ). x < s) (λ t. ltb-true _ _ t) (λ _. h)
+
+pub around-is : (s i : ℕ) → i < s → ((suc i < s) × (around s i ≡ suc i)) ⊎ ((suc i ≡ s) × (around s i ≡ 0))
+unfolding around
+around-is s i h =
+    by-test (λ (n : ℕ). ((suc i < s) × (n ≡ suc i)) ⊎ ((suc i ≡ s) × (n ≡ 0)))
+    (λ t. inl (omega (arith, ltb-true (i + 1) s t), omega arith)) (λ t. inr (omega (arith, ltb-false (i + 1) s t), refl))
 
 pub not-unmapping : (p : Pool) (k : Client) (i : ℕ) → k .stage ≡ i → T (unmapsNone i) → (f : ℕ) → WillUnmap p k f → ⊥
 not-unmapping p k i e t f (_, inl l) = unmaps-none i t .0 (rw e at l)

@@ -121,3 +121,20 @@ pub sum-full : (g : ℕ → ℕ) (n : ℕ) → ((i : ℕ) → i < n → g i ≡ 
 unfolding sumTo
 sum-full g zero e = refl
 sum-full g (suc n) e = omega (arith, sum-full g n (λ i l. e i (omega arith)), e n (omega arith))
+
+-- each term but one rises by no more than b
+pub sum-rise : (g h : ℕ → ℕ) (n k b : ℕ) → k < n → ((i : ℕ) → i < n → i ≢ k → h i ≤ g i + b) → sumTo h n + g k + b ≤ sumTo g n + h k + b * n
+sum-rise g h n k b l e =
+    let u : (ℕ → ℕ) = λ i. choose (eqb i k) (h k) (g i + b) in
+    let here : u k ≡ h k = chosen _ _ _ (eq-eqb k k refl) in
+    let other : (i : ℕ) → i ≢ k → u i ≡ g i + b = λ i z. passed _ _ _ (ne-eqb i k z) in
+    let each : (i : ℕ) → i < n → h i ≤ u i =
+    λ i r. elim (ℕ-discrete i k) [ yes q ↦ omega (arith, here, ap h q, ap u q) | no z ↦ omega (arith, other i z, e i r z) ] in
+    omega (
+      arith,
+      here,
+      sum-below h u n each,
+      sum-put (λ i. g i + b) u n k l (λ i _. other i),
+      sum-add g (λ _. b) n,
+      sum-at-most (λ _. b) n b (λ _ _. omega arith),
+    )

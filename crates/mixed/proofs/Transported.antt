@@ -12,10 +12,10 @@ use Rattle.pool.specs.Calls.{caller}
 use Rattle.pool.specs.declared.Pool.{Pool}
 use Rattle.pool.specs.declared.Call.the-variants.{Begin, Step}
 use Rattle.pool.specs.declared.Answer.the-variants.{Done, Refused}
-use Rattle.guarantee.specs.Runs.{Event, along, NoneBetween, Begins, GrantedTo, ExactlyOne, AtLeast, enough, one-more}
+use Rattle.guarantee.specs.Runs.{Event, along, NoneBetween, Begins, GrantedTo, ExactlyOne, AtLeast, enough, one-more, AnswersTo, TurnedDown}
 use Rattle.guarantee.specs.BusySweep.{MeetsBusy, finds-empty, finds-pinned, BusyVisit, SeesFrame, Refused15, MeetsAllBusy, BusySince, BusySweep}
 use Rattle.guarantee.specs.Claims.{GrantsAsTold, GrantLists, BecomesEvicted, NoHeldEvicted, Evicts, Replaces, Takes, TakenOut, TakenOutOnce, TakesEffect}
-use Rattle.guarantee.specs.Claims.{AnswersTo, TakesEffectOnce, OneEffect, AllHeld, TurnedDown, Alone, RefusedAlone, TakesWith, Lowers, SweepsOut, Lasts}
+use Rattle.guarantee.specs.Claims.{TakesEffectOnce, OneEffect, AllHeld, Alone, RefusedAlone, TakesWith, Lowers, SweepsOut, Lasts}
 use Rattle.guarantee.proofs.TurnedDown.{other-answer, other-call}
 use Rattle.memory.specs.Happenings.{Happening}
 use Rattle.mixed.specs.Mixed.{amid}

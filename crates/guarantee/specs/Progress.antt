@@ -1,0 +1,58 @@
+-- GUARANTEE 24, somebody always gets through: of so many accepted steps one is an answer, whichever clients make them and whatever other calls stand
+-- between them. `Claims.antt` takes the claim in. Statements only. Assumes nothing.
+use mathlib.Core.Path.{_≡_}
+use mathlib.Core.List.{List}
+use Prim.Native.Nat.{ℕ, suc, _+_, _-_, _*_, _≤_, _<_}
+use Rattle.pool.specs.State.{clientCount}
+use Rattle.pool.specs.Calls.{SetUp}
+use Rattle.pool.specs.declared.Pool.{Pool}
+use Rattle.pool.specs.declared.Call.{Call}
+use Rattle.pool.specs.declared.Call.the-variants.{Step}
+use Rattle.guarantee.specs.Runs.{Event, events, along, AnswersTo, TurnedDown}
+
+-- ---- how many: in a pool of s slots and t clients, with counts up to c
+
+abbrev pub stepBound : ℕ → ℕ → ℕ → ℕ
+stepBound s t c = (2 * s + 3) * ((c - 1) * s + (t - 1) * (s + 3 * t)) + (6 * s + 24) * t + 1
+
+-- a number that is easier to remember, and no smaller
+abbrev pub plainBound : ℕ → ℕ → ℕ → ℕ
+plainBound s t c = 4 * (c + t) * ((s + t) * (s + t))
+
+-- both are at most 4 times C times the cube of S + T
+abbrev pub Claim-bounds : Type 0
+Claim-bounds =
+    (s t c : ℕ) → 1 ≤ s → 1 ≤ t → 1 ≤ c
+    → (stepBound s t c ≤ plainBound s t c) × (plainBound s t c ≤ 4 * c * ((s + t) * (s + t) * (s + t)))
+
+-- ---- of what
+
+-- a step that is not turned down; an answer, to whichever client
+abbrev pub AcceptedStep : Event → Type 0
+AcceptedStep e = ((c : ℕ) × (e .asked ≡ Step c)) × (TurnedDown e → ⊥)
+
+abbrev pub Answers : Event → Type 0
+Answers e = (c : ℕ) × AnswersTo c e
+
+-- ---- where
+
+-- n places that have the property, each later than the one before it, with whatever between them
+pub record Stretch (Has : ℕ → Type 0) (n : ℕ) : Type 0 where
+  pub nth : ℕ → ℕ
+  pub later : (i : ℕ) → suc i < n → nth i < nth (suc i)
+  pub has : (i : ℕ) → i < n → Has (nth i)
+
+-- from the first of n such places to the last of them there is one that answers
+abbrev pub OneAnswers : (Has Answered : ℕ → Type 0) → ℕ → Type 0
+OneAnswers Has Answered n = (x : Stretch Has n) → (m : ℕ) × (x .nth 0 ≤ m) × (m ≤ x .nth (n - 1)) × Answered m
+
+-- so it is of as many as each of the two numbers says
+pub record GetsThrough (s t c : ℕ) (Accepted Answered : ℕ → Type 0) : Type 0 where
+  pub close : OneAnswers Accepted Answered (stepBound s t c)
+  pub plain : OneAnswers Accepted Answered (plainBound s t c)
+
+abbrev pub Claim-progress : Type 0
+Claim-progress =
+    (p : Pool) → SetUp p → (calls : List Call)
+    → let run = along (events p calls) in
+    GetsThrough (p .size) (clientCount p) (p .cap) (run AcceptedStep) (run Answers)

@@ -1,0 +1,66 @@
+-- What a frame weighs in two pools: no more in the second, unless it has become resident or its count was raised; a detour less, where its count was
+-- lowered and is still above 0; a toll less, where it was evicted. Assumes nothing.
+use mathlib.Core.Path.{_≡_, refl, ap, _∙_}
+use mathlib.Core.Logic.{_≢_, _⊎_, inl, inr}
+use mathlib.Core.Bool.{Bool, not, _&&_}
+use Prim.Native.Nat.{ℕ, zero, suc, _+_, _-_, _*_, _≤_}
+use native.Mathlib.Omega.{arith}
+use native.Mathlib.Nat.{mul-le-mul-left}
+use native.Mathlib.Decide.{ℕ-discrete}
+use lib.Dec.{eqb}
+use borrow.Author.Tests.{eq-eqb, ne-eqb}
+use Rattle.pool.specs.State.{evicted, pins, count}
+use Rattle.pool.specs.declared.Pool.{Pool}
+use Rattle.invariant.proofs.Reached.{mapped}
+use Rattle.invariant.proofs.StageTests.{and-false}
+use Rattle.progress.proofs.Rank.{weigh, detour, toll, residentFrame, frameRank}
+use Rattle.progress.proofs.Clients.{weigh-at-most}
+
+-- one time less
+pub lowered : (d n : ℕ) → n ≢ 0 → d * (n - 1) + d ≡ d * n
+lowered d zero z = absurd (z refl)
+lowered d (suc n) z = let e : suc n - 1 ≡ n = omega arith in rw e (omega arith)
+
+module _ (s t : ℕ) where
+  -- a resident frame, and any other
+  abbrev pub weight : Pool → ℕ → ℕ
+  weight p f = detour s * (count p f - 1) + toll s t
+
+  module _ (p : Pool) (f : ℕ) where
+    resident-is : pins p f ≢ evicted → mapped p f ≢ 0 → frameRank s t p f ≡ weight p f
+    unfolding frameRank
+    resident-is a b = rw (ne-eqb (pins p f) evicted a, ne-eqb (mapped p f) 0 b) refl
+
+    gone-is : (pins p f ≡ evicted) ⊎ (mapped p f ≡ 0) → frameRank s t p f ≡ 0
+    unfolding frameRank
+    gone-is (inl a) = rw (eq-eqb (pins p f) evicted a) refl
+    gone-is (inr b) = rw (eq-eqb (mapped p f) 0 b, and-false (not (eqb (pins p f) evicted))) refl
+
+    pub frame-at-most : frameRank s t p f ≤ weight p f
+    unfolding frameRank
+    frame-at-most = weigh-at-most (residentFrame p f) (weight p f)
+
+  module _ (p q : Pool) (f : ℕ) where
+    pub frame-kept : (mapped q f ≢ 0 → (mapped p f ≢ 0) × (count q f ≤ count p f) × (pins p f ≡ evicted → pins q f ≡ evicted))
+        → frameRank s t q f ≤ frameRank s t p f
+    frame-kept same = go (ℕ-discrete (pins q f) evicted) (ℕ-discrete (mapped q f) 0)
+      where
+        go : Dec (pins q f ≡ evicted) → Dec (mapped q f ≡ 0) → frameRank s t q f ≤ frameRank s t p f
+        go (yes a) _ = omega (arith, gone-is q f (inl a))
+        go (no a) (yes b) = omega (arith, gone-is q f (inr b))
+        go (no a) (no b) =
+            let h = same b in
+            let low : count q f - 1 ≤ count p f - 1 = omega (arith, h .1) in
+            let x : detour s * (count q f - 1) ≤ detour s * (count p f - 1) = mul-le-mul-left (detour s) low in
+            omega (arith, x, resident-is q f a b, resident-is p f (λ e. a (h .2 e)) (h .0))
+
+    -- a resident frame that a sweep has passed by
+    pub frame-lighter : pins p f ≢ evicted → mapped p f ≢ 0 → count q f ≡ count p f - 1 → count p f - 1 ≢ 0 → frameRank s t q f + detour s ≤ frameRank s t p f
+    frame-lighter a b e z =
+        let x : detour s * (count q f - 1) + detour s ≡ detour s * (count p f - 1) =
+        ap (λ (n : ℕ). detour s * (n - 1) + detour s) e ∙ lowered (detour s) (count p f - 1) z in
+        omega (arith, x, frame-at-most q f, resident-is p f a b)
+
+    -- one that was evicted
+    pub frame-evicted : pins p f ≢ evicted → mapped p f ≢ 0 → pins q f ≡ evicted → frameRank s t q f + toll s t ≤ frameRank s t p f
+    frame-evicted a b e = omega (arith, gone-is q f (inl e), resident-is p f a b)

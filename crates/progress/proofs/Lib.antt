@@ -1,0 +1,9 @@
+pub mod Rank
+pub mod Way
+pub mod Clients
+pub mod Frames
+pub mod Writes
+pub mod Pays
+pub mod Removal
+pub mod Falls
+pub mod Bound
