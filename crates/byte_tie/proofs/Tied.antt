@@ -27,7 +27,9 @@ use Rattle.pool.specs.declared.Row.{Row}
 use Rattle.pool.specs.declared.Listed.{Listed}
 use Rattle.pool.specs.declared.Counted.the-variants.{Nothing}
 use Rattle.laws.specs.Choices.{by-test, chosen, passed}
-use Rattle.guarantee.specs.Runs.{At}
+use Rattle.guarantee.specs.Runs.{At, EndsRequest}
+use Rattle.guarantee.specs.Progress.{Accepting, GetsThrough, StepAnswered}
+use Rattle.guarantee.proofs.Progress.{same-places, of-numbers}
 use Rattle.memory.specs.Memory.{storeAfter}
 use Rattle.memory.specs.Requests.{Request, Asks, ReadByte, WriteByte, State, Result, setupOn, storeOk, turnedAwayBy, refusalOn, writeOf, actionOn, callOn}
 use Rattle.memory.specs.Requests.{refused, stateOf, bufferPool, reply, tallying, holdingsOn}
@@ -38,7 +40,9 @@ use Rattle.memory.specs.declared.Memory.{Memory}
 use Rattle.memory.specs.declared.Reply.{Reply}
 use Rattle.contents.specs.Contents.{Reads, Writes, WritesSome, ReadsLast}
 use Rattle.contents.proofs.LastWritten.{reads-last}
-use Rattle.mixed.specs.Mixed.{tallyOn}
+use Rattle.contents.proofs.SetupKept.{pool-fresh}
+use Rattle.mixed.specs.Mixed.{tallyOn, asksStep}
+use Rattle.mixed.proofs.StepPlaces.{steps-there, steps-back}
 use Rattle.mixed.proofs.Calls.{by-call}
 use Rattle.mixed.proofs.Guaranteed.{guarantee-on}
 use Rattle.buffered.specs.Refusals.{setup-refusals, begin-refusals, step-refusals, release-refusals, read-refusals, write-refusals}
@@ -47,7 +51,7 @@ use Rattle.tie.proofs.Tied.{all-tied as storeless}
 use Rattle.byte_tie.specs.Contracts.{Loan, HoldingsSays}
 use Rattle.byte_tie.specs.Ties.{Makes, begin, release, step-tallied, step, read, write, Plays, at-end, at-request}
 use Rattle.byte_tie.specs.Ties.{Claim-setup, Claim-request, Claim-store-stays, Claim-list, Answerable, Claim-any-tally, Claim-set-up}
-use Rattle.byte_tie.specs.Ties.{Claim-point3, Claim-sum, ReadsAt, WritesAt, LastByte, Claim-reads, holdingsRefusalOn, ListsHoldings, Tied}
+use Rattle.byte_tie.specs.Ties.{Claim-point3, Claim-sum, Claim-progress, ReadsAt, WritesAt, LastByte, Claim-reads, holdingsRefusalOn, ListsHoldings, Tied}
 use Rattle.byte_tie.proofs.Kept.{unasked, kept}
 
 -- ---- a request that is no step
@@ -211,6 +215,16 @@ sum s t c h store r first rs answers y u m =
     let e = list (stateOf (r .pool) store) y zeroTally u rs answers m in
     rw (e .1, e .2) (guarantee-on .sum (stateOf (r .pool) store) (set-up s t c h store r first) rs)
 
+progress : Claim-progress
+unfolding set-up
+progress s t c h store r first rs answers y v u m =
+    let x : State = stateOf (r .pool) store in
+    let one = set-up s t c h store r first in
+    subst (λ (given : List Answer). GetsThrough s t c (StepAnswered asksStep rs given Accepting) (StepAnswered asksStep rs given EndsRequest))
+    (sym (list x y v u rs answers m .0))
+    (same-places (steps-there (λ a. a) Accepting Accepting (λ _ w. w) x rs) (steps-back EndsRequest x rs) s t c
+    (of-numbers (pool-fresh one) (guarantee-on .progress x one rs)))
+
 -- ---- what reads answer
 
 abbrev answersOf : State → List Request → List Answer
@@ -295,6 +309,7 @@ all-tied =
       set-up = set-up;
       point3 = point3;
       sum = sum;
+      progress = progress;
       reads = reads;
       holdings = holdings;
     }

@@ -16,7 +16,8 @@ use Rattle.pool.specs.declared.Answer.the-variants.{Done, Refused}
 use Rattle.pool.specs.declared.Row.{Row}
 use Rattle.pool.specs.declared.Listed.{Listed}
 use Rattle.pool.specs.declared.Counted.the-variants.{Nothing}
-use Rattle.guarantee.specs.Runs.{At}
+use Rattle.guarantee.specs.Runs.{At, EndsRequest}
+use Rattle.guarantee.specs.Progress.{Accepting, GetsThrough, StepAnswered}
 use Rattle.guarantee.specs.Claims.{AddsUp}
 use Rattle.memory.specs.Memory.{storeByte}
 use Rattle.memory.specs.Requests.{Request, Asks, ReadByte, WriteByte, State, setupOn, bytesOk, callOn, stateOf, bufferPool, holdingsOn}
@@ -24,7 +25,7 @@ use Rattle.memory.specs.Happenings.{Happening, happenings, stateAfter, SetUpOn}
 use Rattle.memory.specs.declared.BufferPool.{BufferPool}
 use Rattle.memory.specs.declared.Reply.{Reply}
 use Rattle.memory.specs.declared.Tallied.{Tallied}
-use Rattle.mixed.specs.Mixed.{tallyOn, Point3On}
+use Rattle.mixed.specs.Mixed.{tallyOn, Point3On, asksStep}
 use Rattle.tie.specs.Ties.{Fills, Leaves}
 use Rattle.byte_tie.specs.Contracts.{Loan, SetupSays, BeginSays, ReleaseSays, StepTalliedSays, StepSays, ReadSays, WriteSays}
 use Rattle.byte_tie.specs.Contracts.{HoldingsOnSays, HoldingsSays, Unasked, Kept}
@@ -110,6 +111,13 @@ Claim-sum =
     → (rs : List Request) (answers : List Answer) (y : State) (u : Tally) → Plays (stateOf (r .pool) store) zeroTally rs answers y u
     → AddsUp (y .pool) u
 
+-- GUARANTEE 24: of so many accepted steps one is an answer, by what was asked and answered alone, whichever tallies are lent
+abbrev pub Claim-progress : Type 0
+Claim-progress =
+    (s t c h : ℕ) (store : List ℕ) (r : Reply) → Accepted s t c h store r
+    → (rs : List Request) (answers : List Answer) (y : State) (v u : Tally) → Plays (stateOf (r .pool) store) v rs answers y u
+    → GetsThrough s t c (StepAnswered asksStep rs answers Accepting) (StepAnswered asksStep rs answers EndsRequest)
+
 -- `ReadsLast` of crate `contents`, of nothing but what was asked and what was answered
 module _ (rs : List Request) (answers : List Answer) where
   -- the n-th request, counted from 0, is r, and its answer is a
@@ -162,5 +170,6 @@ pub record Tied : Type 2 where
   pub set-up : Claim-set-up
   pub point3 : Claim-point3
   pub sum : Claim-sum
+  pub progress : Claim-progress
   pub reads : Claim-reads
   pub holdings : ListsHoldings

@@ -133,3 +133,14 @@ content-setup =
 
 pub pool-setup : {x : State} → SetUpOn x → SetUp (x .pool)
 pool-setup = of-setup (λ (x : State). SetUp (x .pool)) fresh-set-up
+
+-- and with the numbers that were asked
+pub pool-fresh : {x : State} (u : SetUpOn x) → x .pool ≡ fresh (u .size) (u .clients) (u .cap) (u .hand)
+unfolding setupOn
+pool-fresh {x} u = ap (λ (y : State). y .pool) (sym (u .made)) ∙ go (u .done)
+  where
+    go : setupOn (u .size) (u .clients) (u .cap) (u .hand) (x .store) .answer ≡ Done (u .size)
+        → setupOn (u .size) (u .clients) (u .cap) (u .hand) (x .store) .state .pool ≡ fresh (u .size) (u .clients) (u .cap) (u .hand)
+    go =
+        by-test (λ (o : Result). o .answer ≡ Done (u .size) → o .state .pool ≡ fresh (u .size) (u .clients) (u .cap) (u .hand))
+        (λ _ _. refl) (λ _ e. refused-not-done e)

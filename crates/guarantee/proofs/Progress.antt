@@ -2,20 +2,21 @@
 -- than the rank where the first of them is made, and this is below `stepBound`. Assumes nothing.
 use mathlib.Core.Path.{_≡_, refl, sym, ap, subst, _∙_}
 use mathlib.Core.Logic.{_≢_, _⊎_, inl, inr}
-use mathlib.Core.List.{List, [], _∷_}
+use mathlib.Core.List.{List, [], _∷_, map}
 use Prim.Native.Nat.{ℕ, zero, suc, _+_, _-_, _≤_, _<_}
 use native.Mathlib.Decide.{ℕ-discrete}
 use native.Mathlib.Omega.{arith}
 use Rattle.pool.specs.Answers.{refusalOf}
 use Rattle.pool.specs.State.{clientCount, client}
 use Rattle.pool.specs.Stages.{stageMove}
-use Rattle.pool.specs.Calls.{caller, refusal, moveOf, callOf}
+use Rattle.pool.specs.Calls.{fresh, caller, refusal, moveOf, callOf}
 use Rattle.pool.specs.declared.Pool.{Pool}
 use Rattle.pool.specs.declared.Client.{Client}
 use Rattle.pool.specs.declared.Move.{Move}
 use Rattle.pool.specs.declared.Outcome.{Outcome}
 use Rattle.pool.specs.declared.Call.{Call}
 use Rattle.pool.specs.declared.Call.the-variants.{Begin, Step, Release}
+use Rattle.pool.specs.declared.Answer.{Answer}
 use Rattle.pool.specs.declared.Answer.the-variants.{Granted, Refused}
 use Rattle.laws.specs.StageAnswers.{StageAnswer, goes, grants, refuses, sticks, stage-answer}
 use Rattle.invariant.proofs.Reached.{Reached}
@@ -26,7 +27,7 @@ use Rattle.progress.proofs.Bound.{bounded}
 use Rattle.progress.proofs.Writes.{Acting}
 use Rattle.progress.proofs.Falls.{Falls, ends, lower, step-falls, begin-keeps, release-keeps}
 use Rattle.guarantee.specs.Runs.{Event, eventOf, events, At, along}
-use Rattle.guarantee.specs.Progress.{stepBound, plainBound, AcceptedStep, Answers, Stretch, OneAnswers, GetsThrough}
+use Rattle.guarantee.specs.Progress.{stepBound, plainBound, StepWith, AcceptedStep, Answers, Stretch, OneAnswers, GetsThrough, StepAnswered}
 use Rattle.guarantee.proofs.TurnedDown.{other-call, same-numbers}
 use Rattle.guarantee.proofs.StepBounds.{rank-bound, bounds}
 
@@ -136,12 +137,12 @@ module _ (p : Pool) (y : Call) (calls : List Call) (r : Reached p)
       first z = subst (At AcceptedStep es) z (x .has 0 (omega arith))
 
       go : CallRank p y (callOf p y) → Dec (nth 0 ≡ 0) → AnswersBy es (nth last) ⊎ (last < rank p)
-      go (answers c s a) _ = inl (0, omega arith, (c, (s, a)))
+      go (answers c s a) _ = inl (0, omega arith, (c, s, a))
       go (falls l) (yes z) = makes nth last x l
       go (falls l) (no z) = skips nth last x z (omega arith)
-      go (no-step s l) (yes z) = absurd (s (first z .0 .0) (first z .0 .1))
+      go (no-step s l) (yes z) = absurd (s (first z .0) (first z .1))
       go (no-step _ l) (no z) = skips nth last x z l
-      go (turned n e w _) (yes z) = absurd (first z .1 (n, e, w))
+      go (turned n e w _) (yes z) = absurd (first z .2 (n, e, w))
       go (turned _ _ _ e) (no z) = skips nth last x z (rw e (omega arith))
 
 answered : (p : Pool) (calls : List Call) → Reached p → (nth : ℕ → ℕ) (last : ℕ) → Steps (events p calls) nth last
@@ -193,3 +194,35 @@ module _ (p : Pool) (calls : List Call) (r : Reached p) where
         close = one-answers (stepBound (p .size) (clientCount p) (p .cap)) (omega arith) (omega arith);
         plain = one-answers (plainBound (p .size) (clientCount p) (p .cap)) (omega (arith, b .0)) (b .0);
       }
+
+-- ---- places of another list
+
+-- where each of its accepted steps is one here, and each answer here is one there, in the same order
+module _ {Has Answered Has′ Answered′ : ℕ → Type 0} where
+  -- at the same places
+  pub same-places : ((n : ℕ) → Has′ n → Has n) → ((n : ℕ) → Answered n → Answered′ n) → (s t c : ℕ) → GetsThrough s t c Has Answered → GetsThrough s t c Has′ Answered′
+  same-places down back s t c base = record { close = one (stepBound s t c) (base .close); plain = one (plainBound s t c) (base .plain) }
+    where
+      one : (n : ℕ) → OneAnswers Has Answered n → OneAnswers Has′ Answered′ n
+      one n h x = let (m, a, b, w) = h (record { nth = x .nth; later = x .later; has = λ i l. down (x .nth i) (x .has i l) }) in (m, a, b, back m w)
+
+-- the numbers of the setup are the pool's
+pub of-numbers : {Has Answered : ℕ → Type 0} {p : Pool} {s t c h : ℕ} → p ≡ fresh s t c h → GetsThrough (p .size) (clientCount p) (p .cap) Has Answered
+    → GetsThrough s t c Has Answered
+of-numbers {Has} {Answered} e g = subst (λ (p : Pool). GetsThrough (p .size) (clientCount p) (p .cap) Has Answered) e g
+
+-- what was asked and answered at a place is the event there, and back
+module _ (P : Answer → Type 0) where
+  pub steps-there : (p : Pool) (calls : List Call) (n : ℕ) → StepAnswered Step calls (map (λ (e : Event). e .answer) (events p calls)) P n
+      → along (events p calls) (StepWith P) n
+  unfolding events At
+  steps-there p [] n w = absurd (w .1)
+  steps-there p (x ∷ calls) zero w = w
+  steps-there p (x ∷ calls) (suc n) w = steps-there (callOf p x .pool) calls n w
+
+  pub steps-back : (p : Pool) (calls : List Call) (n : ℕ) → along (events p calls) (StepWith P) n
+      → StepAnswered Step calls (map (λ (e : Event). e .answer) (events p calls)) P n
+  unfolding events At
+  steps-back p [] n w = absurd w
+  steps-back p (x ∷ calls) zero w = w
+  steps-back p (x ∷ calls) (suc n) w = steps-back (callOf p x .pool) calls n w

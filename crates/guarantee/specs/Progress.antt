@@ -8,7 +8,8 @@ use Rattle.pool.specs.Calls.{SetUp}
 use Rattle.pool.specs.declared.Pool.{Pool}
 use Rattle.pool.specs.declared.Call.{Call}
 use Rattle.pool.specs.declared.Call.the-variants.{Step}
-use Rattle.guarantee.specs.Runs.{Event, events, along, AnswersTo, TurnedDown}
+use Rattle.pool.specs.declared.Answer.{Answer}
+use Rattle.guarantee.specs.Runs.{Event, events, At, along, TurnsDown, EndsRequest}
 
 -- ---- how many: in a pool of s slots and t clients, with counts up to c
 
@@ -27,12 +28,19 @@ Claim-bounds =
 
 -- ---- of what
 
--- a step that is not turned down; an answer, to whichever client
+-- a step, of whichever client, whose answer has the property
+abbrev pub StepWith : (Answer → Type 0) → Event → Type 0
+StepWith P e = (c : ℕ) × (e .asked ≡ Step c) × P (e .answer)
+
+-- an accepted step is one that is not turned down; an answer is a grant or refusal 15
+abbrev pub Accepting : Answer → Type 0
+Accepting a = TurnsDown a → ⊥
+
 abbrev pub AcceptedStep : Event → Type 0
-AcceptedStep e = ((c : ℕ) × (e .asked ≡ Step c)) × (TurnedDown e → ⊥)
+AcceptedStep = StepWith Accepting
 
 abbrev pub Answers : Event → Type 0
-Answers e = (c : ℕ) × AnswersTo c e
+Answers = StepWith EndsRequest
 
 -- ---- where
 
@@ -56,3 +64,10 @@ Claim-progress =
     (p : Pool) → SetUp p → (calls : List Call)
     → let run = along (events p calls) in
     GetsThrough (p .size) (clientCount p) (p .cap) (run AcceptedStep) (run Answers)
+
+-- ---- for the ties to the calls' contracts: of nothing but what was asked and what was answered
+
+-- the n-th that was asked is a step, of whichever client, and its answer has the property
+module _ {A B : Type 0} (step : ℕ → A) (asked : List A) (answers : List B) where
+  abbrev pub StepAnswered : (B → Type 0) → ℕ → Type 0
+  StepAnswered P n = (c : ℕ) × At (λ (x : A). x ≡ step c) asked n × At P answers n

@@ -69,13 +69,19 @@ GrantedTo c e = (f : ℕ) × (e .asked ≡ Step c) × (e .answer ≡ Granted f)
 abbrev pub Releases : ℕ → Event → Type 0
 Releases c e = (g : ℕ) × (e .asked ≡ Release c g) × (e .answer ≡ Done g)
 
--- the request of client c is answered: granted, or refused by 15
-abbrev pub AnswersTo : ℕ → Event → Type 0
-AnswersTo c e = (e .asked ≡ Step c) × (((f : ℕ) × (e .answer ≡ Granted f)) ⊎ (e .answer ≡ Refused 15))
+-- what a call is answered by where it is turned down, by whichever number but 15; and what a request is answered by: a grant, or refusal 15
+abbrev pub TurnsDown : Answer → Type 0
+TurnsDown a = (n : ℕ) × (a ≡ Refused n) × (n ≢ 15)
 
--- a call that is turned down, by whichever number but 15
+abbrev pub EndsRequest : Answer → Type 0
+EndsRequest a = ((f : ℕ) × (a ≡ Granted f)) ⊎ (a ≡ Refused 15)
+
+-- a call that is turned down; a step of client c that answers its request
 abbrev pub TurnedDown : Event → Type 0
-TurnedDown e = (n : ℕ) × (e .answer ≡ Refused n) × (n ≢ 15)
+TurnedDown e = TurnsDown (e .answer)
+
+abbrev pub AnswersTo : ℕ → Event → Type 0
+AnswersTo c e = (e .asked ≡ Step c) × EndsRequest (e .answer)
 
 -- Client c's request that is begun at event k is its last up to event n: no later begin of the client is done before n.
 abbrev pub SameRequest : Run → ℕ → ℕ → ℕ → Type 0

@@ -13,7 +13,7 @@ use Rattle.mixed.proofs.Passes.{holdings-same, check-8}
 use Rattle.mixed.proofs.Calls.{same-length}
 use Rattle.mixed.proofs.Answers.{listed-on, turned-down-on, refused-on}
 use Rattle.mixed.proofs.Lists.{throughout-on, kept-after}
-use Rattle.mixed.proofs.Runs.{point3-from, busy-sweep-from, lasts-from, sum-from, counts-pages, answers-from, limits-from, as-before-from}
+use Rattle.mixed.proofs.Runs.{point3-from, busy-sweep-from, lasts-from, gets-through-from, sum-from, counts-pages, answers-from, limits-from, as-before-from}
 use Rattle.mixed.proofs.InsideAfter.{inside-after}
 use Rattle.mixed.proofs.ByStage.{by-stage}
 
@@ -34,6 +34,7 @@ guarantee-on =
       refused = refused-on;
       busy-sweep = λ x u rs. busy-sweep-from x (kept-setup u) (pool-setup u) rs;
       lasts = λ x u rs. lasts-from x (kept-setup u) (pool-setup u) rs;
+      progress = λ x u rs. gets-through-from x (kept-setup u) (pool-setup u) rs;
       drops = λ x u rs r. counts-pages (stateAfter x rs) (kept-after x (kept-setup u) rs) r;
       sum = λ x u rs. sum-from x (kept-setup u) (pool-setup u) rs;
       limits = λ x u rs. limits-from x (kept-setup u) (pool-setup u) rs;

@@ -8,6 +8,8 @@ pub mod Answers
 -- a list of calls in a list with reads and writes; the claims brought over
 pub mod Embedded
 pub mod Transported
+-- steps by what was asked and answered alone, for the ties
+pub mod StepPlaces
 -- the calls in a list of requests; the sequential pool follows the list; the claims of a list
 pub mod Lists
 pub mod Runs

@@ -4,10 +4,11 @@ use mathlib.Core.Path.{_≡_, sym, ap, subst, _∙_}
 use mathlib.Core.Bool.{true, true≢false}
 use mathlib.Core.List.{List, [], _∷_}
 use Prim.Native.Nat.{ℕ, zero, suc, _+_, _<_}
+use native.Mathlib.Omega.{arith}
 use lib.ListN.{replicate}
 use borrow.Author.Tests.{eq-eqb}
 use Rattle.pool.specs.Choose.{either}
-use Rattle.pool.specs.State.{client, total}
+use Rattle.pool.specs.State.{client, clientCount, total}
 use Rattle.pool.specs.Frames.{freeFrame}
 use Rattle.pool.specs.Tallies.{zeroTally}
 use Rattle.pool.specs.Calls.{SetUp, callOf}
@@ -20,6 +21,7 @@ use Rattle.laws.specs.Choices.{chosen}
 use Rattle.invariant.proofs.Valid.{valid-reached}
 use Rattle.guarantee.specs.Runs.{Event, events, At, along, GrantedTo}
 use Rattle.guarantee.specs.BusySweep.{BusySweep}
+use Rattle.guarantee.specs.Progress.{AcceptedStep, Answers, GetsThrough}
 use Rattle.guarantee.specs.Claims.{OneEach, OneCopy, HeldPinned, FewPins, tallyOf, CountsPages, AddsUp, GrantedWithin, WithinLimits, Lasts}
 use Rattle.guarantee.proofs.TurnedDown.{same-answer, same-pool, other-answer, other-call}
 use Rattle.guarantee.proofs.Frames.{held-pinned}
@@ -36,6 +38,7 @@ use Rattle.mixed.proofs.Passes.{bytes-yes, store-yes, turned-away}
 use Rattle.mixed.proofs.Calls.{same, turned16, as-call, byte-leaves, same-length}
 use Rattle.mixed.proofs.Embedded.{tally-same}
 use Rattle.mixed.proofs.Transported.{grants-in, no-held-evicted-in, taken-out-once-in, one-effect-in, refused-alone-in, lasts-in, busy-sweep-in}
+use Rattle.mixed.proofs.Transported.{gets-through-in}
 use Rattle.mixed.proofs.Lists.{Erased, erased, throughout-on, kept-after, bytes-apart, follows-on}
 use Rattle.mixed.proofs.Answers.{listed-now}
 
@@ -68,6 +71,13 @@ module _ (x : State) (k : Kept x) (u : SetUp (x .pool)) (rs : List Request) wher
 
   pub lasts-from : Lasts (amid (happenings x rs))
   lasts-from = lasts-in (inner .embedded) (guarantee .lasts (x .pool) u (inner .calls))
+
+  pub gets-through-from : let run = amid (happenings x rs) in
+      GetsThrough (x .pool .size) (clientCount (x .pool)) (x .pool .cap) (run AcceptedStep) (run Answers)
+  gets-through-from =
+      let h = k .reached .shape in
+      let b = guarantee .bounds (x .pool .size) (clientCount (x .pool)) (x .pool .cap) (h .size-low) (h .clients-low) (h .cap-low) in
+      gets-through-in (inner .embedded) _ _ _ (omega (arith, b .0)) (guarantee .progress (x .pool) u (inner .calls))
 
   pub sum-from : AddsUp (stateAfter x rs .pool) (tallyOn zeroTally (happenings x rs))
   sum-from =

@@ -4,7 +4,9 @@ use mathlib.Core.Path.{_≡_, sym, ap, subst, _∙_}
 use mathlib.Core.Logic.{_⊎_, _↔_}
 use mathlib.Core.Bool.{false}
 use mathlib.Core.List.{List}
-use Prim.Native.Nat.{ℕ, _≤_, _<_}
+use Prim.Native.Nat.{ℕ, suc, _-_, _≤_, _<_}
+use native.Mathlib.Omega.{arith}
+use native.Mathlib.Decide.{decLt}
 use Rattle.pool.specs.State.{pins, count, client, grantPage, grantFrame}
 use Rattle.pool.specs.Table.{resident}
 use Rattle.pool.specs.Grants.{held}
@@ -16,6 +18,7 @@ use Rattle.guarantee.specs.Runs.{Event, along, NoneBetween, Begins, GrantedTo, 
 use Rattle.guarantee.specs.BusySweep.{MeetsBusy, finds-empty, finds-pinned, BusyVisit, SeesFrame, Refused15, MeetsAllBusy, BusySince, BusySweep}
 use Rattle.guarantee.specs.Claims.{GrantsAsTold, GrantLists, BecomesEvicted, NoHeldEvicted, Evicts, Replaces, Takes, TakenOut, TakenOutOnce, TakesEffect}
 use Rattle.guarantee.specs.Claims.{TakesEffectOnce, OneEffect, AllHeld, Alone, RefusedAlone, TakesWith, Lowers, SweepsOut, Lasts}
+use Rattle.guarantee.specs.Progress.{stepBound, plainBound, AcceptedStep, Answers, Stretch, OneAnswers, GetsThrough}
 use Rattle.guarantee.proofs.TurnedDown.{other-answer, other-call}
 use Rattle.memory.specs.Happenings.{Happening}
 use Rattle.mixed.specs.Mixed.{amid}
@@ -211,3 +214,45 @@ module _ {hs : List Happening} {es : List Event} (s : Embedded hs es) where
   busy-sweep-in slots base c n a =
       let d = down (Refused15 c) (λ e i w. no-step i (w .0)) n a in
       subst (BusySince slots (amid hs) c) (d .1) (busy-since-up slots c (d .0) (base c (d .0) (d .2)))
+
+  -- ---- somebody gets through
+
+  module _ (n : ℕ) (low : 1 ≤ n) (base : OneAnswers (along es AcceptedStep) (along es Answers) n) (x : Stretch (amid hs AcceptedStep) n) where
+    -- where the i-th of the accepted steps stands among the calls
+    place : (i : ℕ) → Dec (i < n) → ℕ
+    place i (yes l) = down AcceptedStep (λ e j w. no-step j (w .1)) (x .nth i) (x .has i l) .0
+    place i (no _) = 0
+
+    stands : (i : ℕ) → i < n → (z : Dec (i < n)) → (up s (place i z) ≡ x .nth i) × along es AcceptedStep (place i z)
+    unfolding place
+    stands i _ (yes l) = let d = down AcceptedStep (λ e j w. no-step j (w .1)) (x .nth i) (x .has i l) in (d .1, d .2)
+    stands i l (no z) = absurd (z l)
+
+    nth : ℕ → ℕ
+    nth i = place i (decLt i n)
+
+    there : (i : ℕ) → i < n → (up s (nth i) ≡ x .nth i) × along es AcceptedStep (nth i)
+    unfolding nth
+    there i l = stands i l (decLt i n)
+
+    answers-up : (m : ℕ) × (x .nth 0 ≤ m) × (m ≤ x .nth (n - 1)) × amid hs Answers m
+    answers-up =
+        let stretch : Stretch (along es AcceptedStep) n = record {
+          nth = nth;
+          later = λ i l. up-less-back s (nth i) (nth (suc i)) (omega (arith, there i (omega arith) .0, there (suc i) l .0, x .later i l));
+          has = λ i l. there i l .1;
+        } in
+        let (m, a, b, w) = base stretch in (
+          up s m,
+          omega (arith, there 0 (omega arith) .0, up-le s (nth 0) m a),
+          omega (arith, there (n - 1) (omega arith) .0, up-le s m (nth (n - 1)) b),
+          at-up Answers s m w,
+        )
+
+  pub gets-through-in : (slots clients cap : ℕ) → 1 ≤ plainBound slots clients cap → GetsThrough slots clients cap (along es AcceptedStep) (along es Answers)
+      → GetsThrough slots clients cap (amid hs AcceptedStep) (amid hs Answers)
+  gets-through-in slots clients cap low base =
+      record {
+        close = answers-up (stepBound slots clients cap) (omega arith) (base .close);
+        plain = answers-up (plainBound slots clients cap) low (base .plain);
+      }

@@ -29,6 +29,7 @@ use Rattle.pool.specs.declared.Counted.the-variants.{Nothing, Refusal}
 use Rattle.guarantee.specs.Runs.{Event, At, Run, GrantedTo}
 use Rattle.guarantee.specs.Sequential.{Sequential, start, seqRefusal, Rule}
 use Rattle.guarantee.specs.BusySweep.{BusySweep}
+use Rattle.guarantee.specs.Progress.{AcceptedStep, Answers, GetsThrough}
 use Rattle.guarantee.specs.Claims.{GrantLists, OneEach, OneCopy, NoHeldEvicted, HeldPinned, FewPins, TakenOutOnce, SamePages, SameStages, OneEffect, RefusedAlone, Listed}
 use Rattle.guarantee.specs.Claims.{withClient, CountsPages, AddsUp, Lasts}
 use Rattle.memory.specs.Memory.{maxPages, isFilled, isChanged, copiedPage, unmarked, moved}
@@ -176,6 +177,17 @@ Claim-busy-sweep-on = (x : State) → SetUpOn x → (rs : List Request) → Busy
 abbrev pub Claim-lasts-on : Type 0
 Claim-lasts-on = (x : State) → SetUpOn x → (rs : List Request) → Lasts (amid (happenings x rs))
 
+-- a step of client c, as a request
+abbrev pub asksStep : ℕ → Request
+asksStep c = Asks (Step c)
+
+-- GUARANTEE 24: of so many accepted steps one is an answer, whatever was read and written between them
+abbrev pub Claim-progress-on : Type 0
+Claim-progress-on =
+    (x : State) → SetUpOn x → (rs : List Request)
+    → let run = amid (happenings x rs) in
+    GetsThrough (x .pool .size) (clientCount (x .pool)) (x .pool .cap) (run AcceptedStep) (run Answers)
+
 -- ---- pages that came and pages that left
 
 -- each request of a run counts them; reads and writes, by which no page comes or leaves, count nothing (`LeavesPool`)
@@ -314,6 +326,7 @@ pub record GuaranteeOn : Type 0 where
   pub refused : Claim-refused-on
   pub busy-sweep : Claim-busy-sweep-on
   pub lasts : Claim-lasts-on
+  pub progress : Claim-progress-on
   pub drops : Claim-drops-on
   pub sum : Claim-sum-on
   pub limits : Claim-limits-on

@@ -1,3 +1,4 @@
 pub mod Kept
 pub mod Answers
+pub mod Numbered
 pub mod Tied

@@ -40,7 +40,8 @@ use Rattle.contents.proofs.LastWritten.{reads-last}
 use Rattle.memory.specs.Memory.{memoryAfter, storeAfter}
 use Rattle.memory.specs.Requests.{Request, Asks, ReadByte, WriteByte, State, Result, outsideAt, refused, lent, storeOk, lengthOk, setupOn, actionOn, callOn}
 use Rattle.memory.specs.Happenings.{Happening, happenings, stateAfter}
-use Rattle.mixed.specs.Mixed.{tallyOn, Passes8}
+use Rattle.mixed.specs.Mixed.{tallyOn, Passes8, asksStep}
+use Rattle.mixed.proofs.StepPlaces.{steps-there, steps-back}
 use Rattle.mixed.proofs.Answers.{never-8}
 use Rattle.mixed.proofs.Passes.{bytes-yes}
 use Rattle.mixed.proofs.Guaranteed.{guarantee-on}
@@ -49,7 +50,10 @@ use Rattle.whole_check.specs.Checked.{checkedOf}
 use Rattle.counting.specs.Counts.{tallyFrom}
 use Rattle.holding.specs.Holds.{Keeps}
 use Rattle.in_place.specs.Held.{Held, heldRefusal, heldOf, heldState, byteHeldRefusal, byteHeld, heldOn}
+use Rattle.guarantee.specs.Runs.{EndsRequest}
 use Rattle.guarantee.specs.Claims.{AddsUp}
+use Rattle.guarantee.specs.Progress.{Accepting, GetsThrough, StepAnswered}
+use Rattle.guarantee.proofs.Progress.{same-places}
 use Rattle.held_claims.specs.HeldClaims.{Tells}
 use Rattle.held_claims.proofs.Claimed.{held-claims}
 use Rattle.served.specs.Words.{wordOf}
@@ -58,8 +62,10 @@ use Rattle.served_tie.specs.Contracts.{Server, Books, Loans, stateIn, po
 use Rattle.served_tie.specs.Serving.{Serves, begin, release, step, read, write, OneTally, ServesAll, at-end, at-request, Accepted}
 use Rattle.served_tie.specs.Serving.{Claim-request, Claim-tells, Claim-setup, Claim-check, Claim-set-up, Claim-point3, Claim-list, Claim-holdings, Claim-passes, ServedTied}
 use Rattle.served_tie.specs.Serving.{Claim-lists, Claim-same-holdings, Claim-told-apart, Claim-tally, Claim-duties, Claim-spared, Claim-sum}
+use Rattle.served_tie.specs.Serving.{IsAnswer, IsAccepted, Claim-progress}
 use Rattle.served_tie.proofs.Answers.{readings, answerable}
 use Rattle.served_tie.proofs.Kept.{unasked, kept}
+use Rattle.served_tie.proofs.Numbered.{accepting, answers-numbered}
 
 -- ---- a begin or release leaves what it is not lent
 
@@ -316,6 +322,15 @@ sum x y z a t u zero qs rs s =
     subst (AddsUp (poolIn z)) (sym total)
     (subst (λ (m : State). AddsUp (m .pool) (tallyOn zeroTally (happenings (stateIn y) qs))) (sym (g .state)) (guarantee-on .sum (stateIn y) (set-up x y a) qs))
 
+progress : Claim-progress
+progress x y z a t u qs rs s =
+    let w : State = stateIn y in
+    let one = set-up x y a in
+    subst (λ (given : List ℕ). GetsThrough (y .size) (y .clients) (y .cap) (StepAnswered asksStep qs given IsAccepted) (StepAnswered asksStep qs given IsAnswer))
+    (sym (list x y z a t u qs rs s .0))
+    (same-places (steps-there wordOf IsAccepted Accepting accepting w qs)
+    (λ n v. answers-numbered w (kept-setup one) qs n (steps-back EndsRequest w qs n v)) _ _ _ (guarantee-on .progress w one qs))
+
 holdings : Claim-holdings
 holdings x y z a t u qs rs s κs l c rows r left says =
     let g = from-setup x y z a t u qs rs s in
@@ -351,6 +366,7 @@ served-tied =
       duties = duties;
       spared = spared;
       sum = sum;
+      progress = progress;
       holdings = holdings;
       passes = passes;
       readings = readings;

@@ -5,7 +5,7 @@ use mathlib.Core.Path.{_≡_}
 use mathlib.Core.Logic.{_≢_, _⊎_}
 use mathlib.Core.Bool.{true, false}
 use mathlib.Core.List.{List, [], _∷_, map}
-use Prim.Native.Nat.{ℕ, _<_}
+use Prim.Native.Nat.{ℕ, _+_, _*_, _<_}
 use contract.Lifetimes.{Lfts}
 use lib.ListN.{length}
 use Rattle.pool.specs.State.{clientCount, client}
@@ -21,9 +21,10 @@ use Rattle.pool.specs.declared.Pool.{Pool}
 use Rattle.pool.specs.declared.Row.{Row}
 use Rattle.pool.specs.declared.Call.the-variants.{Begin, Step, Release}
 use Rattle.guarantee.specs.Claims.{AddsUp}
+use Rattle.guarantee.specs.Progress.{GetsThrough, StepAnswered}
 use Rattle.memory.specs.Requests.{Request, Asks, ReadByte, WriteByte, State, refused, lengthOk, setupOn, callOn}
 use Rattle.memory.specs.Happenings.{Happening, happenings, stateAfter, SetUpOn}
-use Rattle.mixed.specs.Mixed.{tallyOn, Point3On, Passes8, Removes, Remaps}
+use Rattle.mixed.specs.Mixed.{tallyOn, Point3On, Passes8, Removes, Remaps, asksStep}
 use Rattle.contents.specs.Contents.{ReadsLast}
 use Rattle.counting.specs.Counts.{tallyFrom}
 use Rattle.client_arrays.specs.Arrays.{bytesLong, wordsLong, clientsFrom}
@@ -175,6 +176,23 @@ Claim-sum =
     (x y z : Server) → Accepted x y → (t u : List ℕ) → tallyFrom t ≡ zeroTally → (qs : List Request) (rs : List ℕ) → ServesAll OneTally y t qs rs z u
     → AddsUp (poolIn z) (tallyFrom u)
 
+-- SPECIFICATION 14.3: an answer of this code, with a value of 32 bits
+abbrev pub Coded : ℕ → ℕ → Type 0
+Coded n r = (v : ℕ) × (v < 4294967296) × (r ≡ 4294967296 * n + v)
+
+-- a request is answered: granted, or refused by 15; and a step that is accepted is that, or at work
+abbrev pub IsAnswer : ℕ → Type 0
+IsAnswer r = Coded 2 r ⊎ Coded 115 r
+
+abbrev pub IsAccepted : ℕ → Type 0
+IsAccepted r = Coded 1 r ⊎ IsAnswer r
+
+-- GUARANTEE 24: of so many accepted steps one is an answer, by what was asked and answered alone; y keeps S, T and C
+abbrev pub Claim-progress : Type 0
+Claim-progress =
+    (x y z : Server) → Accepted x y → (t u : List ℕ) (qs : List Request) (rs : List ℕ) → ServesAll AnyTally y t qs rs z u
+    → GetsThrough (y .size) (y .clients) (y .cap) (StepAnswered asksStep qs rs IsAccepted) (StepAnswered asksStep qs rs IsAnswer)
+
 -- SPECIFICATION 14.6: so are its holdings, on a list of rows in numbers; and the whole check passes
 abbrev pub Claim-holdings : Type 0
 Claim-holdings =
@@ -260,6 +278,7 @@ pub record ServedTied : Type 2 where
   pub duties : Claim-duties
   pub spared : Claim-spared
   pub sum : Claim-sum
+  pub progress : Claim-progress
   pub holdings : Claim-holdings
   pub passes : Claim-passes
   pub readings : Readings

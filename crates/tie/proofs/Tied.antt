@@ -1,7 +1,7 @@
 -- Each contract says that the call is the definition's, and a begin or a release counts nothing, so that leaving the tally alone is tallying it. A
 -- list is a recursion over that, and what the guarantee claims of the definition's pools and events it claims of the code's. Assumes nothing.
 use mathlib.Core.Logic.{_≢_}
-use mathlib.Core.Path.{_≡_, refl, sym, ap, _∙_}
+use mathlib.Core.Path.{_≡_, refl, sym, ap, subst, _∙_}
 use mathlib.Core.Bool.{true}
 use mathlib.Core.List.{List, [], _∷_, _++_}
 use native.Mathlib.Omega.{arith}
@@ -25,14 +25,18 @@ use Rattle.pool.specs.declared.Answer.{Answer}
 use Rattle.pool.specs.declared.Answer.the-variants.{Done, Refused}
 use Rattle.pool.specs.declared.Counted.the-variants.{Nothing}
 use Rattle.laws.specs.Choices.{by-test}
+use Rattle.laws.specs.Setups.{made-fresh}
 use Rattle.calls.specs.Refusals.{setup-refusals, begin-refusals, step-refusals, release-refusals}
 use Rattle.calls.specs.Tallied.{steppedOf}
-use Rattle.guarantee.specs.Runs.{events}
+use Rattle.guarantee.specs.Runs.{events, EndsRequest}
+use Rattle.guarantee.specs.Progress.{Accepting, GetsThrough, StepAnswered}
+use Rattle.guarantee.proofs.Progress.{same-places, of-numbers, steps-there, steps-back}
 use Rattle.guarantee.specs.Claims.{tallyOf}
 use Rattle.guarantee.proofs.Guaranteed.{guarantee}
 use Rattle.tie.specs.Contracts.{HoldingsSays}
 use Rattle.tie.specs.Ties.{Makes, begin, release, step-tallied, step-of, step, Plays, at-end, at-call}
 use Rattle.tie.specs.Ties.{Claim-setup, Claim-call, Claim-list, Answerable, Claim-any-tally, Claim-set-up, Claim-point3, Claim-sum}
+use Rattle.tie.specs.Ties.{Claim-progress}
 use Rattle.tie.specs.Ties.{Fills, Leaves, ListsHoldings, Tied}
 use Rattle.tie.proofs.Kept.{unasked, kept}
 
@@ -110,6 +114,14 @@ sum s t c h r first calls answers q u m =
     let e = list (r .pool) q zeroTally u calls answers m in
     rw (e .1, e .2) (guarantee .sum (r .pool) (set-up s t c h r first) calls)
 
+progress : Claim-progress
+unfolding set-up
+progress s t c h r first calls answers q v u m =
+    subst (λ (given : List Answer). GetsThrough s t c (StepAnswered Step calls given Accepting) (StepAnswered Step calls given EndsRequest))
+    (sym (list (r .pool) q v u calls answers m .0))
+    (same-places (steps-there Accepting (r .pool) calls) (steps-back EndsRequest (r .pool) calls) s t c
+    (of-numbers (made-fresh (set-up s t c h r first)) (guarantee .progress (r .pool) (set-up s t c h r first) calls)))
+
 -- ---- holdings
 
 -- the definition's two ways out: done, and refused
@@ -161,5 +173,6 @@ all-tied =
       set-up = set-up;
       point3 = point3;
       sum = sum;
+      progress = progress;
       holdings = holdings;
     }

@@ -21,7 +21,8 @@ use Rattle.pool.specs.declared.Answer.the-variants.{Done, Refused}
 use Rattle.calls.specs.declared.Stepped.{Stepped}
 use Rattle.step.specs.declared.Answered.{Answered}
 use Rattle.collecting.specs.Rows.{blank}
-use Rattle.guarantee.specs.Runs.{Event, events}
+use Rattle.guarantee.specs.Runs.{Event, events, EndsRequest}
+use Rattle.guarantee.specs.Progress.{Accepting, GetsThrough, StepAnswered}
 use Rattle.guarantee.specs.Claims.{Point3, tallyOf, AddsUp, Listing, HeldOnce}
 use Rattle.tie.specs.Contracts.{SetupSays, BeginSays, ReleaseSays, StepTalliedSays, StepOfSays, StepSays}
 use Rattle.tie.specs.Contracts.{HoldingsOnSays, HoldingsOfSays, HoldingsSays, Unasked, Kept}
@@ -90,6 +91,13 @@ Claim-sum =
     → (calls : List Call) (answers : List Answer) (q : Pool) (u : Tally) → Plays (r .pool) zeroTally calls answers q u
     → AddsUp q u
 
+-- GUARANTEE 24: of so many accepted steps one is an answer, by what was asked and answered alone, whichever tallies are lent
+abbrev pub Claim-progress : Type 0
+Claim-progress =
+    (s t c h : ℕ) (r : Outcome) → Accepted s t c h r
+    → (calls : List Call) (answers : List Answer) (q : Pool) (v u : Tally) → Plays (r .pool) v calls answers q u
+    → GetsThrough s t c (StepAnswered Step calls answers Accepting) (StepAnswered Step calls answers EndsRequest)
+
 -- Holdings is answered with n on these rows and leaves those. k is the number of the first check that turns it down, 0 if none does.
 module _ (p : Pool) (c n k : ℕ) (rows left : List Row) where
   -- it is done: the list's first n rows are the client's, one for each of its grants (GUARANTEE 14), and those after them are as they were lent
@@ -120,4 +128,5 @@ pub record Tied : Type 2 where
   pub set-up : Claim-set-up
   pub point3 : Claim-point3
   pub sum : Claim-sum
+  pub progress : Claim-progress
   pub holdings : ListsHoldings
