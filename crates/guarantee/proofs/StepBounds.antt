@@ -10,23 +10,15 @@ use Rattle.guarantee.specs.Progress.{stepBound, plainBound, Claim-bounds
 -- frames and free slots, and clients
 pub rank-bound : (s t c : ℕ) → (detour s * (c - 1) + toll s t) * s + (3 * toll s t + 6 * s + 24) * t + 1 ≡ stepBound s t c
 unfolding detour toll
-rank-bound s t c = products (2 * s + 3) (t - 1) (c - 1)
-  where
-    products : (w x y : ℕ) → (w * y + w * x) * s + (3 * (w * x) + 6 * s + 24) * t + 1 ≡ w * (y * s + x * (s + 3 * t)) + (6 * s + 24) * t + 1
-    products w x y = omega arith
+rank-bound s t c = omega arith
 
 square : (b : ℕ) → b ≤ b * b
 square zero = omega arith
 square (suc b) = omega arith
 
-step-plain : (a b e : ℕ) → (2 * suc a + 3) * (e * suc a + b * (suc a + 3 * suc b)) + (6 * suc a + 24) * suc b + 1 ≤ plainBound (suc a) (suc b) (suc e)
-step-plain a b e = omega (arith, square b)
-
-plain-cubes : (a b e : ℕ) → plainBound (suc a) (suc b) (suc e) ≤ 4 * suc e * ((suc a + suc b) * (suc a + suc b) * (suc a + suc b))
-plain-cubes a b e = go (suc a + suc b) ((suc a + suc b) * (suc a + suc b)) (let l : suc e + suc b ≤ suc e * (suc a + suc b) = omega arith in l)
-  where
-    go : (n m : ℕ) → suc e + suc b ≤ suc e * n → 4 * (suc e + suc b) * m ≤ 4 * suc e * (m * n)
-    go n m l = let h : (suc e + suc b) * m ≤ suc e * n * m = mul-le-mul-right m l in omega arith
+-- with n for the sum S + T and m for its square
+in-cubes : (b e n m : ℕ) → suc e + suc b ≤ suc e * n → 4 * (suc e + suc b) * m ≤ 4 * suc e * (m * n)
+in-cubes b e n m l = let h : (suc e + suc b) * m ≤ suc e * n * m = mul-le-mul-right m l in omega arith
 
 pub bounds : Claim-bounds
 bounds zero t c h l m = absurd (let z : ⊥ = omega arith in z)
@@ -35,4 +27,4 @@ bounds (suc a) (suc b) zero h l m = absurd (let z : ⊥ = omega arith in z)
 bounds (suc a) (suc b) (suc e) h l m =
     let x : suc b - 1 ≡ b = omega arith in
     let y : suc e - 1 ≡ e = omega arith in
-    (rw (x, y) (step-plain a b e), plain-cubes a b e)
+    (rw (x, y) (omega (arith, square b)), omega (arith, in-cubes b e (suc a + suc b) ((suc a + suc b) * (suc a + suc b)) (omega arith)))

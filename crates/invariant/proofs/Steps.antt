@@ -251,14 +251,12 @@ module _ (p : Pool) (c : ℕ) (here : c < clientCount p) (r : Reached p) where
       by-test IsEdge (λ t. plain 12 15 Keep e keep refl tt tt tt (h .0, (h .1 .0, eqb-true _ _ t)))
       (λ _. by-test IsEdge (λ _. plain 12 13 Keep e keep refl tt tt tt h) (λ _. visit 12 e tt tt tt may-refuse12 (h .0)))
 
-  lowered : count p (k .victim) - 1 ≤ p .cap
-  lowered = omega (arith, r .ranges .count-ok (k .victim))
-
   step13 : EdgeAt 13 (λ p k. stage13 k (count p (k .victim)) (p .size))
   unfolding stage13 freeAfter
   step13 e =
-      by-test IsEdge (λ _. plain 13 14 _ e (counts lowered) refl tt tt tt (known 13 e))
-      (λ _. next 13 0 _ e some-slots (counts lowered) refl tt tt tt (known 13 e .0))
+      let h = r .ranges .count-ok (k .victim) in
+      by-test IsEdge (λ _. plain 13 14 _ e (counts (omega arith)) refl tt tt tt (known 13 e))
+      (λ _. next 13 0 _ e some-slots (counts (omega arith)) refl tt tt tt (known 13 e .0))
 
   step14 : EdgeAt 14 (λ p k. stage14 k (pins p (k .victim)) (p .size))
   unfolding stage14 freeAfter

@@ -27,8 +27,8 @@ use Rattle.pool.specs.declared.Client.{Client}
 use Rattle.pool.specs.declared.Call.the-variants.{Begin, Step}
 use Rattle.laws.specs.Setups.{set-up}
 use Rattle.invariant.proofs.After.{client-past}
-use Rattle.guarantee.specs.Runs.{Event, events, At, along, Begins, GrantedTo, Releases}
-use Rattle.guarantee.specs.Claims.{Evicts, TakenOut, takesEffect, TakesEffect, TurnedDown, Alone, TakesWith, Lowers, SweepsOut}
+use Rattle.guarantee.specs.Runs.{Event, events, At, along, Begins, GrantedTo, Releases, TurnedDown}
+use Rattle.guarantee.specs.Claims.{Evicts, TakenOut, takesEffect, TakesEffect, Alone, TakesWith, Lowers, SweepsOut}
 use Rattle.guarantee.proofs.TurnedDown.{other-call}
 
 -- all that a run computes
