@@ -19,7 +19,7 @@ use Rattle.invariant.proofs.Sums.{one-at-most, sum-add, sum-below, sum-at-most}
 use Rattle.invariant.proofs.Searches.{pins-named}
 use Rattle.invariant.proofs.Pigeonhole.{below, equal, below-all, equal-has}
 use Rattle.progress.proofs.Rank.{weigh, detour, toll, anew, residentFrame, frameRank, way, spoiltAt, wantsAt, lostAt, bases, rankAt, clientRank, frames, rankOf, rank}
-use Rattle.progress.proofs.Clients.{weigh-at-most}
+use Rattle.progress.proofs.Weights.{weigh-at-most, detour-is, anew-is}
 use Rattle.progress.proofs.Way.{way-at-most}
 
 -- ---- one client
@@ -31,12 +31,13 @@ module _ (s t : ℕ) (p : Pool) (k : Client) (h : 1 ≤ s) where
       ≤ 3 * toll s t + 6 * s + 24
 
   client-bounded : (i : ℕ) → i ≤ 23 → rankAt s t p i k ≤ 3 * toll s t + 6 * s + 24
-  unfolding rankAt detour anew
+  unfolding rankAt
   client-bounded i l =
-      let a : ℕ = toll s t + 2 * s + 12 in
-      let wants : weigh (wantsAt p 1 k) a ≤ a = weigh-at-most (wantsAt p 1 k) a in
-      let lost : weigh (lostAt p 19 k) a ≤ a = weigh-at-most (lostAt p 19 k) a in
-      let spoilt : (i : ℕ) → weigh (spoiltAt p i k) (2 * s + 3) ≤ 2 * s + 3 = λ i. weigh-at-most (spoiltAt p i k) (2 * s + 3) in
+      let d = detour-is s in
+      let a = anew-is s t in
+      let wants : weigh (wantsAt p 1 k) (anew s t) ≤ anew s t = weigh-at-most (wantsAt p 1 k) (anew s t) in
+      let lost : weigh (lostAt p 19 k) (anew s t) ≤ anew s t = weigh-at-most (lostAt p 19 k) (anew s t) in
+      let spoilt : (i : ℕ) → weigh (spoiltAt p i k) (detour s) ≤ detour s = λ i. weigh-at-most (spoiltAt p i k) (detour s) in
       each-in Within 0 (bases s t k)
       (omega arith also omega arith also omega arith also omega arith also omega arith also omega arith also omega (arith, spoilt 6) also omega arith also
       omega (arith, way-at-most s p (k .place)) also omega arith also omega arith also omega arith also omega (arith, spoilt 12) also

@@ -14,11 +14,8 @@ use Rattle.laws.specs.Scans.{and-parts}
 use Rattle.invariant.proofs.Reached.{examining}
 use Rattle.invariant.proofs.StageTests.{T-true, T-false, T-not}
 use Rattle.progress.proofs.Rank.{weigh, detour, anew, way, spoiltBy, spoiltAt, wantsAt, lostAt, rankAt}
+use Rattle.progress.proofs.Weights.{weigh-at-most, detour-is}
 use Rattle.progress.proofs.Way.{way-at-most, way-same}
-
-pub weigh-at-most : (b : Bool) (n : ℕ) → weigh b n ≤ n
-weigh-at-most true n = omega arith
-weigh-at-most false n = omega arith
 
 -- ---- tests
 
@@ -70,12 +67,12 @@ module _ (s t : ℕ) (p q : Pool) (i : ℕ) (k : Client) where
 
   -- whatever happens to slots, pins and free
   pub client-spoilt : TableTerms → rankAt s t q i k ≤ rankAt s t p i k + detour s
-  unfolding rankAt detour
+  unfolding rankAt
   client-spoilt table = omega (arith, table, both (ℕ-discrete i 8))
     where
-      both : Dec (i ≡ 8) → weigh (eqb i 8) (way s q (k .place)) + weigh (spoiltAt q i k) (2 * s + 3) ≤ 2 * s + 3
-      both (yes e) = rw e (omega (arith, way-at-most s q (k .place)))
-      both (no e) = rw (ne-eqb i 8 e) (omega (arith, weigh-at-most (spoiltAt q i k) (2 * s + 3)))
+      both : Dec (i ≡ 8) → weigh (eqb i 8) (way s q (k .place)) + weigh (spoiltAt q i k) (detour s) ≤ detour s
+      both (yes e) = rw e (omega (arith, way-at-most s q (k .place), detour-is s))
+      both (no e) = rw (ne-eqb i 8 e) (omega (arith, weigh-at-most (spoiltAt q i k) (detour s)))
 
   -- at a stage that goes by none of them
   pub client-plain : T (plain i) → TableTerms → rankAt s t q i k ≤ rankAt s t p i k

@@ -39,7 +39,8 @@ use Rattle.invariant.proofs.Searches.{free-found, unreferenced-means, lookup-fo
 use Rattle.invariant.proofs.Table.{mapped-zero}
 use Rattle.progress.proofs.Rank.{detour, toll, anew, rankAt, frames, rank}
 use Rattle.invariant.proofs.After.{count-here, pins-here, slot-kept}
-use Rattle.progress.proofs.Clients.{weigh-at-most, plain, client-kept, client-plain}
+use Rattle.progress.proofs.Weights.{weigh-at-most, detour-is, anew-is}
+use Rattle.progress.proofs.Clients.{plain, client-kept, client-plain}
 use Rattle.progress.proofs.Frames.{frame-lighter, frame-evicted}
 use Rattle.progress.proofs.Writes.{Acting, Lightens, Unseen, table-terms}
 use Rattle.progress.proofs.Pays.{frames-kept, frames-one, frames-free, unseen, spoils}
@@ -154,8 +155,8 @@ module _ {p : Pool} {c : ℕ} (act : Acting p c) where
 
   -- free was changed: the detour pays for the way back
   retry6 : client p c .stage ≡ 6 → eqb (p .free) (k .seen) ≡ false → Falls p c (works k 5 Keep)
-  unfolding rankAt detour
-  retry6 e z = goes 6 e (rw z (omega arith))
+  unfolding rankAt
+  retry6 e z = goes 6 e (rw z (omega (arith, detour-is s)))
 
   step6 : FallsAt 6 (λ p k. stage6 k (p .free))
   unfolding stage6
@@ -222,7 +223,7 @@ module _ {p : Pool} {c : ℕ} (act : Acting p c) where
   lower13 e = quiet 13 e (victim-here (know p r c 13 e .1), omega arith) (λ _. tt) (omega arith)
 
   pass13 : client p c .stage ≡ 13 → count p (k .victim) - 1 ≢ 0 → Falls p c (nextSlot k s (PutCount (k .victim) (count p (k .victim) - 1)))
-  unfolding rankAt detour countsAfter
+  unfolding rankAt countsAfter
   pass13 e z = go (ℕ-discrete (pins p v) (pinned 0)) (ℕ-discrete (slot p (k .place)) v)
     where
       v : ℕ
@@ -235,12 +236,12 @@ module _ {p : Pool} {c : ℕ} (act : Acting p c) where
       h = victim-here (know p r c 13 e .1)
 
       go : Dec (pins p v ≡ pinned 0) → Dec (slot p (k .place) ≡ v) → Falls p c m
-      go (no a) _ = quiet 13 e (h, omega arith) (λ _. tt) (rw (ne-eqb (pins p v) (pinned 0) a) (omega arith))
-      go (yes a) (no b) = quiet 13 e (h, omega arith) (λ _. tt) (rw (eq-eqb (pins p v) (pinned 0) a, ne-eqb (slot p (k .place)) v b) (omega arith))
+      go (no a) _ = quiet 13 e (h, omega arith) (λ _. tt) (rw (ne-eqb (pins p v) (pinned 0) a) (omega (arith, detour-is s)))
+      go (yes a) (no b) = quiet 13 e (h, omega arith) (λ _. tt) (rw (eq-eqb (pins p v) (pinned 0) a, ne-eqb (slot p (k .place)) v b) (omega (arith, detour-is s)))
       go (yes a) (yes b) =
           let res = victim-resident (know p r c 13 e .1) a in
           let less = frame-lighter s t p (apply p c m) v (res .0) (res .1) (count-here p c m (r .shape) v (count p v - 1) refl h) z in
-          lower (λ _. omega (arith, unseen act m 13 (detour s) 1 e (frames-one act m v (detour s) h less (h, omega arith)) (λ _. tt) tt (omega arith)))
+          lower (λ _. omega (arith, unseen act m 13 (detour s) 1 e (frames-one act m v (detour s) h less (h, omega arith)) (λ _. tt) tt (omega (arith, detour-is s))))
 
   step13 : FallsAt 13 (λ p k. stage13 k (count p (k .victim)) (p .size))
   unfolding stage13
@@ -263,8 +264,8 @@ module _ {p : Pool} {c : ℕ} (act : Acting p c) where
 
   -- it was pinned or evicted by another: the detour pays for the next slot
   pass14 : client p c .stage ≡ 14 → eqb (pins p (k .victim)) (pinned 0) ≡ false → Falls p c (nextSlot k s Keep)
-  unfolding rankAt detour
-  pass14 e z = goes 14 e (rw z (omega arith))
+  unfolding rankAt
+  pass14 e z = goes 14 e (rw z (omega (arith, detour-is s)))
 
   step14 : FallsAt 14 (λ p k. stage14 k (pins p (k .victim)) (p .size))
   unfolding stage14
@@ -276,8 +277,8 @@ module _ {p : Pool} {c : ℕ} (act : Acting p c) where
   replace15 e = pays 15 0 e tt tt (frames-kept act _ tt) (omega arith)
 
   pass15 : client p c .stage ≡ 15 → eqb (slot p (k .place)) (k .victim) ≡ false → Falls p c (nextSlot k s Keep)
-  unfolding rankAt detour
-  pass15 e z = goes 15 e (rw z (omega arith))
+  unfolding rankAt
+  pass15 e z = goes 15 e (rw z (omega (arith, detour-is s)))
 
   step15 : FallsAt 15 (λ p k. stage15 k (slot p (k .place)) (p .size))
   unfolding stage15
@@ -340,8 +341,8 @@ module _ {p : Pool} {c : ℕ} (act : Acting p c) where
 
   -- the entry is gone: what that weighs pays for the start anew
   step22 : FallsAt 22 (λ p k. stage22 k (entryOf p (k .page)) (lookup p (k .page)))
-  unfolding stage22 rankAt anew
-  step22 e = by-test IsFalls (λ _. gives _ _ _) (λ z. goes 22 e (rw z (omega arith)))
+  unfolding stage22 rankAt
+  step22 e = by-test IsFalls (λ _. gives _ _ _) (λ z. goes 22 e (rw z (omega (arith, anew-is s t))))
 
   step23 : FallsAt 23 (λ p k. stage23 k (pins p (k .own)))
   unfolding stage23 rankAt

@@ -14,12 +14,7 @@ use Rattle.pool.specs.declared.Pool.{Pool}
 use Rattle.invariant.proofs.Reached.{mapped}
 use Rattle.invariant.proofs.StageTests.{and-false}
 use Rattle.progress.proofs.Rank.{weigh, detour, toll, residentFrame, frameRank}
-use Rattle.progress.proofs.Clients.{weigh-at-most}
-
--- one time less
-pub lowered : (d n : ℕ) → n ≢ 0 → d * (n - 1) + d ≡ d * n
-lowered d zero z = absurd (z refl)
-lowered d (suc n) z = let e : suc n - 1 ≡ n = omega arith in rw e (omega arith)
+use Rattle.progress.proofs.Weights.{weigh-at-most, lowered}
 
 module _ (s t : ℕ) where
   -- a resident frame, and any other

@@ -1,4 +1,5 @@
 pub mod Rank
+pub mod Weights
 pub mod Way
 pub mod Clients
 pub mod Frames

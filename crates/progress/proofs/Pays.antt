@@ -17,14 +17,9 @@ use Rattle.invariant.proofs.After.{client-same, client-other}
 use Rattle.invariant.proofs.Writes.{keepsTable}
 use Rattle.invariant.proofs.Sums.{sum-below, sum-rise}
 use Rattle.progress.proofs.Rank.{detour, toll, rankAt, clientRank, frameRank, frames, rankOf, rank}
-use Rattle.progress.proofs.Frames.{lowered}
+use Rattle.progress.proofs.Weights.{lowered, toll-is}
 use Rattle.progress.proofs.Clients.{client-spoilt, plain, client-plain}
 use Rattle.progress.proofs.Writes.{Acting, Lightens, Unseen, frame-after, free-after, client-after, table-terms}
-
--- a toll is a detour for each client but one
-toll-is : (s t : ℕ) → 1 ≤ t → detour s * t ≡ toll s t + detour s
-unfolding toll
-toll-is s t h = sym (lowered (detour s) t (λ e. let z : ⊥ = omega arith in z))
 
 module _ {p : Pool} {c : ℕ} (act : Acting p c) where
   abbrev here : c < clientCount p

@@ -19,7 +19,8 @@ use Rattle.invariant.proofs.Reached.{Reached}
 use Rattle.invariant.proofs.Searches.{Found, lookup-found}
 use Rattle.invariant.proofs.Lookups.{put-lookup, put-lookup-else}
 use Rattle.progress.proofs.Rank.{weigh, anew}
-use Rattle.progress.proofs.Clients.{weigh-at-most, TableTerms}
+use Rattle.progress.proofs.Clients.{TableTerms}
+use Rattle.progress.proofs.Weights.{weigh-at-most}
 
 -- the look-up of a client at stage i, which found frame f, gave x and gives none now
 turns : (i x y f n : ℕ) → x ≢ none → y ≡ none

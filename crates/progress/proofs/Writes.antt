@@ -25,7 +25,7 @@ use Rattle.invariant.proofs.Writes.{keepsTable, lookup-kept}
 use Rattle.invariant.proofs.Sums.{sum-below, sum-rise}
 use Rattle.invariant.proofs.Table.{mapped-kept, put-unmapped}
 use Rattle.progress.proofs.Rank.{detour, toll, rankAt, clientRank, frameRank, frames, rankOf, rank}
-use Rattle.progress.proofs.Frames.{lowered, frame-kept}
+use Rattle.progress.proofs.Frames.{frame-kept}
 use Rattle.progress.proofs.Clients.{TableTerms, client-kept, client-spoilt, plain, client-plain}
 
 -- who makes the move
