@@ -1,4 +1,4 @@
-"""What runs come to: the table of stats, and its plot."""
+"""What runs come to: the table of stats, what is below it, and its plot."""
 
 import collections
 import re
@@ -10,18 +10,24 @@ import second
 from checking import need, same
 from common import LISTING, answers_to, example
 from scheduling import BadInput, records, report, stats
+from scheduling.text import make
+from scheduling.totals import step_bound
 
 SEEDS = range(60)
 SVG = "{http://www.w3.org/2000/svg}"
 
 
 def counted(schedule):
-    """What each client and all came to, by a run of the second program."""
+    """What each client and all came to, by a run of the second program.
+
+    Beside it, for each accepted step of the run, by whichever client, whether
+    it was an answer: who works is stepped, and who rests then was answered.
+    """
     found, (_, count, _) = records.read(schedule)[0], second.run(schedule)
     pool = second.Pool(*found[0].numbers)
     rows = [collections.Counter() for _ in pool.clients]
     steps, most = [[] for _ in rows], [0] * (len(rows) + 1)
-    running = [0] * len(rows)
+    running, answered = [0] * len(rows), []
     for record in found[1:count]:
         known = record.client < len(rows)
         stage = pool.clients[record.client].stage if known else None
@@ -30,6 +36,8 @@ def counted(schedule):
             continue
         row, client = rows[record.client], record.client
         row[code] += code > 100
+        if record.kind == records.STEP and stage is not None:
+            answered.append(pool.clients[client].request is None)
         if record.kind == records.BEGIN and code == 0:
             row["requests"] += 1
             running[client] = 0
@@ -42,7 +50,7 @@ def counted(schedule):
             most[place] = max(most[place], len(pages))
     total = sum(rows, collections.Counter())
     return [*zip(map(str, range(len(rows))), rows, steps, most),
-            ("all", total, sum(steps, []), most[-1])]
+            ("all", total, sum(steps, []), most[-1])], answered
 
 
 def refusals_shown(counts):
@@ -63,10 +71,54 @@ def rows_shown(text):
         yield (*numbers.split(), bracket + by)
 
 
+# How far the next answer was away: what can stand below the table.
+AWAY = "the next answer was at most %s away, counted over all clients;"
+AFTER = "after the last one came %s without another;"
+NONE = "no answer came in %s, counted over all clients;"
+UNSTEPPED = "no answer came, since no step was accepted;"
+LIMIT = "with %s, %s and cap %d the next is always at most %s away"
+
+
+def below(shown):
+    """The lines that stand last before the notes."""
+    *_, said, notes = shown.split("\n\n")
+    need(notes.startswith("requests: "), "the notes begin %.80r" % notes)
+    return said.split("\n")
+
+
+def some(number, thing):
+    return "{:,} {}{}".format(number, thing, "s" * (number != 1))
+
+
+def bound(slots, clients, cap):
+    """The number of claim 24, in a form of its own."""
+    others = clients - 1
+    return (1 + 6 * clients * (slots + 4) + (cap - 1) * (2 * slots ** 2 + slots)
+            + others * (2 * slots ** 2 + 3 * slots + 9 * clients
+                        + 6 * slots * clients))
+
+
+def check_away(schedule, shown, answered):
+    """The lines have the numbers of a recount, which are in their limits."""
+    *ended, last = "".join(".!"[answer] for answer in answered).split("!")
+    longest = max((len(steps) + 1 for steps in ended), default=0)
+    rest = len(last)
+    due = [AWAY % some(longest, "step")] if longest else []
+    if rest > longest:
+        due.append((AFTER if longest else NONE) % some(rest, "step"))
+    slots, clients, cap = schedule[3:6]
+    limit = bound(slots, clients, cap)
+    same(below(shown), [*(due or [UNSTEPPED]), LIMIT % (
+        some(slots, "slot"), some(clients, "client"), cap,
+        "{:,}".format(limit))], "how far the next answer was away")
+    need(longest <= limit and rest < limit, "an answer is due after %d steps, "
+         "but there were %d, and %d in the end" % (limit, longest, rest))
+
+
 def check_table(schedule):
     answers = answers_to(schedule)
-    due = []
-    for name, row, steps, most in counted(schedule):
+    due, (rows, answered) = [], counted(schedule)
+    for name, row, steps, most in rows:
         due.append((name, str(row["requests"]),
                     "%.0f%%" % (100 * row["hits"] / len(steps))
                     if steps else "-",
@@ -81,7 +133,9 @@ def check_table(schedule):
     if refusals_shown(strays)[1]:
         due.insert(-1, ("none", "0", "-", "-", "-", "0",
                         *refusals_shown(strays)))
-    same(list(rows_shown(stats.table(schedule, answers))), due, "the table")
+    shown = stats.table(schedule, answers)
+    same(list(rows_shown(shown)), due, "the table")
+    check_away(schedule, shown, answered)
 
 
 def tables():
@@ -102,6 +156,58 @@ def tables():
                 else:
                     raise AssertionError("a run without a setup is counted")
     return "stats, %d runs counted anew with the second program" % count
+
+
+BOUNDS = {(1, 1, 1): 31, (2, 2, 2): 139, (8, 4, 3): 1701,
+          (64, 16, 100): 1043953}
+
+
+def bounds():
+    pools = [(slots, clients, cap) for slots in range(1, 65)
+             for clients in range(1, 17) for cap in range(1, 101)]
+    for pool in pools:
+        same(step_bound(*pool), BOUNDS.get(pool, bound(*pool)),
+             "the number of claim 24 for %r" % (pool,))
+    return "stats, the number of claim 24 for %d pools" % len(pools)
+
+
+# Runs of a slot and two clients, and what is due, counted by hand. Client 0 is
+# granted a page in 8 steps: at 1, 4 to 9 and 18. While it holds the page,
+# client 1 is refused by 15 in 6: at 1, 4, 5 and 10 to 12; and afterwards it is
+# granted another in 12: at 1, 4, 5 and 10 to 18.
+FIRST = "begin 0 page 9\nstep 0 times 8\n"
+OTHER = "begin 1 page 8\nstep 1 times %d\n"
+FREED = FIRST + "release 0 page 9\n" + OTHER
+AWAYS = (
+    ("", UNSTEPPED),
+    ("begin 0 page 9\nstep 1 times 3\nstep 2\n", UNSTEPPED),  # by 11, by 9
+    ("begin 0 page 9\nstep 0\n", NONE % "1 step"),
+    ("begin 0 page 9\n" + OTHER % 3 + "step 0 times 4\n", NONE % "7 steps"),
+    (FIRST, AWAY % "8 steps"),
+    ("step 0 times 5\n" + FIRST + "step 0 times 9\n", AWAY % "8 steps"),
+    (OTHER % 3 + FIRST, AWAY % "11 steps"),
+    (FIRST + OTHER % 6, AWAY % "8 steps"),
+    (FIRST + 2 * (OTHER % 6) + OTHER % 5, AWAY % "8 steps"),
+    (FREED % 8, AWAY % "8 steps"),
+    (FREED % 9, AWAY % "8 steps", AFTER % "9 steps"),
+    (FREED % 11, AWAY % "8 steps", AFTER % "11 steps"),
+    (FREED % 12, AWAY % "12 steps"),
+    (FREED % 12 + "release 1 page 8\n" + FIRST, AWAY % "12 steps"),
+)
+# A record that is cut, a second setup, a step with a page: each ends a run.
+ENDS = (b"\x46", records.pack(records.SETUP, 1, 2, 3, 0),
+        records.pack(records.STEP, 0, 9))
+
+
+def distances():
+    for calls, *due in AWAYS:
+        made = make(b"setup slots 1 clients 2 cap 3 hand 0\n"
+                    + calls.encode())
+        for schedule in (made, *(made + end for end in ENDS)):
+            check_table(schedule)
+            same(below(stats.table(schedule, answers_to(schedule)))[:-1], due,
+                 "the lines below the table of %r" % calls)
+    return "stats, how far the next answer was away in %d runs" % len(AWAYS)
 
 
 NAMES = {  # what stands beside each look
@@ -294,14 +400,30 @@ def plots():
 def other_reports():
     """A report that is short or of another run is told."""
     schedule = example("example.txt")
-    for written, said in ((LISTING[:32], "64 bytes from byte 34 on not "
-                           "played: the report has no line for them"),
-                          (LISTING.replace(b"5 0 1 7", b"5 0 1 5"),
-                           "from record 5 on the answers are not those")):
-        found = stats.table(schedule, report.read_report(written, schedule))
+    short, strange = ("not played: the report has no line for them",
+                      "from record %d on the answers are not those")
+    long = make(b"setup slots 1 clients 1 cap 3 hand 0\nbegin 0 page 9\n"
+                b"step 0 times 1200\n")
+    reports = (
+        (schedule, LISTING[:32], "64 bytes from byte 34 on " + short,
+         NONE % "2 steps"),
+        (schedule, LISTING.replace(b"5 0 1 7", b"5 0 1 5"), strange % 5,
+         AWAY % "8 steps"),
+        (schedule, b"", "98 bytes from byte 0 on " + short, UNSTEPPED),
+        (schedule, b"0 0 108 0\n", strange % 0, UNSTEPPED),
+        # Not a step, whatever its answer.
+        (schedule, b"0 0 0 1\n1 0 115 0\n", strange % 1, UNSTEPPED),
+        # More steps than any run needs.
+        (long, b"0 0 0 1\n1 0 0 9\n" + b"".join(
+            b"%d 0 1 4\n" % number for number in range(2, 1202)),
+         strange % 3, NONE % "1,200 steps"),
+    )
+    for asked, written, said, away in reports:
+        found = stats.table(asked, report.read_report(written, asked))
         need("\n" + said in found, "no line %r in %r" % (said, found))
+        same(below(found)[:-1], [away], "the lines below the table")
         need("drops" not in found, "a word on drops, which are not shown")
-    return "stats, a short report and a strange one"
+    return "stats, %d reports that are short or strange" % len(reports)
 
 
-TESTS = (tables, plots, other_reports)
+TESTS = (tables, bounds, distances, plots, other_reports)

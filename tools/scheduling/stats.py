@@ -6,7 +6,7 @@ from .moments import CANDIDATE, IN_USE, run_to
 from .records import read
 from .svg import Canvas
 from .tables import Column, lines_of
-from .totals import Totals, by_number
+from .totals import Totals, by_number, step_bound
 
 COLUMNS = (Column("client", right=True), Column("requests", right=True),
            Column("hit rate", right=True), Column("steps: median", right=True),
@@ -19,6 +19,10 @@ hit rate:  of the requests that were answered (a grant, or refusal 15), those
            that were granted at stage 3, since the page was there
 steps:     of a request that was answered, from its begin to its answer
 most held: how many different pages were held at one time
+answer:    a grant or refusal 15, to whichever client; the steps up to it are
+           those since the answer before it, or since the setup, without those
+           that were turned down. Always: in whichever order the clients are
+           stepped, by claim 24 of docs/GUARANTEE.md
 """
 
 
@@ -35,13 +39,36 @@ def row(name, part):
             str(part.counts["refusals"]), by_number(part.refusals))
 
 
+def steps(number):
+    return "{:,} step{}".format(number, "" if number == 1 else "s")
+
+
+def away(stretches, setup):
+    """Lines on how soon somebody was answered, and always is."""
+    longest, last = stretches.longest, stretches.last
+    if longest:
+        yield ("the next answer was at most %s away, counted over all "
+               "clients;" % steps(longest))
+        if last > longest:
+            yield "after the last one came %s without another;" % steps(last)
+    elif last:
+        yield "no answer came in %s, counted over all clients;" % steps(last)
+    else:
+        yield "no answer came, since no step was accepted;"
+    slots, clients, cap, _ = setup
+    yield "with {}, {} and cap {} the next is always at most {:,} away".format(
+        words.count(slots, "slot"), words.count(clients, "client"), cap,
+        step_bound(slots, clients, cap))
+
+
 def table(data, answers):
     """The numbers of each client and of all, as text."""
     run, (records, _) = run_to("count", data), read(data)
-    parts = Totals(records, answers).parts()
+    totals = Totals(records, answers)
     besides = [*left_over(data, records, answers), *unlike(run, answers)]
-    lines = [*lines_of(COLUMNS, [row(*part) for part in parts]), "",
-             *besides, *([""] if besides else [])]
+    lines = [*lines_of(COLUMNS, [row(*part) for part in totals.parts()]), "",
+             *besides, *([""] if besides else []),
+             *away(totals.stretches, run.setup), ""]
     return "".join(line + "\n" for line in lines) + NOTES
 
 

@@ -1,5 +1,8 @@
 """What the answers to a schedule's records add up to, client by client.
 
+Only the steps from one answer to the next are counted over all clients; how
+many these can be is guaranteed.
+
 Records and answers are enough for all counts but one: a step's answer tells
 where the client stands, and so which stage it does next. Drops have to be
 told, since a 17 answers the same whether or not it removes an entry.
@@ -8,12 +11,17 @@ told, since a 17 answers the same whether or not it removes an entry.
 import collections
 import statistics
 
-from .records import BEGIN, RELEASE, SETUP
+from .records import BEGIN, RELEASE, SETUP, STEP
 from .report import DONE, GRANTED, WORKING
 
 # Where a request is granted, and as what it counts: SPECIFICATION 7.1.
 GRANTS = {3: "hits", 21: "joins", 18: "admitted", 22: "revived"}
 COUNTS = ("requests", *GRANTS.values(), "drops", "refusals")
+
+
+def ends_request(answer):
+    """Whether it answers a request: a grant, or refusal 15."""
+    return answer.code == GRANTED or answer.refusal == 15
 
 
 class Client:
@@ -41,7 +49,7 @@ class Client:
         elif answer.code == WORKING:
             self.taken += 1
             self.stage = answer.value
-        elif answer.code == GRANTED or answer.refusal == 15:
+        elif ends_request(answer):
             self.end(answer)
 
     def refuse(self, number):
@@ -66,6 +74,33 @@ class Client:
 
     def longest_steps(self):
         return max(self.steps, default=None)
+
+
+def step_bound(slots, clients, cap):
+    """Of so many accepted steps, one after the other, one is an answer.
+
+    So it is in every run, whichever clients are stepped and whatever other
+    calls stand between: claim 24 of docs/GUARANTEE.md, somebody always gets
+    through.
+    """
+    return ((2 * slots + 1) * slots * (cap - 1)
+            + (2 * slots + 3) * (clients - 1) * (slots + 3 * clients)
+            + (6 * slots + 24) * clients + 1)
+
+
+class Stretches:
+    """The accepted steps of all clients together, from answer to answer."""
+
+    def __init__(self):
+        self.longest = 0  # up to an answer and with it; 0 without any
+        self.last = 0  # since the last answer, or else since the setup
+
+    def note(self, answer):
+        """Take in the answer to a step, of whichever client."""
+        if answer.code == WORKING or ends_request(answer):
+            self.last += 1  # else it was turned down
+        if ends_request(answer):
+            self.longest, self.last = max(self.longest, self.last), 0
 
 
 def by_number(refusals):
@@ -99,6 +134,7 @@ class Totals:
                    if records and answers and answers[0].code == DONE else 0)
         self.clients = [Client() for _ in range(clients)]
         self.strays = Client()
+        self.stretches = Stretches()
         most_held = 0
         for answer in answers:
             record = (records[answer.number]
@@ -107,6 +143,8 @@ class Totals:
                 client = self.of(record, answer)
                 client.note(record, answer)
                 client.counts["drops"] += answer.number in drops
+                if record.kind == STEP:
+                    self.stretches.note(answer)
             elif answer.refusal:
                 self.strays.refuse(answer.refusal)
             if answer.code == GRANTED:

@@ -1,9 +1,9 @@
 -- Claim 24 from the rank: as long as no answer comes, each accepted step lowers it, and no other call raises it. So there are no more accepted steps
 -- than the rank where the first of them is made, and this is below `stepBound`. Assumes nothing.
-use mathlib.Core.Path.{_≡_, refl, sym, ap, subst, _∙_}
+use mathlib.Core.Path.{_≡_, refl, ap, subst, _∙_}
 use mathlib.Core.Logic.{_≢_, _⊎_, inl, inr}
 use mathlib.Core.List.{List, [], _∷_, map}
-use Prim.Native.Nat.{ℕ, zero, suc, _+_, _-_, _≤_, _<_}
+use Prim.Native.Nat.{ℕ, zero, suc, _-_, _≤_, _<_}
 use native.Mathlib.Decide.{ℕ-discrete}
 use native.Mathlib.Omega.{arith}
 use Rattle.pool.specs.Answers.{refusalOf}
@@ -11,7 +11,6 @@ use Rattle.pool.specs.State.{clientCount, client}
 use Rattle.pool.specs.Stages.{stageMove}
 use Rattle.pool.specs.Calls.{fresh, caller, refusal, moveOf, callOf}
 use Rattle.pool.specs.declared.Pool.{Pool}
-use Rattle.pool.specs.declared.Client.{Client}
 use Rattle.pool.specs.declared.Move.{Move}
 use Rattle.pool.specs.declared.Outcome.{Outcome}
 use Rattle.pool.specs.declared.Call.{Call}
@@ -20,14 +19,16 @@ use Rattle.pool.specs.declared.Answer.{Answer}
 use Rattle.pool.specs.declared.Answer.the-variants.{Granted, Refused}
 use Rattle.laws.specs.StageAnswers.{StageAnswer, goes, grants, refuses, sticks, stage-answer}
 use Rattle.invariant.proofs.Reached.{Reached}
-use Rattle.invariant.proofs.Allowed.{Allowed, refusal-not-15, allowed, may-begin, may-step, may-release}
+use Rattle.invariant.proofs.Allowed.{refusal-not-15, allowed, may-begin, may-step, may-release}
 use Rattle.invariant.proofs.Calls.{outcomeOf, never-stuck, reached-next, by-refusal, reached-call}
 use Rattle.progress.proofs.Rank.{rank}
 use Rattle.progress.proofs.Bound.{bounded}
 use Rattle.progress.proofs.Writes.{Acting}
-use Rattle.progress.proofs.Falls.{Falls, ends, lower, step-falls, begin-keeps, release-keeps}
+use Rattle.progress.proofs.Moves.{Falls, ends, lower}
+use Rattle.progress.proofs.StageFalls.{step-falls}
+use Rattle.progress.proofs.BeginRelease.{begin-keeps, release-keeps}
 use Rattle.guarantee.specs.Runs.{Event, eventOf, events, At, along}
-use Rattle.guarantee.specs.Progress.{stepBound, plainBound, StepWith, AcceptedStep, Answers, Stretch, OneAnswers, GetsThrough, StepAnswered}
+use Rattle.guarantee.specs.Progress.{stepBound, plainBound, StepWith, AcceptedStep, Answers, OneAnswers, GetsThrough, StepAnswered}
 use Rattle.guarantee.proofs.TurnedDown.{other-call, same-numbers}
 use Rattle.guarantee.proofs.StepBounds.{rank-bound, bounds}
 

@@ -4,12 +4,12 @@ use mathlib.Core.Path.{_≡_}
 use Prim.Native.Nat.{ℕ, zero, suc, _+_, _-_, _*_, _≤_}
 use native.Mathlib.Omega.{arith}
 use native.Mathlib.Nat.{mul-le-mul-right}
-use Rattle.progress.proofs.Rank.{detour, toll}
-use Rattle.guarantee.specs.Progress.{stepBound, plainBound, Claim-bounds}
+use Rattle.progress.proofs.Rank.{lap, detour, toll}
+use Rattle.guarantee.specs.Progress.{stepBound, Claim-bounds}
 
 -- frames and free slots, and clients
-pub rank-bound : (s t c : ℕ) → (detour s * (c - 1) + toll s t) * s + (3 * toll s t + 6 * s + 24) * t + 1 ≡ stepBound s t c
-unfolding detour toll
+pub rank-bound : (s t c : ℕ) → (lap s * (c - 1) + toll s t) * s + (3 * toll s t + 6 * s + 24) * t + 1 ≡ stepBound s t c
+unfolding lap detour toll
 rank-bound s t c = omega arith
 
 square : (b : ℕ) → b ≤ b * b

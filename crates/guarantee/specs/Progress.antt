@@ -14,7 +14,7 @@ use Rattle.guarantee.specs.Runs.{Event, events, At, along, TurnsDown, En
 -- ---- how many: in a pool of s slots and t clients, with counts up to c
 
 abbrev pub stepBound : ℕ → ℕ → ℕ → ℕ
-stepBound s t c = (2 * s + 3) * ((c - 1) * s + (t - 1) * (s + 3 * t)) + (6 * s + 24) * t + 1
+stepBound s t c = (2 * s + 1) * s * (c - 1) + (2 * s + 3) * (t - 1) * (s + 3 * t) + (6 * s + 24) * t + 1
 
 -- a number that is easier to remember, and no smaller
 abbrev pub plainBound : ℕ → ℕ → ℕ → ℕ

@@ -3,7 +3,6 @@
 use mathlib.Core.Path.{_≡_, refl, sym, ap, subst}
 use mathlib.Core.List.{List, [], _∷_, map}
 use Prim.Native.Nat.{ℕ, zero, suc}
-use Rattle.pool.specs.declared.Call.the-variants.{Step}
 use Rattle.pool.specs.declared.Answer.{Answer}
 use Rattle.guarantee.specs.Runs.{At}
 use Rattle.guarantee.specs.Progress.{StepWith, StepAnswered}

@@ -1,7 +1,6 @@
 -- How large the rank of a reached pool can be. A resident frame stands in a slot of its own, and free slots are empty, so both together are at most S;
 -- no count is above C, and no client's part is above three tolls and 6 S + 24. Assumes nothing.
-use mathlib.Core.Path.{_≡_, refl, sym, ap, _∙_}
-use mathlib.Core.Logic.{_≢_}
+use mathlib.Core.Path.{_≡_, sym, _∙_}
 use mathlib.Core.Bool.{Bool, true, false}
 use Prim.Native.Nat.{ℕ, zero, suc, _+_, _-_, _*_, _≤_, _<_}
 use native.Mathlib.Omega.{arith}
@@ -18,7 +17,7 @@ use Rattle.invariant.proofs.After.{few-frames, slot-in}
 use Rattle.invariant.proofs.Sums.{one-at-most, sum-add, sum-below, sum-at-most}
 use Rattle.invariant.proofs.Searches.{pins-named}
 use Rattle.invariant.proofs.Pigeonhole.{below, equal, below-all, equal-has}
-use Rattle.progress.proofs.Rank.{weigh, detour, toll, anew, residentFrame, frameRank, way, spoiltAt, wantsAt, lostAt, bases, rankAt, clientRank, frames, rankOf, rank}
+use Rattle.progress.proofs.Rank.{weigh, lap, detour, toll, anew, residentFrame, frameRank, way, spoiltAt, wantsAt, lostAt, bases, rankAt, clientRank, frames, rankOf, rank}
 use Rattle.progress.proofs.Weights.{weigh-at-most, detour-is, anew-is}
 use Rattle.progress.proofs.Way.{way-at-most}
 
@@ -97,10 +96,10 @@ module _ (p : Pool) (r : Reached p) where
         r .evictions .empties,
       )
 
-  frames-bounded : frames (p .size) (clientCount p) p ≤ (detour (p .size) * (p .cap - 1) + toll (p .size) (clientCount p)) * p .size
+  frames-bounded : frames (p .size) (clientCount p) p ≤ (lap (p .size) * (p .cap - 1) + toll (p .size) (clientCount p)) * p .size
   unfolding frameRank residents
   frames-bounded =
-      let d : ℕ = detour (p .size) in
+      let d : ℕ = lap (p .size) in
       let e : ℕ = toll (p .size) (clientCount p) in
       let w : ℕ = d * (p .cap - 1) + e in
       let each : (f : ℕ) → f < total p → d * (count p f - 1) + e ≤ w =
@@ -111,7 +110,7 @@ module _ (p : Pool) (r : Reached p) where
 
 pub bounded : (p : Pool) → Reached p
     → let d = toll (p .size) (clientCount p) in
-    rank p ≤ (detour (p .size) * (p .cap - 1) + d) * p .size + (3 * d + 6 * p .size + 24) * clientCount p
+    rank p ≤ (lap (p .size) * (p .cap - 1) + d) * p .size + (3 * d + 6 * p .size + 24) * clientCount p
 unfolding rankOf
 bounded p r =
     let s : ℕ = p .size in

@@ -1,9 +1,9 @@
--- What a frame weighs in two pools: no more in the second, unless it has become resident or its count was raised; a detour less, where its count was
+-- What a frame weighs in two pools: no more in the second, unless it has become resident or its count was raised; a lap less, where its count was
 -- lowered and is still above 0; a toll less, where it was evicted. Assumes nothing.
 use mathlib.Core.Path.{_≡_, refl, ap, _∙_}
 use mathlib.Core.Logic.{_≢_, _⊎_, inl, inr}
-use mathlib.Core.Bool.{Bool, not, _&&_}
-use Prim.Native.Nat.{ℕ, zero, suc, _+_, _-_, _*_, _≤_}
+use mathlib.Core.Bool.{not}
+use Prim.Native.Nat.{ℕ, _+_, _-_, _*_, _≤_}
 use native.Mathlib.Omega.{arith}
 use native.Mathlib.Nat.{mul-le-mul-left}
 use native.Mathlib.Decide.{ℕ-discrete}
@@ -13,13 +13,13 @@ use Rattle.pool.specs.State.{evicted, pins, count}
 use Rattle.pool.specs.declared.Pool.{Pool}
 use Rattle.invariant.proofs.Reached.{mapped}
 use Rattle.invariant.proofs.StageTests.{and-false}
-use Rattle.progress.proofs.Rank.{weigh, detour, toll, residentFrame, frameRank}
+use Rattle.progress.proofs.Rank.{lap, toll, residentFrame, frameRank}
 use Rattle.progress.proofs.Weights.{weigh-at-most, lowered}
 
 module _ (s t : ℕ) where
   -- a resident frame, and any other
   abbrev pub weight : Pool → ℕ → ℕ
-  weight p f = detour s * (count p f - 1) + toll s t
+  weight p f = lap s * (count p f - 1) + toll s t
 
   module _ (p : Pool) (f : ℕ) where
     resident-is : pins p f ≢ evicted → mapped p f ≢ 0 → frameRank s t p f ≡ weight p f
@@ -46,14 +46,14 @@ module _ (s t : ℕ) where
         go (no a) (no b) =
             let h = same b in
             let low : count q f - 1 ≤ count p f - 1 = omega (arith, h .1) in
-            let x : detour s * (count q f - 1) ≤ detour s * (count p f - 1) = mul-le-mul-left (detour s) low in
+            let x : lap s * (count q f - 1) ≤ lap s * (count p f - 1) = mul-le-mul-left (lap s) low in
             omega (arith, x, resident-is q f a b, resident-is p f (λ e. a (h .2 e)) (h .0))
 
     -- a resident frame that a sweep has passed by
-    pub frame-lighter : pins p f ≢ evicted → mapped p f ≢ 0 → count q f ≡ count p f - 1 → count p f - 1 ≢ 0 → frameRank s t q f + detour s ≤ frameRank s t p f
+    pub frame-lighter : pins p f ≢ evicted → mapped p f ≢ 0 → count q f ≡ count p f - 1 → count p f - 1 ≢ 0 → frameRank s t q f + lap s ≤ frameRank s t p f
     frame-lighter a b e z =
-        let x : detour s * (count q f - 1) + detour s ≡ detour s * (count p f - 1) =
-        ap (λ (n : ℕ). detour s * (n - 1) + detour s) e ∙ lowered (detour s) (count p f - 1) z in
+        let x : lap s * (count q f - 1) + lap s ≡ lap s * (count p f - 1) =
+        ap (λ (n : ℕ). lap s * (n - 1) + lap s) e ∙ lowered (lap s) (count p f - 1) z in
         omega (arith, x, frame-at-most q f, resident-is p f a b)
 
     -- one that was evicted

@@ -6,5 +6,7 @@ pub mod Frames
 pub mod Writes
 pub mod Pays
 pub mod Removal
-pub mod Falls
+pub mod Moves
+pub mod StageFalls
+pub mod BeginRelease
 pub mod Bound

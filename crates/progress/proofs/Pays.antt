@@ -6,33 +6,22 @@ use Prim.Native.Nat.{ℕ, _+_, _-_, _*_, _≤_, _<_}
 use native.Mathlib.Omega.{arith}
 use native.Mathlib.Nat.{mul-le-mul-left}
 use lib.Dec.{T}
-use Rattle.pool.specs.State.{clientCount, total, client}
+use Rattle.pool.specs.State.{total, client}
 use Rattle.pool.specs.Apply.{freeAfter, apply}
 use Rattle.pool.specs.declared.Pool.{Pool}
 use Rattle.pool.specs.declared.Client.{Client}
 use Rattle.pool.specs.declared.Move.{Move}
 use Rattle.pool.specs.declared.Write.the-variants.{PutFree}
-use Rattle.invariant.proofs.Reached.{Reached}
 use Rattle.invariant.proofs.After.{client-same, client-other}
 use Rattle.invariant.proofs.Writes.{keepsTable}
 use Rattle.invariant.proofs.Sums.{sum-below, sum-rise}
 use Rattle.progress.proofs.Rank.{detour, toll, rankAt, clientRank, frameRank, frames, rankOf, rank}
 use Rattle.progress.proofs.Weights.{lowered, toll-is}
-use Rattle.progress.proofs.Clients.{client-spoilt, plain, client-plain}
-use Rattle.progress.proofs.Writes.{Acting, Lightens, Unseen, frame-after, free-after, client-after, table-terms}
+use Rattle.progress.proofs.Clients.{client-spoilt}
+use Rattle.progress.proofs.Writes.{Acting, Actor, actor, Lightens, Unseen, frame-after, free-after, client-after, table-terms}
 
 module _ {p : Pool} {c : ℕ} (act : Acting p c) where
-  abbrev here : c < clientCount p
-  here = act .here
-
-  abbrev r : Reached p
-  r = act .reached
-
-  abbrev s : ℕ
-  s = p .size
-
-  abbrev t : ℕ
-  t = clientCount p
+  open Actor (actor act) using (here, r, s, t)
 
   module _ (m : Move) where
     abbrev q : Pool

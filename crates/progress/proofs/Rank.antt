@@ -4,11 +4,12 @@
 --
 -- detour  One client spoils what another has read: it takes the free slot, pins or evicts the frame, or replaces it in its slot. The other goes back
 --         to look at the next slot, with no busy visit to its credit: up to S looks at 11 and 12, then 13, 14, 15 and back is what that costs it.
+-- lap     A sweep that lowers a count and finds it above 0 still passes the frame by, and its busy run is over: S looks at 11 and 12, and the 13.
 -- toll    Such an action may spoil all T - 1 others. Whoever does it pays a detour for each of them, so that the rank falls in spite of it.
 -- anew    A client that finds at 22 that its page's entry is gone gives its frame up and starts anew: the way from 4 to 22, with one toll on it.
 --
--- A resident frame weighs a detour for each count above 1, since a sweep that lowers it passes it by; and a toll, which pays for its eviction. A count
--- or an entry is gained with an answer only (3, 21; 18, 22), and so is a resident frame: one that a 4 has just taken weighs nothing.
+-- A resident frame weighs a lap for each count above 1, and a toll, which pays for its eviction. A count or an entry is gained with an answer only (3,
+-- 21; 18, 22), and so is a resident frame: one that a 4 has just taken weighs nothing.
 -- A free slot weighs a toll, which pays where a 6 claims it.
 -- A client weighs the steps from its stage to a grant (`bases`): two tolls up to 15, one for its 15 (or 8) and one for its 19, which pins a frame; what
 -- is left of its busy visits at 11 and 12; at 8 the way to an empty slot. Besides
@@ -24,7 +25,7 @@ use Prim.Native.Nat.{ℕ, _+_, _-_, _*_}
 use lib.Dec.{eqb, ltb}
 use lib.ListN.{getD}
 use Rattle.pool.specs.Choose.{choose, scan}
-use Rattle.pool.specs.State.{none, evicted, pinned, clientCount, total, slot, pins, count, client}
+use Rattle.pool.specs.State.{none, evicted, pinned, clientCount, slot, pins, count, client}
 use Rattle.pool.specs.Table.{lookup}
 use Rattle.pool.specs.declared.Pool.{Pool}
 use Rattle.pool.specs.declared.Client.{Client}
@@ -36,6 +37,9 @@ weigh true n = n
 weigh false n = 0
 
 -- ---- the weights, in a pool of s slots and t clients
+
+unfoldable pub lap : ℕ → ℕ
+lap s = 2 * s + 1
 
 unfoldable pub detour : ℕ → ℕ
 detour s = 2 * s + 3
@@ -52,7 +56,7 @@ abbrev pub residentFrame : Pool → ℕ → Bool
 residentFrame p f = not (eqb (pins p f) evicted) && not (eqb (mapped p f) 0)
 
 unfoldable pub frameRank : ℕ → ℕ → Pool → ℕ → ℕ
-frameRank s t p f = weigh (residentFrame p f) (detour s * (count p f - 1) + toll s t)
+frameRank s t p f = weigh (residentFrame p f) (lap s * (count p f - 1) + toll s t)
 
 -- ---- a client k that stands at stage i
 

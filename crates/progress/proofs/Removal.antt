@@ -1,6 +1,6 @@
 -- What a 17 does where it removes an entry: the page is not found any more, and every other page is found as before. So whoever wants the page weighs one
 -- start anew less, and at most one more, if it stood at 19 or 22 with that entry's frame: it will go to 23. Assumes nothing.
-use mathlib.Core.Path.{_≡_, refl, sym, ap, _∙_}
+use mathlib.Core.Path.{_≡_, sym, ap, _∙_}
 use mathlib.Core.Logic.{_≢_}
 use mathlib.Core.Bool.{not, _&&_, _||_}
 use Prim.Native.Nat.{ℕ, _+_, _≤_}

@@ -4,7 +4,7 @@ use mathlib.Core.Logic.{_≢_}
 use mathlib.Core.Bool.{Bool, true, false}
 use Prim.Native.Nat.{ℕ, zero, suc, _+_, _-_, _*_, _≤_}
 use native.Mathlib.Omega.{arith}
-use Rattle.progress.proofs.Rank.{weigh, detour, toll, anew}
+use Rattle.progress.proofs.Rank.{weigh, lap, detour, toll, anew}
 
 pub weigh-at-most : (b : Bool) (n : ℕ) → weigh b n ≤ n
 weigh-at-most true n = omega arith
@@ -14,6 +14,10 @@ weigh-at-most false n = omega arith
 pub lowered : (d n : ℕ) → n ≢ 0 → d * (n - 1) + d ≡ d * n
 lowered d zero z = absurd (z refl)
 lowered d (suc n) z = let e : suc n - 1 ≡ n = omega arith in rw e (omega arith)
+
+pub lap-is : (s : ℕ) → lap s ≡ 2 * s + 1
+unfolding lap
+lap-is s = omega arith
 
 pub detour-is : (s : ℕ) → detour s ≡ 2 * s + 3
 unfolding detour

@@ -1,13 +1,11 @@
 -- A client of a reached pool makes a move. What the move's write does to the frames' part of the rank and to each client's, said once for the eight kinds
 -- of write: no frame becomes heavier (`Lightens`), and no client that does not go by what is written (`Unseen`). Assumes nothing.
-use mathlib.Core.Path.{_≡_, refl, sym, ap, subst, _∙_}
+use mathlib.Core.Path.{_≡_, refl, sym, ap, _∙_}
 use mathlib.Core.Logic.{_≢_}
-use mathlib.Core.Bool.{Bool, true, false, not}
-use Prim.Native.Nat.{ℕ, suc, _+_, _-_, _*_, _≤_, _<_}
+use Prim.Native.Nat.{ℕ, _≤_, _<_}
 use native.Mathlib.Omega.{arith}
-use native.Mathlib.Nat.{mul-le-mul-left}
 use native.Mathlib.Decide.{ℕ-discrete}
-use lib.Dec.{T, eqb}
+use lib.Dec.{T}
 use Rattle.pool.specs.State.{none, evicted, pinned, clientCount, total, pins, count, client}
 use Rattle.pool.specs.Apply.{slotsAfter, pinsAfter, countsAfter, entryPagesAfter, entryFramesAfter, freeAfter, apply}
 use Rattle.pool.specs.declared.Pool.{Pool}
@@ -18,33 +16,33 @@ use Rattle.pool.specs.declared.Counted.{Counted}
 use Rattle.pool.specs.declared.GrantChange.{GrantChange}
 use Rattle.pool.specs.declared.Write.{Write}
 use Rattle.pool.specs.declared.Write.the-variants.{Keep, PutSlot, PutPins, PutCount, TakeFrame, PutEntry, PutHand, PutFree}
-use Rattle.invariant.proofs.Reached.{sumTo, mapped, Reached}
-use Rattle.invariant.proofs.After.{SlotsStay, CountsStay, PinsStay, EntryPagesStay, EntryFramesStay, few-frames, client-same, client-other, slot-kept, pins-kept, pins-else}
+use Rattle.invariant.proofs.Reached.{mapped, Reached}
+use Rattle.invariant.proofs.After.{SlotsStay, CountsStay, PinsStay, EntryPagesStay, EntryFramesStay, few-frames, slot-kept, pins-kept, pins-else}
 use Rattle.invariant.proofs.After.{pins-here, count-kept, count-else, count-here}
 use Rattle.invariant.proofs.Writes.{keepsTable, lookup-kept}
-use Rattle.invariant.proofs.Sums.{sum-below, sum-rise}
 use Rattle.invariant.proofs.Table.{mapped-kept, put-unmapped}
-use Rattle.progress.proofs.Rank.{detour, toll, rankAt, clientRank, frameRank, frames, rankOf, rank}
+use Rattle.progress.proofs.Rank.{rankAt, frameRank}
 use Rattle.progress.proofs.Frames.{frame-kept}
-use Rattle.progress.proofs.Clients.{TableTerms, client-kept, client-spoilt, plain, client-plain}
+use Rattle.progress.proofs.Clients.{TableTerms, client-kept}
 
 -- who makes the move
 pub record Acting (p : Pool) (c : ℕ) : Type 0 where
   pub here : c < clientCount p
   pub reached : Reached p
 
+-- the names by which the proofs speak of it, opened in each
+pub record Actor (p : Pool) (c : ℕ) : Type 0 where
+  pub here : c < clientCount p
+  pub r : Reached p
+  pub k : Client
+  pub s : ℕ
+  pub t : ℕ
+
+abbrev pub actor : {p : Pool} {c : ℕ} → Acting p c → Actor p c
+actor {p} {c} act = record { here = act .here; r = act .reached; k = client p c; s = p .size; t = clientCount p }
+
 module _ {p : Pool} {c : ℕ} (act : Acting p c) where
-  abbrev here : c < clientCount p
-  here = act .here
-
-  abbrev r : Reached p
-  r = act .reached
-
-  abbrev s : ℕ
-  s = p .size
-
-  abbrev t : ℕ
-  t = clientCount p
+  open Actor (actor act) using (r, s, t)
 
   -- ---- one write
 

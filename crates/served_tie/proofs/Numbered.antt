@@ -1,8 +1,8 @@
 -- Answers as numbers: by its number a step is accepted or not, and an answer of a kept state has a value of 32 bits. Assumes nothing.
 use mathlib.Core.Path.{_≡_, sym, ap, subst, _∙_}
-use mathlib.Core.Logic.{_⊎_, inl, inr}
+use mathlib.Core.Logic.{inl, inr}
 use mathlib.Core.List.{List, [], _∷_, map}
-use Prim.Native.Nat.{ℕ, zero, suc, _+_, _*_, _<_}
+use Prim.Native.Nat.{ℕ, zero, suc, _<_}
 use native.Mathlib.Omega.{arith}
 use Rattle.pool.specs.Answers.{codeOf, valueOf}
 use Rattle.pool.specs.declared.Answer.{Answer}

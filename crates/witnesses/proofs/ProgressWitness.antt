@@ -2,9 +2,9 @@
 -- many accepted steps as it asks for, 31; and no number below 12 would do there, since 11 accepted steps lead to no answer. In another run a removal at
 -- 17 sends a client from 22 to 23, which the published argument leaves out (docs/GUARANTEE.md). All are computed. Assumes nothing.
 use mathlib.Core.Path.{_≡_, refl, sym, ap, _∙_}
-use mathlib.Core.Bool.{Bool, true, false, not, true≢false}
+use mathlib.Core.Bool.{Bool, true, false, true≢false}
 use mathlib.Core.List.{List, [], _∷_, _++_, map}
-use Prim.Native.Nat.{ℕ, zero, suc, _+_, _<_}
+use Prim.Native.Nat.{ℕ, zero, suc, _+_}
 use native.Mathlib.Omega.{arith}
 use lib.Dec.{eqb, ltb}
 use lib.ListN.{getD, replicate}

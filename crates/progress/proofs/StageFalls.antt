@@ -1,78 +1,45 @@
 -- The rank falls at every step of a reached pool that leads to another stage: one lemma for each stage, and where an edge does more than move its client
--- on, one for that edge, under the name of what it does. It does not rise at a begin or a release. Assumes nothing.
-use mathlib.Core.Path.{_≡_, refl, sym, ap, _∙_}
-use mathlib.Core.Logic.{_≢_, _⊎_, inl, inr}
-use mathlib.Core.Bool.{Bool, true, false, not, _||_}
-use Prim.Native.Nat.{ℕ, _+_, _-_, _*_, _≤_, _<_, _%_}
+-- on, one for that edge, under the name of what it does. Assumes nothing.
+use mathlib.Core.Path.{_≡_, refl, sym, _∙_}
+use mathlib.Core.Logic.{_≢_}
+use mathlib.Core.Bool.{true, false}
+use Prim.Native.Nat.{ℕ, _+_, _-_, _<_, _%_}
 use native.Mathlib.Omega.{arith}
 use native.Mathlib.Decide.{ℕ-discrete}
-use lib.Dec.{T, eqb}
+use lib.Dec.{eqb}
 use borrow.Author.Tests.{eqb-true, eqb-false, eq-eqb, ne-eqb}
-use Rattle.pool.specs.State.{none, evicted, pinned, clientCount, total, slot, page, pins, count, client, grantFrame}
+use Rattle.pool.specs.State.{none, evicted, pinned, total, slot, page, pins, count, client}
 use Rattle.pool.specs.Table.{entryOf, lookup, unusedEntry}
 use Rattle.pool.specs.Frames.{freeFrame}
-use Rattle.pool.specs.Grants.{grantOf}
-use Rattle.pool.specs.Calls.{beginMove, releaseMove, moveOf}
-use Rattle.pool.specs.Moves.{standing, holding, withOwn, withFound, withVictim, withSeen, withPlace, sweeping, worksAs, works, stuck, granted, completes}
-use Rattle.pool.specs.Stages.{around, firstCount, nextSlot, busyVisit, evictOwn, taking, Stage, stages, noStage, stageMove, stage1, stage2, stage3, stage4, stage5, stage6}
+use Rattle.pool.specs.Moves.{standing, withOwn, withVictim, sweeping, worksAs, works}
+use Rattle.pool.specs.Stages.{around, nextSlot, busyVisit, evictOwn, taking, Stage, stages, noStage, stageMove, stage1, stage2, stage3, stage4, stage5, stage6}
 use Rattle.pool.specs.Stages.{stage7, stage8, stage9, stage10, stage11, stage12, stage13, stage14, stage15, stage16, stage17, stage18, stage19, stage20}
 use Rattle.pool.specs.Stages.{stage21, stage22, stage23}
 use Rattle.pool.specs.Apply.{slotsAfter, pinsAfter, countsAfter, freeAfter, apply}
 use Rattle.pool.specs.declared.Pool.{Pool}
-use Rattle.pool.specs.declared.Client.{Client}
 use Rattle.pool.specs.declared.Move.{Move}
-use Rattle.pool.specs.declared.Answer.{Answer}
-use Rattle.pool.specs.declared.Answer.the-variants.{Done, Working, Granted, Refused}
-use Rattle.pool.specs.declared.Call.the-variants.{Begin, Release}
-use Rattle.pool.specs.declared.GrantChange.the-variants.{End}
-use Rattle.pool.specs.declared.Counted.{Counted}
 use Rattle.pool.specs.declared.Counted.the-variants.{Drop}
-use Rattle.pool.specs.declared.Write.{Write}
-use Rattle.pool.specs.declared.Write.the-variants.{Keep, PutSlot, PutPins, PutCount, TakeFrame, PutEntry, PutHand, PutFree}
+use Rattle.pool.specs.declared.Write.the-variants.{Keep, PutSlot, PutPins, PutCount, PutEntry, PutFree}
 use Rattle.laws.specs.Choices.{by-test}
 use Rattle.laws.specs.Each.{Each, fin, _also_, each-in}
-use Rattle.invariant.proofs.Reached.{mapped, VictimInSlot, Reached}
-use Rattle.invariant.proofs.Writes.{keepsTable}
+use Rattle.invariant.proofs.Reached.{mapped, VictimInSlot}
 use Rattle.invariant.proofs.NeverFails.{know}
-use Rattle.invariant.proofs.Facts.{own-pins, grant-pinned, unpinned-mapped}
-use Rattle.invariant.proofs.Searches.{free-found, unreferenced-means, lookup-found, grantOf-found}
+use Rattle.invariant.proofs.Facts.{own-pins, unpinned-mapped}
+use Rattle.invariant.proofs.Searches.{free-found, unreferenced-means, lookup-found}
 use Rattle.invariant.proofs.Table.{mapped-zero}
-use Rattle.progress.proofs.Rank.{detour, toll, anew, rankAt, frames, rank}
+use Rattle.progress.proofs.Rank.{lap, toll, rankAt}
 use Rattle.invariant.proofs.After.{count-here, pins-here, slot-kept}
-use Rattle.progress.proofs.Weights.{weigh-at-most, detour-is, anew-is}
-use Rattle.progress.proofs.Clients.{plain, client-kept, client-plain}
+use Rattle.progress.proofs.Weights.{lap-is, detour-is, anew-is}
+use Rattle.progress.proofs.Clients.{client-kept}
 use Rattle.progress.proofs.Frames.{frame-lighter, frame-evicted}
-use Rattle.progress.proofs.Writes.{Acting, Lightens, Unseen, table-terms}
+use Rattle.progress.proofs.Writes.{Acting, Actor, actor, table-terms}
 use Rattle.progress.proofs.Pays.{frames-kept, frames-one, frames-free, unseen, spoils}
 use Rattle.progress.proofs.Way.{way-at-most, way-falls}
 use Rattle.progress.proofs.Removal.{removed}
-
-abbrev pub goesOn : Answer → Bool
-goesOn (Done n) = false
-goesOn (Working j) = true
-goesOn (Granted f) = false
-goesOn (Refused n) = false
-
--- a move that leads to no other stage, or at which the rank falls
-pub data Falls (p : Pool) (c : ℕ) (m : Move) : Type 0 where
-  ends : T (not (goesOn (m .answer))) → Falls p c m
-  lower : (Reached (apply p c m) → rank (apply p c m) < rank p) → Falls p c m
+use Rattle.progress.proofs.Moves.{Falls, ends, lower, quiet, goes, pays, gives}
 
 module _ {p : Pool} {c : ℕ} (act : Acting p c) where
-  abbrev here : c < clientCount p
-  here = act .here
-
-  abbrev r : Reached p
-  r = act .reached
-
-  abbrev k : Client
-  k = client p c
-
-  abbrev s : ℕ
-  s = p .size
-
-  abbrev t : ℕ
-  t = clientCount p
+  open Actor (actor act) using (here, r, k, s, t)
 
   abbrev IsFalls : Move → Type 0
   IsFalls m = Falls p c m
@@ -80,51 +47,24 @@ module _ {p : Pool} {c : ℕ} (act : Acting p c) where
   abbrev FallsAt : ℕ → Stage → Type 0
   FallsAt i f = client p c .stage ≡ i → Falls p c (f p k)
 
-  -- ---- kinds of edges
-
-  -- nobody sees it
-  quiet : {m : Move} (i : ℕ) → client p c .stage ≡ i → Lightens act (m .write)
-      → ((d : Client) → Unseen act (m .next) (m .grants) (m .answer) (m .counted) d (m .write))
-      → rankAt s t p (m .next .stage) (m .next) < rankAt s t p i k → Falls p c m
-  quiet {m} i e light not-seen own =
-      lower (λ _. omega (arith, unseen act m i 0 1 e (frames-kept act m light) (λ d. not-seen (client p d)) (not-seen (m .next)) (omega (arith, own))))
-
-  -- nothing is written
-  goes : {n : Client} (i : ℕ) → client p c .stage ≡ i → rankAt s t p (n .stage) n < rankAt s t p i k → Falls p c (works n (n .stage) Keep)
-  goes i e own = quiet i e tt (λ _. tt) own
-
-  -- it spoils what others have read, and leads to a stage that goes by nothing that they can spoil
-  pays : {n : Client} {w : Write} (i x : ℕ) → client p c .stage ≡ i → T (keepsTable w) → T (plain (n .stage))
-      → frames s t (apply p c (works n (n .stage) w)) + x ≤ frames s t p → rankAt s t p (n .stage) n + toll s t < rankAt s t p i k + x
-      → Falls p c (works n (n .stage) w)
-  pays {n} {w} i x e h l fr own =
-      let m : Move = works n (n .stage) w in
-      let mine = client-plain s t p (apply p c m) (n .stage) n l (table-terms act (m .next) (m .grants) (m .answer) (m .counted) w h (n .stage) n) in
-      lower (λ _. omega (arith, spoils act m i x e h fr (omega (arith, own, mine))))
-
-  -- an answer
-  gives : (f : ℕ) (w : Write) (u : Counted) → Falls p c (granted k f w u)
-  unfolding granted
-  gives f w u = by-test IsFalls (λ _. ends tt) (λ _. ends tt)
-
   -- ---- 1 to 9
 
   step1 : FallsAt 1 (λ p k. stage1 k (lookup p (k .page)))
   unfolding stage1 rankAt
-  step1 e = by-test IsFalls (λ _. goes 1 e (omega arith)) (λ _. goes 1 e (omega arith))
+  step1 e = by-test IsFalls (λ _. goes act 1 e (omega arith)) (λ _. goes act 1 e (omega arith))
 
   -- a pin spoils what the others have read of the frame's pins; the client's grant is near, and pays
   pin2 : client p c .stage ≡ 2 → pins p (k .found) ≢ evicted → Falls p c (works k 3 (PutPins (k .found) (pins p (k .found) + 1)))
   unfolding rankAt
-  pin2 e live = pays 2 0 e tt tt (frames-kept act _ (r .ranges .found-ok c (know p r c 2 e .0), (λ z. absurd (live z)))) (omega arith)
+  pin2 e live = pays act 2 0 e tt tt (frames-kept act _ (r .ranges .found-ok c (know p r c 2 e .0), (λ z. absurd (live z)))) (omega arith)
 
   step2 : FallsAt 2 (λ p k. stage2 k (pins p (k .found)))
   unfolding stage2 rankAt
-  step2 e = by-test IsFalls (λ _. goes 2 e (omega arith)) (λ z. pin2 e (eqb-false _ _ z))
+  step2 e = by-test IsFalls (λ _. goes act 2 e (omega arith)) (λ z. pin2 e (eqb-false _ _ z))
 
   step3 : FallsAt 3 (λ p k. stage3 k (p .cap) (count p (k .found)))
   unfolding stage3
-  step3 e = gives _ _ _
+  step3 e = gives act _ _ _
 
   -- the frame that is taken is named by nobody, and weighs nothing
   take4 : client p c .stage ≡ 4 → freeFrame p ≢ none → Falls p c (taking k (p .cap) (freeFrame p))
@@ -146,17 +86,17 @@ module _ {p : Pool} {c : ℕ} (act : Acting p c) where
   -- what 5 reads is not spoilt yet
   step5 : FallsAt 5 (λ p k. stage5 k (p .free))
   unfolding stage5 rankAt
-  step5 e = by-test IsFalls (λ _. goes 5 e (omega arith)) (λ _. goes 5 e (rw (eq-eqb (p .free) (p .free) refl) (omega arith)))
+  step5 e = by-test IsFalls (λ _. goes act 5 e (omega arith)) (λ _. goes act 5 e (rw (eq-eqb (p .free) (p .free) refl) (omega arith)))
 
   -- the slot that is claimed pays for those who have read free
   claim6 : client p c .stage ≡ 6 → p .free ≢ 0 → Falls p c (works k 7 (PutFree (p .free - 1)))
   unfolding rankAt
-  claim6 e z = pays 6 (toll s t) e tt tt (frames-free act _ refl z) (omega arith)
+  claim6 e z = pays act 6 (toll s t) e tt tt (frames-free act _ refl z) (omega arith)
 
   -- free was changed: the detour pays for the way back
   retry6 : client p c .stage ≡ 6 → eqb (p .free) (k .seen) ≡ false → Falls p c (works k 5 Keep)
   unfolding rankAt
-  retry6 e z = goes 6 e (rw z (omega (arith, detour-is s)))
+  retry6 e z = goes act 6 e (rw z (omega (arith, detour-is s)))
 
   step6 : FallsAt 6 (λ p k. stage6 k (p .free))
   unfolding stage6
@@ -164,46 +104,46 @@ module _ {p : Pool} {c : ℕ} (act : Acting p c) where
 
   step7 : FallsAt 7 (λ p k. stage7 k (p .hand) (p .size))
   unfolding stage7 rankAt
-  step7 e = goes 7 e (omega (arith, way-at-most s p (p .hand % p .size)))
+  step7 e = goes act 7 e (omega (arith, way-at-most s p (p .hand % p .size)))
 
   -- a slot that is filled makes the way of others at 8 longer
   fill8 : client p c .stage ≡ 8 → Falls p c (works k 9 (PutSlot (k .place) (k .own)))
   unfolding rankAt
-  fill8 e = pays 8 0 e tt tt (frames-kept act _ tt) (omega arith)
+  fill8 e = pays act 8 0 e tt tt (frames-kept act _ tt) (omega arith)
 
   step8 : FallsAt 8 (λ p k. stage8 k (slot p (k .place)) (p .size))
   unfolding stage8 rankAt
-  step8 e = by-test IsFalls (λ _. fill8 e) (λ z. goes 8 e (omega (arith, way-falls p r c here e (eqb-false _ _ z))))
+  step8 e = by-test IsFalls (λ _. fill8 e) (λ z. goes act 8 e (omega (arith, way-falls p r c here e (eqb-false _ _ z))))
 
   step9 : FallsAt 9 (λ p k. stage9 k (p .hand))
   unfolding stage9 rankAt
-  step9 e = quiet 9 e tt (λ _. tt) (omega arith)
+  step9 e = quiet act 9 e tt (λ _. tt) (omega arith)
 
   -- ---- 10 to 17
 
   step10 : FallsAt 10 (λ p k. stage10 k (p .hand) (p .size))
   unfolding stage10 rankAt
-  step10 e = goes 10 e (omega arith)
+  step10 e = goes act 10 e (omega arith)
 
   -- a busy visit more, of at most S
   visit : (i : ℕ) → client p c .stage ≡ i
       → rankAt s t p 11 (standing (sweeping k (k .start) (around s (k .place)) (k .busy + 1)) 11) < rankAt s t p i k → Falls p c (busyVisit k s)
   unfolding busyVisit
-  visit i e own = by-test IsFalls (λ _. ends tt) (λ _. goes i e own)
+  visit i e own = by-test IsFalls (λ _. ends tt) (λ _. goes act i e own)
 
   -- what 11 reads is not spoilt yet
   step11 : FallsAt 11 (λ p k. stage11 k (slot p (k .place)) (p .size))
   unfolding stage11 rankAt
   step11 e =
       by-test IsFalls (λ _. visit 11 e (omega (arith, r .ranges .busy-ok c)))
-      (λ _. goes 11 e (rw (eq-eqb (slot p (k .place)) (slot p (k .place)) refl) (omega arith)))
+      (λ _. goes act 11 e (rw (eq-eqb (slot p (k .place)) (slot p (k .place)) refl) (omega arith)))
 
   step12 : FallsAt 12 (λ p k. stage12 k (pins p (k .victim)) (p .size))
   unfolding stage12 rankAt
   step12 e =
       let busy = r .ranges .busy-ok c in
-      by-test IsFalls (λ _. goes 12 e (omega (arith, busy)))
-      (λ _. by-test IsFalls (λ z. goes 12 e (rw z (omega (arith, busy)))) (λ _. visit 12 e (omega (arith, busy))))
+      by-test IsFalls (λ _. goes act 12 e (omega (arith, busy)))
+      (λ _. by-test IsFalls (λ z. goes act 12 e (rw z (omega (arith, busy)))) (λ _. visit 12 e (omega (arith, busy))))
 
   -- ---- the victim, at 13 and 14
 
@@ -217,10 +157,10 @@ module _ {p : Pool} {c : ℕ} (act : Acting p c) where
         let live : pins p (k .victim) ≢ evicted = λ z. let y : ⊥ = omega (arith, n) in y in
         (live, unpinned-mapped p r (k .victim) (kn .0) n (kn .1 live))
 
-  -- its count comes to 0, or is still above: then the detour of the next slot is paid by the count, or, if the visit is spoilt, by that
+  -- its count comes to 0, or is still above: then the count pays for the lap, or, if the visit is spoilt, the detour does
   lower13 : client p c .stage ≡ 13 → Falls p c (works k 14 (PutCount (k .victim) (count p (k .victim) - 1)))
   unfolding rankAt
-  lower13 e = quiet 13 e (victim-here (know p r c 13 e .1), omega arith) (λ _. tt) (omega arith)
+  lower13 e = quiet act 13 e (victim-here (know p r c 13 e .1), omega arith) (λ _. tt) (omega arith)
 
   pass13 : client p c .stage ≡ 13 → count p (k .victim) - 1 ≢ 0 → Falls p c (nextSlot k s (PutCount (k .victim) (count p (k .victim) - 1)))
   unfolding rankAt countsAfter
@@ -236,12 +176,12 @@ module _ {p : Pool} {c : ℕ} (act : Acting p c) where
       h = victim-here (know p r c 13 e .1)
 
       go : Dec (pins p v ≡ pinned 0) → Dec (slot p (k .place) ≡ v) → Falls p c m
-      go (no a) _ = quiet 13 e (h, omega arith) (λ _. tt) (rw (ne-eqb (pins p v) (pinned 0) a) (omega (arith, detour-is s)))
-      go (yes a) (no b) = quiet 13 e (h, omega arith) (λ _. tt) (rw (eq-eqb (pins p v) (pinned 0) a, ne-eqb (slot p (k .place)) v b) (omega (arith, detour-is s)))
+      go (no a) _ = quiet act 13 e (h, omega arith) (λ _. tt) (rw (ne-eqb (pins p v) (pinned 0) a) (omega (arith, detour-is s)))
+      go (yes a) (no b) = quiet act 13 e (h, omega arith) (λ _. tt) (rw (eq-eqb (pins p v) (pinned 0) a, ne-eqb (slot p (k .place)) v b) (omega (arith, detour-is s)))
       go (yes a) (yes b) =
           let res = victim-resident (know p r c 13 e .1) a in
           let less = frame-lighter s t p (apply p c m) v (res .0) (res .1) (count-here p c m (r .shape) v (count p v - 1) refl h) z in
-          lower (λ _. omega (arith, unseen act m 13 (detour s) 1 e (frames-one act m v (detour s) h less (h, omega arith)) (λ _. tt) tt (omega (arith, detour-is s))))
+          lower (λ _. omega (arith, unseen act m 13 (lap s) 1 e (frames-one act m v (lap s) h less (h, omega arith)) (λ _. tt) tt (omega (arith, lap-is s))))
 
   step13 : FallsAt 13 (λ p k. stage13 k (count p (k .victim)) (p .size))
   unfolding stage13
@@ -265,7 +205,7 @@ module _ {p : Pool} {c : ℕ} (act : Acting p c) where
   -- it was pinned or evicted by another: the detour pays for the next slot
   pass14 : client p c .stage ≡ 14 → eqb (pins p (k .victim)) (pinned 0) ≡ false → Falls p c (nextSlot k s Keep)
   unfolding rankAt
-  pass14 e z = goes 14 e (rw z (omega (arith, detour-is s)))
+  pass14 e z = goes act 14 e (rw z (omega (arith, detour-is s)))
 
   step14 : FallsAt 14 (λ p k. stage14 k (pins p (k .victim)) (p .size))
   unfolding stage14
@@ -274,11 +214,11 @@ module _ {p : Pool} {c : ℕ} (act : Acting p c) where
   -- a frame that is replaced spoils the visits of the others who examine it
   replace15 : client p c .stage ≡ 15 → Falls p c (works k 16 (PutSlot (k .place) (k .own)))
   unfolding rankAt
-  replace15 e = pays 15 0 e tt tt (frames-kept act _ tt) (omega arith)
+  replace15 e = pays act 15 0 e tt tt (frames-kept act _ tt) (omega arith)
 
   pass15 : client p c .stage ≡ 15 → eqb (slot p (k .place)) (k .victim) ≡ false → Falls p c (nextSlot k s Keep)
   unfolding rankAt
-  pass15 e z = goes 15 e (rw z (omega (arith, detour-is s)))
+  pass15 e z = goes act 15 e (rw z (omega (arith, detour-is s)))
 
   step15 : FallsAt 15 (λ p k. stage15 k (slot p (k .place)) (p .size))
   unfolding stage15
@@ -286,7 +226,7 @@ module _ {p : Pool} {c : ℕ} (act : Acting p c) where
 
   step16 : FallsAt 16 (λ p k. stage16 k (p .hand) (p .size))
   unfolding stage16 rankAt
-  step16 e = quiet 16 e tt (λ _. tt) (omega arith)
+  step16 e = quiet act 16 e tt (λ _. tt) (omega arith)
 
   -- a removal sends others from 22 to 23: who wanted the page may have lost its entry now, but nobody finds it any more (`Removal`)
   remove17 : client p c .stage ≡ 17 → lookup p (page p (k .victim)) ≡ k .victim
@@ -302,7 +242,7 @@ module _ {p : Pool} {c : ℕ} (act : Acting p c) where
 
   step17 : FallsAt 17 (λ p k. let g = page p (k .victim) in stage17 k g (entryOf p g) (lookup p g))
   unfolding stage17 rankAt
-  step17 e = by-test IsFalls (λ z. remove17 e (eqb-true _ _ z)) (λ _. goes 17 e (omega arith))
+  step17 e = by-test IsFalls (λ z. remove17 e (eqb-true _ _ z)) (λ _. goes act 17 e (omega arith))
 
   -- ---- 18 to 23
 
@@ -310,17 +250,17 @@ module _ {p : Pool} {c : ℕ} (act : Acting p c) where
   step18 : FallsAt 18 (λ p k. stage18 k (lookup p (k .page)) (unusedEntry p))
   unfolding stage18 rankAt
   step18 e =
-      by-test IsFalls (λ _. by-test IsFalls (λ _. ends tt) (λ _. gives _ _ _))
-      (λ _. goes 18 e (rw (eq-eqb (lookup p (k .page)) (lookup p (k .page)) refl) (omega arith)))
+      by-test IsFalls (λ _. by-test IsFalls (λ _. ends tt) (λ _. gives act _ _ _))
+      (λ _. goes act 18 e (rw (eq-eqb (lookup p (k .page)) (lookup p (k .page)) refl) (omega arith)))
 
   -- a pin, as at 2
   pin19 : client p c .stage ≡ 19 → pins p (k .found) ≢ evicted → Falls p c (works k 20 (PutPins (k .found) (pins p (k .found) + 1)))
   unfolding rankAt
-  pin19 e live = pays 19 0 e tt tt (frames-kept act _ (r .ranges .found-ok c (know p r c 19 e .1 .0), (λ z. absurd (live z)))) (omega arith)
+  pin19 e live = pays act 19 0 e tt tt (frames-kept act _ (r .ranges .found-ok c (know p r c 19 e .1 .0), (λ z. absurd (live z)))) (omega arith)
 
   step19 : FallsAt 19 (λ p k. stage19 k (pins p (k .found)))
   unfolding stage19 rankAt
-  step19 e = by-test IsFalls (λ _. goes 19 e (omega arith)) (λ z. pin19 e (eqb-false _ _ z))
+  step19 e = by-test IsFalls (λ _. goes act 19 e (omega arith)) (λ z. pin19 e (eqb-false _ _ z))
 
   -- the own frame has one pin, so that nobody examines it with success
   give-up : (i j : ℕ) → client p c .stage ≡ i → k .own ≢ none → rankAt s t p j (standing (withOwn k none) j) < rankAt s t p i k
@@ -328,8 +268,8 @@ module _ {p : Pool} {c : ℕ} (act : Acting p c) where
   unfolding evictOwn
   give-up i j e z own =
       by-test IsFalls
-      (λ _. quiet i e (r .ranges .own-ok c z, (λ _. refl)) (λ _ n. let y : ⊥ = omega (arith, n, own-pins p r c z) in y) own)
-      (λ _. goes i e own)
+      (λ _. quiet act i e (r .ranges .own-ok c z, (λ _. refl)) (λ _ n. let y : ⊥ = omega (arith, n, own-pins p r c z) in y) own)
+      (λ _. goes act i e own)
 
   step20 : FallsAt 20 (λ p k. stage20 k (pins p (k .own)))
   unfolding stage20 rankAt
@@ -337,18 +277,18 @@ module _ {p : Pool} {c : ℕ} (act : Acting p c) where
 
   step21 : FallsAt 21 (λ p k. stage21 k (p .cap) (count p (k .found)))
   unfolding stage21
-  step21 e = gives _ _ _
+  step21 e = gives act _ _ _
 
   -- the entry is gone: what that weighs pays for the start anew
   step22 : FallsAt 22 (λ p k. stage22 k (entryOf p (k .page)) (lookup p (k .page)))
   unfolding stage22 rankAt
-  step22 e = by-test IsFalls (λ _. gives _ _ _) (λ z. goes 22 e (rw z (omega (arith, anew-is s t))))
+  step22 e = by-test IsFalls (λ _. gives act _ _ _) (λ z. goes act 22 e (rw z (omega (arith, anew-is s t))))
 
   step23 : FallsAt 23 (λ p k. stage23 k (pins p (k .own)))
   unfolding stage23 rankAt
   step23 e = give-up 23 4 e (know p r c 23 e .0) (omega arith)
 
-  -- ---- every step; begin and release
+  -- ---- every step
 
   pub step-falls : client p c .stage ≢ 0 → Falls p c (stageMove p k)
   unfolding stageMove
@@ -359,39 +299,3 @@ module _ {p : Pool} {c : ℕ} (act : Acting p c) where
           (λ e. absurd (z e)) also
           step1 also step2 also step3 also step4 also step5 also step6 also step7 also step8 also step9 also step10 also step11 also step12 also
           step13 also step14 also step15 also step16 also step17 also step18 also step19 also step20 also step21 also step22 also step23 also fin
-
-  -- whichever page is begun, the table may have it
-  pub begin-keeps : (g : ℕ) → client p c .stage ≡ 0 → rank (apply p c (moveOf p (Begin c g))) ≤ rank p
-  unfolding moveOf rankAt
-  begin-keeps g e =
-      let m : Move = beginMove k g in
-      let own = weigh-at-most (not (eqb (lookup p g) none)) (anew s t) in
-      omega (arith, unseen act m 0 0 0 e (frames-kept act m tt) (λ _. tt) tt (omega (arith, own)))
-
-  -- a held frame has a pin, so nobody goes by its having none
-  pub release-keeps : (g : ℕ) → client p c .stage ≡ 0 → grantOf p c g ≢ none → rank (apply p c (moveOf p (Release c g))) ≤ rank p
-  unfolding moveOf releaseMove rankAt
-  release-keeps g e z =
-      by-test (λ (m : Move). rank (apply p c m) ≤ rank p)
-      (λ _. omega (arith, unseen act (stuck k) 0 0 0 e (frames-kept act (stuck k) tt) (λ _. tt) tt (omega (arith, at-rest k e))))
-      (λ n. let m : Move = completes g (holding k (k .held - 1)) (End i (k .held - 1)) (PutPins f (pins p f - 1)) in
-      omega (
-        arith,
-        unseen act m 0 0 0 e (frames-kept act m (r .ranges .grant-ok c i some, (λ y. absurd (eqb-false _ _ n y)))) (λ _. busy) busy
-            (omega (arith, at-rest (m .next) e)),
-      ))
-    where
-      i : ℕ
-      i = grantOf p c g
-
-      f : ℕ
-      f = grantFrame p c i
-
-      some : f ≢ none
-      some = r .mapping .grant-named c i (grantOf-found p c g z .0)
-
-      busy : pins p f ≢ pinned 0
-      busy n = let y : ⊥ = omega (arith, grant-pinned p r c i some, n) in y
-
-      at-rest : (n : Client) → n .stage ≡ 0 → rankAt s t p (n .stage) n ≡ rankAt s t p 0 n
-      at-rest n w = ap (λ (x : ℕ). rankAt s t p x n) w
