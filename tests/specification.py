@@ -10,7 +10,8 @@ without gaps; each names definitions that exist, and the comment above each of
 these cites the clause. Whatever is cited, in any file, is there. The tables
 of stages and refusals have a row for each, in the words of tools/schedule,
 and a stage leads where it leads in the runs of the second program. The
-limits, the example and the names of the worked cases are the sources'.
+limits, the example and the names of the worked cases are the sources', and so
+are the numbers of claim 24, on whichever page they are written.
 """
 
 import os
@@ -27,9 +28,12 @@ import generate  # noqa: E402 (after the lines above, or they come too late)
 import second  # noqa: E402
 from checking import need, run_all, same  # noqa: E402
 from scheduling import text, words  # noqa: E402
+from scheduling.totals import step_bound  # noqa: E402
 
 SPECIFICATION = TOP / "docs" / "SPECIFICATION.md"
 GUARANTEE = TOP / "docs" / "GUARANTEE.md"
+SERVER = TOP / "docs" / "SERVER.md"
+README = TOP / "README.md"
 TYPES = [TOP / "crates" / name / "src" / "lib.rt"
          for name in ("pool", "memory")]
 STAGE_CODE = TOP / "crates" / "stages" / "src" / "lib.rt"
@@ -306,7 +310,7 @@ def claims():
 def statements():
     """Each claim has its statement, in a file that cites the claim."""
     stated = [cells(line) for line in read(GUARANTEE).splitlines()
-              if re.match(r"\| \d+ \|", line)]
+              if re.match(r"\| \d+ \| `", line)]
     same([int(row[0]) for row in stated], claims(), "the claims stated")
     for number, statement, *_ in stated:
         need(names_in(statement), "claim %s has no statement" % number)
@@ -454,8 +458,53 @@ def cases():
     return "%d worked cases" % len(named)
 
 
+POOLS = [(slots, clients, cap) for slots in range(1, 65)
+         for clients in range(1, 17) for cap in range(1, 101)]
+
+
+def values(formula):
+    """What a formula in S, T and C comes to, for every pool.
+
+    As a page writes it, or as a definition does.
+    """
+    formula = formula.upper().replace("·", "*")
+    for sign, power in (("²", "**2"), ("³", "**3")):
+        formula = formula.replace(sign, power)
+    formula = compile(re.sub(r"(\d)(?=[STC])", r"\1*", formula), "N", "eval")
+    return [eval(formula, {"S": slots, "T": clients, "C": cap})
+            for slots, clients, cap in POOLS]
+
+
+def bounds():
+    """The numbers of claim 24, wherever they are written."""
+    defined = read(spec_file("Progress"))
+    close, plain = (values(re.search(
+        r"^%s s t c = (.+)$" % name, defined, re.M)[1])
+        for name in ("stepBound", "plainBound"))
+    same([step_bound(*pool) for pool in POOLS], close,
+         "the number that tools/schedule stats tells")
+    count = 0
+    for page in (GUARANTEE, README, SERVER):
+        written = re.findall(r"^ +N = (.+)$", read(page), re.M)
+        need(written, "%s does not have the number" % here(page))
+        same([values(one) in (close, plain) for one in written],
+             [True] * len(written), "whether %s has the numbers of claim 24"
+             % here(page))
+        count += len(written)
+    of_pool = dict(zip(POOLS, zip(close, plain)))
+    table = re.findall(r"^\| (\d+) \| (\d+) \| (\d+) \| ([\d,]+) "
+                       r"\| ([\d,]+) \| ?(\d*) \|$", read(GUARANTEE), re.M)
+    for *pool, close, plain, enough in table:
+        due = of_pool[tuple(map(int, pool))]
+        same((close, plain), tuple(map("{:,}".format, due)),
+             "the row of S %s, T %s, C %s" % tuple(pool))
+        need(int(enough or 0) <= due[0], "more is enough than what is proved")
+    return ("claim 24: its two numbers in %d places, and %d rows"
+            % (count, len(table)))
+
+
 TESTS = (numbering, definitions, cited_where_defined, citations, statements,
-         stages, refusals, limits, rules, example, cases)
+         stages, refusals, limits, rules, example, cases, bounds)
 
 
 if __name__ == "__main__":

@@ -58,6 +58,26 @@ def third_example():
             "picture beside it")
 
 
+def fourth_example():
+    schedule = example("round-again.txt")
+    lines = explain.explain(schedule, answers_to(schedule)).splitlines()
+    rows = [line.split() for line in lines if re.match(r" *\d+ +\d ", line)]
+    at = next(place for place, row in enumerate(rows)
+              if row[1:5] == ["1", "step", "at", "22"])
+    same(rows[at - 1][1:5], ["0", "step", "at", "17"], "the step before it")
+    need("dropped: page 9" in " ".join(rows[at - 1])
+         and "now at 23" in " ".join(rows[at]), "records %s and %s"
+         % (rows[at - 1][0], rows[at][0]))
+    begun = next(place for place, row in enumerate(rows) if row[1] == "1")
+    need(not any("granted" in row for row in rows[begun:at + 1]),
+         "somebody is answered before")
+    same([row[1] for row in rows[at:] if "granted" in row], ["0", "1"],
+         "who is granted afterwards")
+    need(not any("refused" in row for row in rows), "a record is refused")
+    return ("examples/round-again.txt: a 17 sends client 1 from 22 to 23, and "
+            "both are granted")
+
+
 # The README.
 
 
@@ -117,5 +137,5 @@ def readme_commands():
     return "README.md, %d commands, the statuses of ./replay" % len(typed)
 
 
-TESTS = (first_example, second_example, third_example, readme_listings,
-         readme_commands)
+TESTS = (first_example, second_example, third_example, fourth_example,
+         readme_listings, readme_commands)
