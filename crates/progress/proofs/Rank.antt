@@ -1,23 +1,29 @@
 -- The rank of a pool: a number that falls at every accepted step which is no answer, and rises at no call but an answer. So between two answers there
--- are no more accepted steps than it can fall. It says how many steps are still to be made, at the most, before somebody has an answer: each client's
--- way from its stage to a grant, and what the clients can do to each other on the way. `Falls` goes over the stages, `Bound` says how large it can be.
+-- are no more accepted steps than it can fall. It says how many steps can still be made, at the most, before somebody has an answer: each client's way
+-- from its stage to a grant, and what the clients can do to each other on the way. `StageFalls` goes over the stages, `Bound` says how large it can be.
 --
--- detour  One client spoils what another has read: it takes the free slot, pins or evicts the frame, or replaces it in its slot. The other goes back
---         to look at the next slot, with no busy visit to its credit: up to S looks at 11 and 12, then 13, 14, 15 and back is what that costs it.
--- lap     A sweep that lowers a count and finds it above 0 still passes the frame by, and its busy run is over: S looks at 11 and 12, and the 13.
--- toll    Such an action may spoil all T - 1 others. Whoever does it pays a detour for each of them, so that the rank falls in spite of it.
--- anew    A client that finds at 22 that its page's entry is gone gives its frame up and starts anew: the way from 4 to 22, with one toll on it.
+-- Its weights:
+--   lap     A sweep that lowers a count, and leaves it above 0, passes the frame by, and its busy run is over. Up to S looks, at 11 and 12, and a 13 are
+--           made until it comes to that again.
+--   detour  One client spoils what another has read: it claims a slot at 6, pins or evicts a frame, or replaces one in its slot. The other goes on with
+--           the next slot and no busy run: up to S looks, then 13, 14 and 15 are made until it comes to that again.
+--   toll    Such an action may spoil what all T - 1 others have read. Whoever makes it pays a detour for each of them, so that the rank falls in spite
+--           of it; a longer way to an empty slot, at 8, costs another client less than that.
+--   anew    A client that finds at 22 that its page's entry is gone gives its frame up and starts anew: the way from 4 to 22 once more, with the toll of
+--           its 15.
 --
--- A resident frame weighs a lap for each count above 1, and a toll, which pays for its eviction. A count or an entry is gained with an answer only (3,
--- 21; 18, 22), and so is a resident frame: one that a 4 has just taken weighs nothing.
--- A free slot weighs a toll, which pays where a 6 claims it.
--- A client weighs the steps from its stage to a grant (`bases`): two tolls up to 15, one for its 15 (or 8) and one for its 19, which pins a frame; what
--- is left of its busy visits at 11 and 12; at 8 the way to an empty slot. Besides
---   a detour, where what it read is spoilt (`spoiltAt`);
---   a start anew, where the table has the page that it wants, or where it rests, as it may then begin any page (`wantsAt`): this entry may be found
---     at 18, and be gone at 22. After that there is none, and only an answer brings one;
---   a start anew, where at 19 or 22 that has happened: the table no longer has the frame found (`lostAt`). A 17 that removes the entry turns the one
---     weight into the other, and this is why a removal by another client cannot send a client round for ever.
+-- What weighs how much:
+--   a resident frame   a lap for each count above 1, and a toll, which pays for its eviction at 14. Counts are raised, and frames become resident, with
+--                      an answer only (3, 21; 18, 22): a frame that a 4 has taken weighs nothing yet.
+--   a free slot        a toll, which pays where a 6 claims it
+--   a client           the steps from its stage to a grant, with the tolls that it may have to pay on the way (`bases`): up to 15 two, for its 15, or
+--                      its 8, and for its 19 (a 2, which pins a frame too, has no 19 before it); from 16 to 19 and at 22 one; at 3, 20 and 21, where it
+--                      has pinned its frame, none. At 11 and 12 what is left of its busy run counts, at 8 the way to an empty slot. Besides
+--     a detour         where what it read is spoilt (`spoiltAt`)
+--     a start anew     where the table has the page that it wants, or where it rests, as it may begin any page (`wantsAt`): that entry may be found at
+--                      18 and be gone at 22. After that there is none, and only an answer brings one.
+--     a start anew     where this has happened: at 19 or 22 the table no longer has the frame that it found (`lostAt`). A 17 that removes the entry
+--                      turns the weight above into this one. This is why a removal cannot send a client round for ever.
 -- Definitions only. Assumes nothing.
 use mathlib.Core.Bool.{Bool, true, false, not, _&&_, _||_}
 use mathlib.Core.List.{List, [], _∷_}
