@@ -20,7 +20,7 @@ stepBound s t c = (2 * s + 1) * s * (c - 1) + (2 * s + 3) * (t - 1) * (s + 3 * t
 abbrev pub plainBound : ℕ → ℕ → ℕ → ℕ
 plainBound s t c = 4 * (c + t) * ((s + t) * (s + t))
 
--- both are at most 4 times C times the cube of S + T
+-- the one is no larger than the other, and this no larger than 4 C (S + T)^3
 abbrev pub Claim-bounds : Type 0
 Claim-bounds =
     (s t c : ℕ) → 1 ≤ s → 1 ≤ t → 1 ≤ c
