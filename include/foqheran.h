@@ -385,8 +385,8 @@ static inline foqheran_answer foqheran_release(struct foqheran_pool *pool, uint8
 // A begin, and steps until they are answered: granted with the frame, or refused by the first number that refuses: 8,
 // 9, 10, 12, 15, 16 or 18. A store of another length than at setup is refused by 8 before the begin. Nobody else can be
 // stepped meanwhile. It carries out no duty: it is for programs whose pages are in the store. On a pool that was set up
-// by these calls there is an answer in the end: after at most 4 (C + T) (S + T)^2 steps, as is proved, and mostly after
-// 3 to 25 (docs/GUARANTEE.md, claim 24, has a smaller number). On a pool from elsewhere it may step for ever.
+// by these calls there is an answer in the end: as is proved, after at most 4 (C + T) (S + T)^2 steps (claim 24 of
+// docs/GUARANTEE.md has a smaller number), and mostly after far fewer. On a pool from elsewhere it may step for ever.
 static inline foqheran_answer foqheran_request(struct foqheran_pool *pool, uint8_t client, uint32_t page,
                                                struct foqheran_tally *tally, uint8_t *store, size_t length)
 {

@@ -45,19 +45,19 @@ Answers = StepWith EndsRequest
 -- ---- where
 
 -- n places that have the property, each later than the one before it, with whatever between them
-pub record Stretch (Has : ℕ → Type 0) (n : ℕ) : Type 0 where
+pub record Places (Has : ℕ → Type 0) (n : ℕ) : Type 0 where
   pub nth : ℕ → ℕ
   pub later : (i : ℕ) → suc i < n → nth i < nth (suc i)
   pub has : (i : ℕ) → i < n → Has (nth i)
 
 -- from the first of n such places to the last of them there is one that answers
 abbrev pub OneAnswers : (Has Answered : ℕ → Type 0) → ℕ → Type 0
-OneAnswers Has Answered n = (x : Stretch Has n) → (m : ℕ) × (x .nth 0 ≤ m) × (m ≤ x .nth (n - 1)) × Answered m
+OneAnswers Has Answered n = (x : Places Has n) → (m : ℕ) × (x .nth 0 ≤ m) × (m ≤ x .nth (n - 1)) × Answered m
 
 -- so it is of as many as each of the two numbers says
-pub record GetsThrough (s t c : ℕ) (Accepted Answered : ℕ → Type 0) : Type 0 where
-  pub close : OneAnswers Accepted Answered (stepBound s t c)
-  pub plain : OneAnswers Accepted Answered (plainBound s t c)
+pub record GetsThrough (s t c : ℕ) (Steps Answered : ℕ → Type 0) : Type 0 where
+  pub close : OneAnswers Steps Answered (stepBound s t c)
+  pub plain : OneAnswers Steps Answered (plainBound s t c)
 
 abbrev pub Claim-progress : Type 0
 Claim-progress =

@@ -18,7 +18,7 @@ use Rattle.guarantee.specs.Runs.{Event, along, NoneBetween, Begins, GrantedTo, 
 use Rattle.guarantee.specs.BusySweep.{MeetsBusy, finds-empty, finds-pinned, BusyVisit, SeesFrame, Refused15, MeetsAllBusy, BusySince, BusySweep}
 use Rattle.guarantee.specs.Claims.{GrantsAsTold, GrantLists, BecomesEvicted, NoHeldEvicted, Evicts, Replaces, Takes, TakenOut, TakenOutOnce, TakesEffect}
 use Rattle.guarantee.specs.Claims.{TakesEffectOnce, OneEffect, AllHeld, Alone, RefusedAlone, TakesWith, Lowers, SweepsOut, Lasts}
-use Rattle.guarantee.specs.Progress.{stepBound, plainBound, AcceptedStep, Answers, Stretch, OneAnswers, GetsThrough}
+use Rattle.guarantee.specs.Progress.{stepBound, plainBound, AcceptedStep, Answers, Places, OneAnswers, GetsThrough}
 use Rattle.guarantee.proofs.TurnedDown.{other-answer, other-call}
 use Rattle.memory.specs.Happenings.{Happening}
 use Rattle.mixed.specs.Mixed.{amid}
@@ -217,7 +217,7 @@ module _ {hs : List Happening} {es : List Event} (s : Embedded hs es) where
 
   -- ---- somebody gets through
 
-  module _ (n : ℕ) (low : 1 ≤ n) (base : OneAnswers (along es AcceptedStep) (along es Answers) n) (x : Stretch (amid hs AcceptedStep) n) where
+  module _ (n : ℕ) (low : 1 ≤ n) (base : OneAnswers (along es AcceptedStep) (along es Answers) n) (x : Places (amid hs AcceptedStep) n) where
     -- where the i-th of the accepted steps stands among the calls
     place : (i : ℕ) → Dec (i < n) → ℕ
     place i (yes l) = down AcceptedStep (λ e j w. no-step j (w .1)) (x .nth i) (x .has i l) .0
@@ -237,7 +237,7 @@ module _ {hs : List Happening} {es : List Event} (s : Embedded hs es) where
 
     answers-up : (m : ℕ) × (x .nth 0 ≤ m) × (m ≤ x .nth (n - 1)) × amid hs Answers m
     answers-up =
-        let stretch : Stretch (along es AcceptedStep) n = record {
+        let stretch : Places (along es AcceptedStep) n = record {
           nth = nth;
           later = λ i l. up-less-back s (nth i) (nth (suc i)) (omega (arith, there i (omega arith) .0, there (suc i) l .0, x .later i l));
           has = λ i l. there i l .1;

@@ -5,20 +5,23 @@
 -- Its weights:
 --   lap     A sweep that lowers a count, and leaves it above 0, passes the frame by, and its busy run is over. Up to S looks, at 11 and 12, and a 13 are
 --           made until it comes to that again.
---   detour  One client spoils what another has read: it claims a slot at 6, pins or evicts a frame, or replaces one in its slot. The other goes on with
---           the next slot and no busy run: up to S looks, then 13, 14 and 15 are made until it comes to that again.
+--   detour  One client spoils what another has read: it pins or evicts a frame, or replaces one in its slot. The other goes on with the next slot and no
+--           busy run: up to S looks, then 13, 14 and 15 are made until it comes to that again. (Where a 6 claims a slot, another at 6 reads free again,
+--           at 5; where an 8 fills one, the way of another at 8 is longer by up to S. Both cost less.)
 --   toll    Such an action may spoil what all T - 1 others have read. Whoever makes it pays a detour for each of them, so that the rank falls in spite
---           of it; a longer way to an empty slot, at 8, costs another client less than that.
---   anew    A client that finds at 22 that its page's entry is gone gives its frame up and starts anew: the way from 4 to 22 once more, with the toll of
---           its 15.
+--           of it.
+--   anew    A client that finds at 22 that its page's entry is gone starts anew: the 22 and the 23, and the way from 4 to 22 once more, with the toll of
+--           its 15 or 8.
 --
 -- What weighs how much:
 --   a resident frame   a lap for each count above 1, and a toll, which pays for its eviction at 14. Counts are raised, and frames become resident, with
 --                      an answer only (3, 21; 18, 22): a frame that a 4 has taken weighs nothing yet.
 --   a free slot        a toll, which pays where a 6 claims it
---   a client           the steps from its stage to a grant, with the tolls that it may have to pay on the way (`bases`): up to 15 two, for its 15, or
---                      its 8, and for its 19 (a 2, which pins a frame too, has no 19 before it); from 16 to 19 and at 22 one; at 3, 20 and 21, where it
---                      has pinned its frame, none. At 11 and 12 what is left of its busy run counts, at 8 the way to an empty slot. Besides
+--   a client           the steps from its stage to a grant, with the tolls that it may have to pay on the way (`bases`). At 1 to 8, but for 3, at 10 to
+--                      15 and at 23 there are two, one for its 15, or its 8, and one for its 19 (a pin at 2 pays with these, as 3 follows); at 9, at 16
+--                      to 19 and at 22 one; at 3, 20 and 21, where it has pinned its frame, none. At rest it weighs as much as at 1, since a begin is
+--                      not counted and must not raise the rank. At 11 and 12 there are two steps for each visit that its busy run lacks of S, at 8 as
+--                      many as there are full slots on the way to an empty one. Besides
 --     a detour         where what it read is spoilt (`spoiltAt`)
 --     a start anew     where the table has the page that it wants, or where it rests, as it may begin any page (`wantsAt`): that entry may be found at
 --                      18 and be gone at 22. After that there is none, and only an answer brings one.

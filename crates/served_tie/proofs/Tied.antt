@@ -35,7 +35,7 @@ use Rattle.invariant.proofs.Valid.{valid-reached}
 use Rattle.guarantee.proofs.Frames.{held-grant, held-pinned}
 use Rattle.contents.proofs.Kept as ByteKept
 use Rattle.contents.proofs.CallsNext.{kept-call}
-use Rattle.contents.proofs.SetupKept.{kept-setup}
+use Rattle.contents.proofs.SetupKept.{kept-setup, pool-fresh}
 use Rattle.contents.proofs.LastWritten.{reads-last}
 use Rattle.memory.specs.Memory.{memoryAfter, storeAfter}
 use Rattle.memory.specs.Requests.{Request, Asks, ReadByte, WriteByte, State, Result, outsideAt, refused, lent, storeOk, lengthOk, setupOn, actionOn, callOn}
@@ -53,7 +53,7 @@ use Rattle.in_place.specs.Held.{Held, heldRefusal, heldOf, heldState, byteHeldR
 use Rattle.guarantee.specs.Runs.{EndsRequest}
 use Rattle.guarantee.specs.Claims.{AddsUp}
 use Rattle.guarantee.specs.Progress.{Accepting, GetsThrough, StepAnswered}
-use Rattle.guarantee.proofs.Progress.{same-places}
+use Rattle.guarantee.proofs.Progress.{same-places, of-numbers}
 use Rattle.held_claims.specs.HeldClaims.{Tells}
 use Rattle.held_claims.proofs.Claimed.{held-claims}
 use Rattle.served.specs.Words.{wordOf}
@@ -160,21 +160,24 @@ refused-high : (n : ℕ) → wordOf (Refused n) < 4294967296 → ⊥
 unfolding wordOf codeOf valueOf
 refused-high n h = omega arith
 
+-- one that is done, as the specification's
+done-setup : (x y : Server) (a : Accepted x y) → let o = setupOn (a .size) (a .clients) (a .cap) (a .hand) (x .store) in
+    (o .answer ≡ Done (a .size)) × (stateIn y ≡ o .state)
+done-setup x y a =
+    let w = setup (a .lifetimes) (a .loans) (a .size) (a .clients) (a .cap) (a .hand) x y (a .answer) (a .says) (a .store) in
+    elim (w .1) [ inl v ↦ v | inr v ↦ absurd (refused-high 8 (subst (λ (n : ℕ). n < 4294967296) (w .0 ∙ ap wordOf (v .0)) (a .done))) ]
+
 set-up : Claim-set-up
 set-up x y a =
-    let w = setup (a .lifetimes) (a .loans) (a .size) (a .clients) (a .cap) (a .hand) x y (a .answer) (a .says) (a .store) in
-    elim (w .1) [
-      | inl v ↦
-          record {
-            size = a .size;
-            clients = a .clients;
-            cap = a .cap;
-            hand = a .hand;
-            done = ap (λ (l : List ℕ). setupOn (a .size) (a .clients) (a .cap) (a .hand) l .answer) (a .store) ∙ v .0;
-            made = ap (λ (l : List ℕ). setupOn (a .size) (a .clients) (a .cap) (a .hand) l .state) (a .store) ∙ sym (v .1);
-          }
-      | inr v ↦ absurd (refused-high 8 (subst (λ (n : ℕ). n < 4294967296) (w .0 ∙ ap wordOf (v .0)) (a .done)))
-    ]
+    let v = done-setup x y a in
+    record {
+      size = a .size;
+      clients = a .clients;
+      cap = a .cap;
+      hand = a .hand;
+      done = ap (λ (l : List ℕ). setupOn (a .size) (a .clients) (a .cap) (a .hand) l .answer) (a .store) ∙ v .0;
+      made = ap (λ (l : List ℕ). setupOn (a .size) (a .clients) (a .cap) (a .hand) l .state) (a .store) ∙ sym (v .1);
+    }
 
 -- ---- check
 
@@ -323,13 +326,15 @@ sum x y z a t u zero qs rs s =
     (subst (λ (m : State). AddsUp (m .pool) (tallyOn zeroTally (happenings (stateIn y) qs))) (sym (g .state)) (guarantee-on .sum (stateIn y) (set-up x y a) qs))
 
 progress : Claim-progress
+unfolding set-up
 progress x y z a t u qs rs s =
     let w : State = stateIn y in
     let one = set-up x y a in
-    subst (λ (given : List ℕ). GetsThrough (y .size) (y .clients) (y .cap) (StepAnswered asksStep qs given IsAccepted) (StepAnswered asksStep qs given IsAnswer))
+    subst (λ (given : List ℕ). GetsThrough (a .size) (a .clients) (a .cap) (StepAnswered asksStep qs given IsAccepted) (StepAnswered asksStep qs given IsAnswer))
     (sym (list x y z a t u qs rs s .0))
     (same-places (steps-there wordOf IsAccepted Accepting accepting w qs)
-    (λ n v. answers-numbered w (kept-setup one) qs n (steps-back EndsRequest w qs n v)) _ _ _ (guarantee-on .progress w one qs))
+    (λ n v. answers-numbered w (kept-setup one) qs n (steps-back EndsRequest w qs n v)) _ _ _
+    (of-numbers (pool-fresh one) (guarantee-on .progress w one qs)))
 
 holdings : Claim-holdings
 holdings x y z a t u qs rs s κs l c rows r left says =

@@ -187,11 +187,11 @@ IsAnswer r = Coded 2 r ⊎ Coded 115 r
 abbrev pub IsAccepted : ℕ → Type 0
 IsAccepted r = Coded 1 r ⊎ IsAnswer r
 
--- GUARANTEE 24: of so many accepted steps one is an answer, by what was asked and answered alone; y keeps S, T and C
+-- GUARANTEE 24: of so many accepted steps one is an answer, by what was asked and answered alone; S, T and C are those of the setup
 abbrev pub Claim-progress : Type 0
 Claim-progress =
-    (x y z : Server) → Accepted x y → (t u : List ℕ) (qs : List Request) (rs : List ℕ) → ServesAll AnyTally y t qs rs z u
-    → GetsThrough (y .size) (y .clients) (y .cap) (StepAnswered asksStep qs rs IsAccepted) (StepAnswered asksStep qs rs IsAnswer)
+    (x y z : Server) (a : Accepted x y) (t u : List ℕ) (qs : List Request) (rs : List ℕ) → ServesAll AnyTally y t qs rs z u
+    → GetsThrough (a .size) (a .clients) (a .cap) (StepAnswered asksStep qs rs IsAccepted) (StepAnswered asksStep qs rs IsAnswer)
 
 -- SPECIFICATION 14.6: so are its holdings, on a list of rows in numbers; and the whole check passes
 abbrev pub Claim-holdings : Type 0

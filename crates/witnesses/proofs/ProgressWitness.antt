@@ -19,7 +19,7 @@ use Rattle.pool.specs.declared.Answer.{Answer}
 use Rattle.pool.specs.declared.Answer.the-variants.{Done, Working, Granted, Refused}
 use Rattle.laws.specs.Scans.{every-at}
 use Rattle.guarantee.specs.Runs.{Event, events, At, along, StepAt}
-use Rattle.guarantee.specs.Progress.{stepBound, AcceptedStep, Stretch}
+use Rattle.guarantee.specs.Progress.{stepBound, AcceptedStep, Places}
 use Rattle.guarantee.proofs.TurnedDown.{other-answer}
 use Rattle.witnesses.proofs.Witness.{computing}
 
@@ -75,7 +75,7 @@ passes : every (λ i. getD kinds (nth i) false) 31 ≡ true
 unfolding choose scan
 passes = refl
 
-pub many : Stretch (along three AcceptedStep) (stepBound 1 1 1)
+pub many : Places (along three AcceptedStep) (stepBound 1 1 1)
 many =
     record {
       nth = nth;

@@ -226,8 +226,8 @@ impl Pool {
 
     /// A begin, and steps up to its answer: the frame. For programs that keep no bytes or whose pages are in the store.
     ///
-    /// No other client is stepped meanwhile. There is an answer in the end: after at most `4 (C + T) (S + T)^2` steps, as
-    /// is proved (claim 24 of `docs/GUARANTEE.md` has a smaller number), and mostly after 3 to 25.
+    /// No other client is stepped meanwhile. There is an answer in the end: as is proved, after at most
+    /// `4 (C + T) (S + T)^2` steps (claim 24 of `docs/GUARANTEE.md` has a smaller number), and mostly after far fewer.
     ///
     /// # Errors
     /// As by [`begin`](Pool::begin), or [`AllBusy`](Refusal::AllBusy).
