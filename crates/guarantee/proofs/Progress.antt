@@ -16,7 +16,7 @@ use Rattle.pool.specs.declared.Outcome.{Outcome}
 use Rattle.pool.specs.declared.Call.{Call}
 use Rattle.pool.specs.declared.Call.the-variants.{Begin, Step, Release}
 use Rattle.pool.specs.declared.Answer.{Answer}
-use Rattle.pool.specs.declared.Answer.the-variants.{Granted, Refused}
+use Rattle.pool.specs.declared.Answer.the-variants.{Refused}
 use Rattle.laws.specs.StageAnswers.{StageAnswer, goes, grants, refuses, sticks, stage-answer}
 use Rattle.invariant.proofs.Reached.{Reached}
 use Rattle.invariant.proofs.Allowed.{refusal-not-15, allowed, may-begin, may-step, may-release}
@@ -27,7 +27,7 @@ use Rattle.progress.proofs.Writes.{Acting}
 use Rattle.progress.proofs.Moves.{Falls, ends, lower}
 use Rattle.progress.proofs.StageFalls.{step-falls}
 use Rattle.progress.proofs.BeginRelease.{begin-keeps, release-keeps}
-use Rattle.guarantee.specs.Runs.{Event, eventOf, events, At, along}
+use Rattle.guarantee.specs.Runs.{Event, eventOf, events, At, along, EndsRequest}
 use Rattle.guarantee.specs.Progress.{stepBound, plainBound, StepWith, AcceptedStep, Answers, OneAnswers, GetsThrough, StepAnswered}
 use Rattle.guarantee.proofs.TurnedDown.{other-call, same-numbers}
 use Rattle.guarantee.proofs.StepBounds.{rank-bound, bounds}
@@ -36,7 +36,7 @@ use Rattle.guarantee.proofs.StepBounds.{rank-bound, bounds}
 
 -- what a call does to the rank
 data CallRank (p : Pool) (x : Call) (o : Outcome) : Type 0 where
-  answers : (c : ℕ) → x ≡ Step c → ((f : ℕ) × (o .answer ≡ Granted f)) ⊎ (o .answer ≡ Refused 15) → CallRank p x o
+  answers : (c : ℕ) → x ≡ Step c → EndsRequest (o .answer) → CallRank p x o
   falls : rank (o .pool) < rank p → CallRank p x o
   no-step : ((c : ℕ) → x ≢ Step c) → rank (o .pool) ≤ rank p → CallRank p x o
   turned : (n : ℕ) → o .answer ≡ Refused n → n ≢ 15 → o .pool ≡ p → CallRank p x o
@@ -198,9 +198,8 @@ module _ (p : Pool) (calls : List Call) (r : Reached p) where
 
 -- ---- places of another list
 
--- where each of its accepted steps is one here, and each answer here is one there, in the same order
+-- where each accepted step of the other list is one of this, and each answer of this list one of the other, at the same places
 module _ {Has Answered Has′ Answered′ : ℕ → Type 0} where
-  -- at the same places
   pub same-places : ((n : ℕ) → Has′ n → Has n) → ((n : ℕ) → Answered n → Answered′ n) → (s t c : ℕ) → GetsThrough s t c Has Answered → GetsThrough s t c Has′ Answered′
   same-places down back s t c base = record { close = one (stepBound s t c) (base .close); plain = one (plainBound s t c) (base .plain) }
     where

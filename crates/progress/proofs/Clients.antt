@@ -19,6 +19,7 @@ use Rattle.progress.proofs.Way.{way-at-most, way-same}
 
 -- ---- tests
 
+-- a stage that goes by nothing that others can spoil
 abbrev pub plain : ℕ → Bool
 plain i = not (eqb i 6) && (not (eqb i 8) && (not (eqb i 13 || eqb i 14) && not (examining i)))
 

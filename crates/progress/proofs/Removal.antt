@@ -22,16 +22,17 @@ use Rattle.progress.proofs.Rank.{weigh, anew}
 use Rattle.progress.proofs.Clients.{TableTerms}
 use Rattle.progress.proofs.Weights.{weigh-at-most}
 
--- the look-up of a client at stage i, which found frame f, gave x and gives none now
-turns : (i x y f n : ℕ) → x ≢ none → y ≡ none
-    → weigh (eqb i 0 || not (eqb y none)) n + weigh ((eqb i 19 || eqb i 22) && not (eqb y f)) n
-    ≤ weigh (eqb i 0 || not (eqb x none)) n + weigh ((eqb i 19 || eqb i 22) && not (eqb x f)) n
-turns i x y f n z e = go (ℕ-discrete i 0)
-  where
-    go : Dec (i ≡ 0) → weigh (eqb i 0 || not (eqb y none)) n + weigh ((eqb i 19 || eqb i 22) && not (eqb y f)) n
-        ≤ weigh (eqb i 0 || not (eqb x none)) n + weigh ((eqb i 19 || eqb i 22) && not (eqb x f)) n
-    go (yes w) = rw w (omega arith)
-    go (no w) = rw (ne-eqb i 0 w, eq-eqb y none e, ne-eqb x none z) (omega (arith, weigh-at-most ((eqb i 19 || eqb i 22) && not (eqb y f)) n))
+-- what a client at stage i, which found frame f, weighs by a look-up that gives x
+abbrev looks : ℕ → ℕ → ℕ → ℕ → ℕ
+looks i f n x = weigh (eqb i 0 || not (eqb x none)) n + weigh ((eqb i 19 || eqb i 22) && not (eqb x f)) n
+
+-- where it gave x and gives none now
+turns : (i f n x y : ℕ) → x ≢ none → y ≡ none → looks i f n y ≤ looks i f n x
+turns i f n x y z e =
+    elim (ℕ-discrete i 0) [
+      | yes w ↦ rw w (omega arith)
+      | no w ↦ rw (ne-eqb i 0 w, eq-eqb y none e, ne-eqb x none z) (omega (arith, weigh-at-most ((eqb i 19 || eqb i 22) && not (eqb y f)) n))
+    ]
 
 module _ (p : Pool) (c : ℕ) (m : Move) (r : Reached p) (next : Reached (apply p c m)) (g : ℕ) (e : m .write ≡ PutEntry (entryOf p g) g none)
     (some : lookup p g ≢ none) where
@@ -51,6 +52,6 @@ module _ (p : Pool) (c : ℕ) (m : Move) (r : Reached p) (next : Reached (apply 
   removed i k =
       elim (ℕ-discrete (k .page) g) [
         | yes w ↦
-            turns i (lookup p (k .page)) (lookup q (k .page)) (k .found) (anew (p .size) (clientCount p)) (λ z. some (ap (lookup p) (sym w) ∙ z)) (ap (lookup q) w ∙ gone)
+            turns i (k .found) (anew (p .size) (clientCount p)) _ _ (λ z. some (ap (lookup p) (sym w) ∙ z)) (ap (lookup q) w ∙ gone)
         | no w ↦ rw (others (k .page) w) (omega arith)
       ]

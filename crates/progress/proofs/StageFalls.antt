@@ -6,7 +6,7 @@ use mathlib.Core.Bool.{true, false}
 use Prim.Native.Nat.{ℕ, _+_, _-_, _<_, _%_}
 use native.Mathlib.Omega.{arith}
 use native.Mathlib.Decide.{ℕ-discrete}
-use lib.Dec.{eqb}
+use lib.Dec.{T, eqb}
 use borrow.Author.Tests.{eqb-true, eqb-false, eq-eqb, ne-eqb}
 use Rattle.pool.specs.State.{none, evicted, pinned, total, slot, page, pins, count, client}
 use Rattle.pool.specs.Table.{entryOf, lookup, unusedEntry}
@@ -30,7 +30,7 @@ use Rattle.invariant.proofs.Table.{mapped-zero}
 use Rattle.progress.proofs.Rank.{lap, toll, rankAt}
 use Rattle.invariant.proofs.After.{count-here, pins-here, slot-kept}
 use Rattle.progress.proofs.Weights.{lap-is, detour-is, anew-is}
-use Rattle.progress.proofs.Clients.{client-kept}
+use Rattle.progress.proofs.Clients.{plain, client-kept}
 use Rattle.progress.proofs.Frames.{frame-lighter, frame-evicted}
 use Rattle.progress.proofs.Writes.{Acting, Actor, actor, table-terms}
 use Rattle.progress.proofs.Pays.{frames-kept, frames-one, frames-free, unseen, spoils}
@@ -53,14 +53,14 @@ module _ {p : Pool} {c : ℕ} (act : Acting p c) where
   unfolding stage1 rankAt
   step1 e = by-test IsFalls (λ _. goes act 1 e (omega arith)) (λ _. goes act 1 e (omega arith))
 
-  -- a pin spoils what the others have read of the frame's pins; the client's grant is near, and pays
-  pin2 : client p c .stage ≡ 2 → pins p (k .found) ≢ evicted → Falls p c (works k 3 (PutPins (k .found) (pins p (k .found) + 1)))
-  unfolding rankAt
-  pin2 e live = pays act 2 0 e tt tt (frames-kept act _ (r .ranges .found-ok c (know p r c 2 e .0), (λ z. absurd (live z)))) (omega arith)
+  -- a pin, at 2 or 19, spoils what the others have read of the frame's pins; the client's grant is near, and pays
+  pin : (i j : ℕ) → client p c .stage ≡ i → T (plain j) → k .found ≢ none → eqb (pins p (k .found)) evicted ≡ false
+      → rankAt s t p j (standing k j) + toll s t < rankAt s t p i k → Falls p c (works k j (PutPins (k .found) (pins p (k .found) + 1)))
+  pin i j e h f live own = pays act i 0 e tt h (frames-kept act _ (r .ranges .found-ok c f, (λ z. absurd (eqb-false _ _ live z)))) (omega (arith, own))
 
   step2 : FallsAt 2 (λ p k. stage2 k (pins p (k .found)))
   unfolding stage2 rankAt
-  step2 e = by-test IsFalls (λ _. goes act 2 e (omega arith)) (λ z. pin2 e (eqb-false _ _ z))
+  step2 e = by-test IsFalls (λ _. goes act 2 e (omega arith)) (λ z. pin 2 3 e tt (know p r c 2 e .0) z (omega arith))
 
   step3 : FallsAt 3 (λ p k. stage3 k (p .cap) (count p (k .found)))
   unfolding stage3
@@ -253,14 +253,9 @@ module _ {p : Pool} {c : ℕ} (act : Acting p c) where
       by-test IsFalls (λ _. by-test IsFalls (λ _. ends tt) (λ _. gives act _ _ _))
       (λ _. goes act 18 e (rw (eq-eqb (lookup p (k .page)) (lookup p (k .page)) refl) (omega arith)))
 
-  -- a pin, as at 2
-  pin19 : client p c .stage ≡ 19 → pins p (k .found) ≢ evicted → Falls p c (works k 20 (PutPins (k .found) (pins p (k .found) + 1)))
-  unfolding rankAt
-  pin19 e live = pays act 19 0 e tt tt (frames-kept act _ (r .ranges .found-ok c (know p r c 19 e .1 .0), (λ z. absurd (live z)))) (omega arith)
-
   step19 : FallsAt 19 (λ p k. stage19 k (pins p (k .found)))
   unfolding stage19 rankAt
-  step19 e = by-test IsFalls (λ _. goes act 19 e (omega arith)) (λ z. pin19 e (eqb-false _ _ z))
+  step19 e = by-test IsFalls (λ _. goes act 19 e (omega arith)) (λ z. pin 19 20 e tt (know p r c 19 e .1 .0) z (omega arith))
 
   -- the own frame has one pin, so that nobody examines it with success
   give-up : (i j : ℕ) → client p c .stage ≡ i → k .own ≢ none → rankAt s t p j (standing (withOwn k none) j) < rankAt s t p i k
