@@ -17,7 +17,7 @@ use Rattle.progress.proofs.Rank.{lap, toll, residentFrame, frameRank}
 use Rattle.progress.proofs.Weights.{weigh-at-most, lowered}
 
 module _ (s t : ℕ) where
-  -- a resident frame, and any other
+  -- what a frame weighs if it is resident; any other weighs nothing
   abbrev pub weight : Pool → ℕ → ℕ
   weight p f = lap s * (count p f - 1) + toll s t
 

@@ -21,9 +21,10 @@ use Rattle.invariant.proofs.Reached.{Reached}
 use Rattle.invariant.proofs.Writes.{keepsTable}
 use Rattle.progress.proofs.Rank.{toll, rankAt, frames, rank}
 use Rattle.progress.proofs.Clients.{plain, client-plain}
-use Rattle.progress.proofs.Writes.{Acting, Actor, actor, Lightens, Unseen, table-terms}
-use Rattle.progress.proofs.Pays.{frames-kept, unseen, spoils}
+use Rattle.progress.proofs.Writes.{Acting, Actor, actor, Lightens, table-terms}
+use Rattle.progress.proofs.Pays.{frames-kept, unseen, spoils, NotSeen}
 
+-- the answer is another stage
 abbrev pub goesOn : Answer → Bool
 goesOn (Done n) = false
 goesOn (Working j) = true
@@ -40,8 +41,7 @@ module _ {p : Pool} {c : ℕ} (act : Acting p c) where
 
   -- nobody sees it
   pub quiet : {m : Move} (i : ℕ) → client p c .stage ≡ i → Lightens act (m .write)
-      → ((d : Client) → Unseen act (m .next) (m .grants) (m .answer) (m .counted) d (m .write))
-      → rankAt s t p (m .next .stage) (m .next) < rankAt s t p i k → Falls p c m
+      → ((d : Client) → NotSeen act m d) → rankAt s t p (m .next .stage) (m .next) < rankAt s t p i k → Falls p c m
   quiet {m} i e light not-seen own =
       lower (λ _. omega (arith, unseen act m i 0 1 e (frames-kept act m light) (λ d. not-seen (client p d)) (not-seen (m .next)) (omega (arith, own))))
 
@@ -55,7 +55,7 @@ module _ {p : Pool} {c : ℕ} (act : Acting p c) where
       → Falls p c (works n (n .stage) w)
   pays {n} {w} i x e h l fr own =
       let m : Move = works n (n .stage) w in
-      let mine = client-plain s t p (apply p c m) (n .stage) n l (table-terms act (m .next) (m .grants) (m .answer) (m .counted) w h (n .stage) n) in
+      let mine = client-plain s t p (apply p c m) (n .stage) n l (table-terms act m w h (n .stage) n) in
       lower (λ _. omega (arith, spoils act m i x e h fr (omega (arith, own, mine))))
 
   -- an answer

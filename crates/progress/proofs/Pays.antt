@@ -28,11 +28,11 @@ module _ {p : Pool} {c : ℕ} (act : Acting p c) where
     q = apply p c m
 
     each-frame : Lightens act (m .write) → (f : ℕ) → f < total p → frameRank s t q f ≤ frameRank s t p f
-    each-frame h = frame-after act (m .next) (m .grants) (m .answer) (m .counted) (m .write) h
+    each-frame h = frame-after act m (m .write) h
 
     free-less : Lightens act (m .write) → toll s t * q .free ≤ toll s t * p .free
     unfolding apply
-    free-less h = mul-le-mul-left (toll s t) (free-after act (m .next) (m .grants) (m .answer) (m .counted) (m .write) h)
+    free-less h = mul-le-mul-left (toll s t) (free-after act m (m .write) h)
 
     pub frames-kept : Lightens act (m .write) → frames s t q + 0 ≤ frames s t p
     frames-kept h = omega (arith, free-less h, sum-below (frameRank s t q) (frameRank s t p) (s + 2 * t) (each-frame h))
@@ -65,12 +65,12 @@ module _ {p : Pool} {c : ℕ} (act : Acting p c) where
         (λ d _ n. subst (λ (k : Client). clientRank s t q k ≤ clientRank s t p (client p d) + b) (sym (client-other p c m d n)) (others d n)) in
         omega (arith, fr, own, at, mine, sum)
 
-    -- the own part, where the others do not see the move
-    abbrev NotSeen : Client → Type 0
-    NotSeen k = Unseen act (m .next) (m .grants) (m .answer) (m .counted) k (m .write)
+    -- client k does not see the move
+    abbrev pub NotSeen : Client → Type 0
+    NotSeen k = Unseen act m k (m .write)
 
     not-seen : (i : ℕ) (k : Client) → NotSeen k → rankAt s t q i k ≤ rankAt s t p i k
-    not-seen i k = client-after act (m .next) (m .grants) (m .answer) (m .counted) i k (m .write)
+    not-seen i k = client-after act m i k (m .write)
 
     pub unseen : (i x z : ℕ) → client p c .stage ≡ i → frames s t q + x ≤ frames s t p → ((d : ℕ) → NotSeen (client p d)) → NotSeen (m .next)
         → clientRank s t p (m .next) + z ≤ rankAt s t p i (client p c) + x → rank q + z ≤ rank p
@@ -83,5 +83,5 @@ module _ {p : Pool} {c : ℕ} (act : Acting p c) where
     spoils i x e h fr own =
         changes i x (detour s) 1 e fr
         (λ d _. client-spoilt s t p q (client p d .stage) (client p d)
-        (table-terms act (m .next) (m .grants) (m .answer) (m .counted) (m .write) h (client p d .stage) (client p d)))
+        (table-terms act m (m .write) h (client p d .stage) (client p d)))
         (omega (arith, own, toll-is s t (r .shape .clients-low)))

@@ -197,7 +197,7 @@ module _ {p : Pool} {c : ℕ} (act : Acting p c) where
       let res = victim-resident (know p r c 14 e .1) n in
       let gone = frame-evicted s t p (apply p c m) v (res .0) (res .1) (pins-here p c m (r .shape) v evicted refl h) in
       let mine = client-kept s t p (apply p c m) 15 (standing k 15) refl (slot-kept p c m refl) (λ z. absurd z)
-      (table-terms act (m .next) (m .grants) (m .answer) (m .counted) (m .write) tt 15 (standing k 15)) in
+      (table-terms act m (m .write) tt 15 (standing k 15)) in
       let test : eqb (pins p v) (pinned 0) ≡ true = eq-eqb (pins p v) (pinned 0) n in
       let before : rankAt s t p 15 (standing k 15) < rankAt s t p 14 k = rw test (omega arith) in
       lower (λ _. omega (arith, spoils act m 14 (toll s t) e tt (frames-one act m v (toll s t) h gone (h, (λ _. refl))) (omega (arith, mine, before))))

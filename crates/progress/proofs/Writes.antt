@@ -11,9 +11,6 @@ use Rattle.pool.specs.Apply.{slotsAfter, pinsAfter, countsAfter, entryPagesAfte
 use Rattle.pool.specs.declared.Pool.{Pool}
 use Rattle.pool.specs.declared.Client.{Client}
 use Rattle.pool.specs.declared.Move.{Move}
-use Rattle.pool.specs.declared.Answer.{Answer}
-use Rattle.pool.specs.declared.Counted.{Counted}
-use Rattle.pool.specs.declared.GrantChange.{GrantChange}
 use Rattle.pool.specs.declared.Write.{Write}
 use Rattle.pool.specs.declared.Write.the-variants.{Keep, PutSlot, PutPins, PutCount, TakeFrame, PutEntry, PutHand, PutFree}
 use Rattle.invariant.proofs.Reached.{mapped, Reached}
@@ -57,9 +54,10 @@ module _ {p : Pool} {c : ℕ} (act : Acting p c) where
   Lightens (PutHand h) = Unit {0}
   Lightens (PutFree x) = x ≤ p .free
 
-  module _ (n : Client) (g : GrantChange) (a : Answer) (u : Counted) where
+  module _ (m : Move) where
+    -- the move with this write, and the pool after it; with its own write it is the move itself
     abbrev move : Write → Move
-    move w = record { next = n; grants = g; write = w; answer = a; counted = u }
+    move w = record { next = m .next; grants = m .grants; write = w; answer = m .answer; counted = m .counted }
 
     abbrev q : Write → Pool
     q w = apply p c (move w)
