@@ -1,4 +1,4 @@
-//! Links the static library that `rt staticlib exported` writes, and the player in C, compiled here with the header
+//! Links the static library of crate `exported_c`, which bench/run makes, and the player in C, compiled here with the header
 //! that `embed/build` makes ready. The library of the calls comes with the crate `foqheran`.
 use std::path::{Path, PathBuf};
 use std::process::Command;
@@ -6,7 +6,7 @@ use std::process::Command;
 fn main() {
     let target = Path::new(env!("CARGO_MANIFEST_DIR")).join("../target");
     let exported = target.join("staticlib/libexported.a");
-    assert!(exported.exists(), "{} is not there: run bench/run, or 'rt staticlib exported' first", exported.display());
+    assert!(exported.exists(), "{} is not there: run bench/run first", exported.display());
     println!("cargo:rustc-link-search=native={}", target.join("staticlib").display());
     println!("cargo:rustc-link-lib=static=exported");
     println!("cargo:rerun-if-changed={}", exported.display());

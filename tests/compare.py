@@ -33,8 +33,8 @@ import second_store  # noqa: E402
 
 TOP = pathlib.Path(__file__).resolve().parent.parent
 PROGRAMS = TOP / "target" / "bin"
-BUILDS = {"replay": "./replay", "test_spaces": "rt check test_spaces", "test_holdings": "rt check test_holdings",
-          "test_bytes": "rt check test_bytes"}
+BUILDS = {"replay": "./replay", "test_spaces": "tools/build test_spaces", "test_holdings": "tools/build test_holdings",
+          "test_bytes": "tools/build test_bytes"}
 KEPT = TOP / "target" / "compare"
 TIME_LIMIT = 20  # seconds for one schedule or script, which takes a few milliseconds
 SPACES_SEEDS = 60  # generate.py's whole rotation

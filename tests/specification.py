@@ -216,7 +216,7 @@ def cited(written):
 def files():
     """Every source and page, with its text on one line."""
     for folder, within, names in os.walk(TOP):
-        within[:] = [name for name in within if name not in (".git", "target")]
+        within[:] = [name for name in within if name not in (".git", "target", "out")]
         for path in (pathlib.Path(folder, name) for name in names):
             if path.suffix in SUFFIXES:
                 try:

@@ -19,11 +19,12 @@ PYTHON = "#!/bin/sh\nexec %s " % shlex.quote(sys.executable)
 PLAYER = PYTHON + "-I -S tests/second.py\n"
 
 CRATES = """\
-# two that replay uses, and one that uses replay's
+# two that replay uses, and two that use replay's
 pool:
-laws: pool bytes
+laws: pool csv
 tie: pool laws  # not counted
-replay: laws io libc
+replay: laws itoa
+laws_c staticlib: laws
 """
 
 
@@ -40,7 +41,7 @@ def a_top(player=PLAYER, rt=None):
         top = pathlib.Path(name).resolve()
         shutil.copy(TOP / "replay", top)
         shutil.copytree(TOP / "tools", top / "tools")
-        for folder in "tests", "crates", "logs":
+        for folder in "tests", "crates", "crates/replay", "logs":
             (top / folder).mkdir()
         for path in (TOP / "tests").glob("*.py"):
             shutil.copy(path, top / "tests")
@@ -59,7 +60,6 @@ def begun(top, *arguments, program=("./replay",), **how):
     path = [str(kit), *(os.get_exec_path() if (kit / "rt").exists() else ())]
     environment = dict(os.environ, TMPDIR=str(top / "logs"),
                        PATH=os.pathsep.join(path))
-    environment.pop("RT_JOBS", None)
     how = {"stdin": subprocess.PIPE, "stdout": subprocess.PIPE,
            "stderr": subprocess.PIPE, **how}
     return subprocess.Popen([*program, *arguments], cwd=top, env=environment,

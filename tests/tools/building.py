@@ -18,31 +18,34 @@ PROVING = "replay: proving and building the program; this takes some " \
 
 RT = """\
 #!/bin/sh
-echo "$RT_JOBS $*" >>asked
-while [ -e wait ]; do sleep 0.05; done
+echo "${PWD##*/}: $*" >>../../asked
+while [ -e ../../wait ]; do sleep 0.05; done
+echo "the program's own output, if it is run"
+exec >&2
+echo "rt: chose --jobs 2 for pool"
 echo "fn pool::something: proved"
-echo "rt: pool proved (6 s)"
-echo "rt: laws %s"
+echo "logic=proved functions=1"
+echo "rt: chose --jobs 2 for laws"
+echo "logic=%s"
 """
 
-BUILT = RT % "proved (unchanged since it was last proved)" + """\
-echo "rt: replay proved (15 s)"
-echo "rt: replay ran, and wrote what its file 'stdout' has (0 s)"
-mkdir -p target/bin
-cp player target/bin/replay
-echo "rt: ok, 3 crates proved"
+BUILT = RT % "proved functions=0" + """\
+echo "rt: chose --jobs 2 for replay"
+echo "logic=proved functions=1"
+mkdir -p out
+cp ../../player out/replay
+echo "rt: running out/replay; to give it other input, run that file yourself"
 """
 
-FAILED = RT % "NOT PROVED (exit 1, 3 s)" + """\
-echo "rt: replay NOT PROVED: its dependency laws is not proved"
-echo "rt: FAILED: laws replay" >&2
+FAILED = RT % "not-proved" + """\
+echo "rt: the library laws did not build, so nothing above it was checked"
 exit 1
 """
 
 PROGRESS = PROVING + """\
-replay: 1 of 3 proved: pool (6 s)
-replay: 2 of 3 proved: laws (unchanged since it was last proved)
-replay: 3 of 3 proved: replay (15 s)
+replay: 1 of 3 proved: pool (0 s)
+replay: 2 of 3 proved: laws (0 s)
+replay: 3 of 3 proved: replay (0 s)
 """
 
 
@@ -60,12 +63,12 @@ def proofs():
         same(run(top, "--explain", data=EXAMPLE),
              (0, run_schedule("explain", data=EXAMPLE)[1], PROGRESS),
              "a run after a change")
-        same((top / "asked").read_text(), 2 * "4 check replay\n",
+        same((top / "asked").read_text(), 2 * "replay: run\n",
              "what rt was asked")
         same(left_logs(top), [], "the logs left behind")
     crates = playing.needed("replay")
     need({"replay", "schedule", "pool"} <= crates
-         and not {"io", "libc", "bytes", "tie", "exported"} & crates,
+         and not {"std", "csv", "tie", "exported"} & crates,
          "replay needs %r" % crates)
     return "./replay, proving and building: 'n of m'"
 
@@ -75,14 +78,13 @@ def failed_proofs():
         status, output, said = run(top, data=EXAMPLE)
         same((status, output), (2, b""), "status of a failed proof")
         lines = said.splitlines(True)
-        same(lines[:-1], [PROVING, "replay: 1 of 3 proved: pool (6 s)\n",
-                          "replay: laws NOT PROVED (exit 1, 3 s)\n",
-                          "replay: replay NOT PROVED: its dependency laws is "
-                          "not proved\n"], "what is said of the crates")
+        same(lines[:-1], [PROVING, "replay: 1 of 3 proved: pool (0 s)\n",
+                          "replay: laws NOT PROVED\n"],
+             "what is said of the crates")
         log, = left_logs(top)
-        check_line(lines[-1], "exit status 1", "FAILED: laws replay",
+        check_line(lines[-1], "exit status 1", "laws did not build",
                    " is in %s\n" % log)
-        same(log.read_text().count("\n"), 5, "the lines in the log")
+        same(log.read_text().count("\n"), 6, "the lines in the log")
     with a_top(None) as top:
         status, output, said = run(top, data=EXAMPLE)
         same((status, output), (2, b""), "status without rt")
@@ -105,14 +107,14 @@ def two_at_once():
                 same((process.returncode, output), (0, LISTING), "a run")
         waited, = said - {PROVING.encode()}
         check_line(waited.decode(), "waiting for another ./replay")
-        same((top / "asked").read_text(), "4 check replay\n",
+        same((top / "asked").read_text(), "replay: run\n",
              "what rt was asked")
     return "./replay, two at once: one builds"
 
 
 def interrupted():
     """Ctrl-C ends rt, too, and there is no traceback."""
-    with a_top(None, "#!/bin/sh\necho $$ >asked\nsleep 60\n") as top:
+    with a_top(None, "#!/bin/sh\necho $$ >../../asked\nsleep 60\n") as top:
         asked = top / "asked"
         (top / "file").write_bytes(EXAMPLE)
         with begun(top, "file") as process:

@@ -210,8 +210,7 @@ def newer():
         source = top / "crates" / "pool" / "src" / "Pool.rs"
         source.parent.mkdir(parents=True)
         source.write_text("")
-        sources = (top / "crates.txt", source, source.parent,
-                   top / "crates" / "pool")
+        sources = top / "crates.txt", source, source.parent
         with mock.patch.multiple(report, TOP=top, PROGRAM=program):
             for path in (*sources, program):
                 os.utime(path, (1000, 1000))

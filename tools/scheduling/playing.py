@@ -8,6 +8,7 @@ import contextlib
 import fcntl
 import os
 import re
+import shutil
 import signal
 import subprocess
 import time
@@ -27,7 +28,8 @@ def say(message):
 
 # The program, proved and built.
 
-PROVED = re.compile(r"(\w+) proved (\(.*\))")
+MADE = TOP / "crates" / "replay" / "out" / "replay"  # by rt
+BEGUN = re.compile(r"chose --jobs \d+ for (\w+)")
 
 
 def needed(name):
@@ -37,7 +39,7 @@ def needed(name):
     for line in listed.splitlines():
         crate, colon, used = line.partition("#")[0].partition(":")
         if colon:
-            uses[crate.strip()] = used.split()
+            uses[crate.split()[0]] = used.split()
     found, open_ends = set(), [name]
     while open_ends:
         crate = open_ends.pop()
@@ -50,30 +52,31 @@ def needed(name):
 def follow(output, log):
     """Keep what rt prints, and say how far it is; the last that it said."""
     crates, proved, last = needed("replay"), set(), "nothing"
+    crate = since = None
     for line in output:
         log.write(line)
         if line.startswith(b"rt: "):
             last = line.decode(errors="replace")[4:].rstrip()
-            match = PROVED.fullmatch(last)
-            if match and match[1] in crates:
-                proved.add(match[1])
-                say("%d of %d proved: %s %s"
-                    % (len(proved), len(crates), *match.groups()))
-            elif "NOT PROVED" in last:
-                say(last)
+            match = BEGUN.fullmatch(last)
+            if match:
+                crate, since = match[1], time.monotonic()
+        elif line.startswith(b"logic=proved") and crate in crates:
+            proved.add(crate)
+            say("%d of %d proved: %s (%.0f s)"
+                % (len(proved), len(crates), crate, time.monotonic() - since))
+        elif line.startswith(b"logic=not-proved"):
+            say("%s NOT PROVED" % crate)
     return last
 
 
 @contextlib.contextmanager
 def started_rt():
-    """'rt check replay', which ends with all that it started if we do."""
-    jobs = os.environ.get("RT_JOBS") or "4"  # they keep two processors busy
+    """'rt run' on an empty file; it ends with all that it started if we do."""
     try:
-        rt = subprocess.Popen(["rt", "check", "replay"], cwd=TOP,
-                              env=dict(os.environ, RT_JOBS=jobs),
+        rt = subprocess.Popen(["rt", "run"], cwd=MADE.parent.parent,
                               stdin=subprocess.DEVNULL,
-                              stdout=subprocess.PIPE,
-                              stderr=subprocess.STDOUT,
+                              stdout=subprocess.DEVNULL,
+                              stderr=subprocess.PIPE,
                               start_new_session=True)
     except OSError as wrong:
         raise NotPlayed("the Rattle kit's command 'rt' cannot be run (%s); "
@@ -85,7 +88,7 @@ def started_rt():
         if rt.poll() is None:
             os.killpg(rt.pid, signal.SIGTERM)
         rt.wait()
-        rt.stdout.close()
+        rt.stderr.close()
 
 
 def prove():
@@ -98,16 +101,18 @@ def prove():
         with open(file, "wb") as log, started_rt() as rt:
             say("proving and building the program; this takes some minutes "
                 "the first time")
-            last = follow(rt.stdout, log)
+            last = follow(rt.stderr, log)
             status = rt.wait()
     except BaseException:
         os.remove(path)
         raise
-    if status or not PROGRAM.exists():
+    if status or not MADE.exists():
         raise NotPlayed("the program is not proved and built: rt ended with "
                         "exit status %d and '%s'; its whole output is in %s"
                         % (status, last, path))
     os.remove(path)
+    PROGRAM.parent.mkdir(parents=True, exist_ok=True)
+    shutil.copy(MADE, PROGRAM)
     os.utime(PROGRAM, ns=(begun, begun))  # later changes are not in it
 
 

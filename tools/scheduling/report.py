@@ -104,7 +104,9 @@ def is_built():
     """Whether the proved program is there and no source is newer."""
     if not PROGRAM.exists():
         return False
-    sources = TOP / "crates.txt", *(TOP / "crates").rglob("*")
+    # All that a crate has but out/, which rt makes there.
+    sources = (TOP / "crates.txt", *(TOP / "crates").glob("*/[!o]*"),
+               *(TOP / "crates").glob("*/[!o]*/**/*"))
     built = PROGRAM.stat().st_mtime
     # A link that leads nowhere, as some editors make, is a file, too.
     return all(source.lstat().st_mtime <= built for source in sources)

@@ -18,7 +18,9 @@ fn decimal_long(out: &mut [u8], v: u32) -> usize
         text[from] = 48 + (rest % 10) as u8;
         rest /= 10;
     }
-    bytes::copy(&text[from..], out)
+    let n = text.len() - from;
+    out[..n].copy_from_slice(&text[from..]);
+    n
 }
 
 // v in decimal at the start of out; how many digits. Most numbers of a report are short, and short ones need no loop.

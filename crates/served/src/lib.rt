@@ -31,8 +31,7 @@ fn word(a: Answer) -> u64
 }
 
 // SPECIFICATION 13.3, 14.5; refused by 8 nothing is changed.
-#[unsafe(no_mangle)]
-pub extern "C" fn foqheran_parts_setup(
+pub fn foqheran_parts_setup(
     s: u8,
     t: u8,
     c: u8,
@@ -98,8 +97,7 @@ pub extern "C" fn foqheran_parts_setup(
 }
 
 // SPECIFICATION 3.2, 14.5; refused by 16 where the store has no such page, and by 18 where the client holds it.
-#[unsafe(no_mangle)]
-pub extern "C" fn foqheran_parts_begin(
+pub fn foqheran_parts_begin(
     client: u8,
     page: u32,
     store_pages: u16,
@@ -155,8 +153,7 @@ pub extern "C" fn foqheran_parts_begin(
 }
 
 // SPECIFICATION 3.4, 14.5.
-#[unsafe(no_mangle)]
-pub extern "C" fn foqheran_parts_release(
+pub fn foqheran_parts_release(
     client: u8,
     page: u32,
     size: u8,
@@ -212,8 +209,7 @@ pub extern "C" fn foqheran_parts_release(
 
 // SPECIFICATION 3.3, 13.4, 14.5. The action's effect on store, bytes and marks is put into them after the pool's own, which no other call can come
 // between.
-#[unsafe(no_mangle)]
-pub extern "C" fn foqheran_parts_step(
+pub fn foqheran_parts_step(
     client: u8,
     tally: &mut [u32; COUNTS],
     duty: &mut u64,
@@ -287,8 +283,7 @@ pub extern "C" fn foqheran_parts_step(
 }
 
 // SPECIFICATION 13.9, 14.6: of every pool whose clients and grants lie there.
-#[unsafe(no_mangle)]
-pub extern "C" fn foqheran_parts_read<'a>(
+pub fn foqheran_parts_read<'a>(
     client: u8,
     page: u32,
     offset: u32,
@@ -331,8 +326,7 @@ pub extern "C" fn foqheran_parts_read<'a>(
 }
 
 // SPECIFICATION 13.9, 14.6: of every pool whose clients and grants lie there.
-#[unsafe(no_mangle)]
-pub extern "C" fn foqheran_parts_write<'a>(
+pub fn foqheran_parts_write<'a>(
     client: u8,
     page: u32,
     offset: u32,
@@ -377,8 +371,7 @@ pub extern "C" fn foqheran_parts_write<'a>(
 }
 
 // SPECIFICATION 8.2, 14.6: of every pool whose clients and grants lie there.
-#[unsafe(no_mangle)]
-pub extern "C" fn foqheran_parts_holdings<'a>(
+pub fn foqheran_parts_holdings<'a>(
     client: u8,
     rows: &mut [u32],
     client_count: u8,
@@ -403,8 +396,7 @@ pub extern "C" fn foqheran_parts_holdings<'a>(
 }
 
 // SPECIFICATION 13.11, 14.8: the whole check 8, whatever the hand and the bytes are.
-#[unsafe(no_mangle)]
-pub extern "C" fn foqheran_parts_check<'a>(
+pub fn foqheran_parts_check<'a>(
     store: &'a [u8],
     store_pages: u16,
     filled: &'a [u8; FRAMES],

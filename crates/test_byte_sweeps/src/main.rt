@@ -5,9 +5,10 @@
 // number of bytes.
 #![tactic(auto)]
 
-use libc::{STDIN_FILENO, STDOUT_FILENO};
 use memory::Tallied;
 use pool::{Answer, Tally};
+use std::io;
+use std::io::Read;
 
 fn request(state: Tallied, client: u8, page: u32, n: u8, store: &mut [u8]) -> Tallied {
     let mut at = state;
@@ -49,9 +50,9 @@ fn sweeps(state: Tallied, n: usize, store: &mut [u8]) -> Tallied {
     at
 }
 
-fn main() {
-    let mut input = [0u8; 4096];
-    let n = io::read_full(STDIN_FILENO, &mut input);
+fn main(rt: HostRuntime) -> io::Result<()> {
+    let mut input = Vec::new(rt.alloc());
+    let n = rt.stdin().take(4096).read_to_end(&mut input)?;
     let mut store = [0u8; 16384];
     let done = buffered::setup(64, 16, 100, 0, &store);
     let pool = done.pool;
@@ -71,6 +72,6 @@ fn main() {
     state = fill(state, &mut store);
     state = sweeps(state, n, &mut store);
     let counts = state.tally;
-    io::print_decimal(STDOUT_FILENO, counts.refused as u64);
-    io::write_all(STDOUT_FILENO, b"\n");
+    let refused = counts.refused;
+    println!(rt; "{refused}")
 }

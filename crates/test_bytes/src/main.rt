@@ -23,22 +23,22 @@
 
 ghost use Rattle.std.specs.Prelude.{◌+◌, ◌≤◌, ◌<◌, length};
 
-use libc::{STDIN_FILENO, STDOUT_FILENO};
 use memory::{BufferPool, Reply, Tallied};
 use pool::{Answer, HELD, Listed, Row, Tally};
+use std::io;
+use std::io::{Read, Write};
 
 // ---- what is printed
 
 // A number after a space.
-fn print_next(n: u32) {
-    io::write_all(STDOUT_FILENO, b" ");
-    io::print_decimal(STDOUT_FILENO, n as u64);
+fn print_next(rt: &impl Print, n: u32) -> io::Result<()> {
+    print!(rt; " {n}")
 }
 
-fn print_answer(answer: Answer) {
-    io::print_decimal(STDOUT_FILENO, answers::code_of(answer) as u64);
-    print_next(answers::value_of(answer));
-    io::write_all(STDOUT_FILENO, b"\n");
+fn print_answer(rt: &impl Print, answer: Answer) -> io::Result<()> {
+    let code = answers::code_of(answer);
+    let value = answers::value_of(answer);
+    println!(rt; "{code} {value}")
 }
 
 fn digit(n: u8) -> u8
@@ -56,7 +56,7 @@ fn low_digit(b: u8) -> u8 {
 }
 
 // 64 bytes from a place on, after a space, to the line's end.
-fn print_row(bytes: &[u8], from: usize)
+fn print_row(rt: &impl Print, bytes: &[u8], from: usize) -> io::Result<()>
     requires { from + 64 ≤ length bytes.now }
 {
     let mut line = [32u8; 130];
@@ -66,62 +66,65 @@ fn print_row(bytes: &[u8], from: usize)
         line[2 * i + 2] = low_digit(b);
     }
     line[129] = 10;
-    io::write_all(STDOUT_FILENO, &line);
+    io::writer(rt).write_all(&line)
 }
 
 // The bytes of one page of these, if they go so far.
-fn print_page(bytes: &[u8], page: usize)
+fn print_page(rt: &impl Print, bytes: &[u8], page: usize) -> io::Result<()>
     requires { page < 1024 }
 {
     if 64 * page + 64 <= bytes.len() {
-        print_row(bytes, 64 * page);
+        print_row(rt, bytes, 64 * page)?;
     }
+    Ok(())
 }
 
-fn print_mark(on: bool) {
+fn print_mark(rt: &impl Print, on: bool) -> io::Result<()> {
     if on {
-        io::write_all(STDOUT_FILENO, b" 1");
+        print!(rt; " 1")
     } else {
-        io::write_all(STDOUT_FILENO, b" 0");
+        print!(rt; " 0")
     }
 }
 
-fn print_frame(pool: BufferPool, f: usize)
+fn print_frame(rt: &impl Print, pool: BufferPool, f: usize) -> io::Result<()>
     requires { f < 96 }
 {
     let memory = pool.memory;
     let bytes = memory.bytes;
     let filled = memory.filled;
     let changed = memory.changed;
-    io::print_decimal(STDOUT_FILENO, f as u64);
-    print_mark(filled[f] != 0);
-    print_mark(changed[f] != 0);
-    print_page(&bytes, f);
+    print!(rt; "{f}")?;
+    print_mark(rt, filled[f] != 0)?;
+    print_mark(rt, changed[f] != 0)?;
+    print_page(rt, &bytes, f)
 }
 
 // The first so many frames, of 96.
-fn print_frames(pool: BufferPool, total: usize) {
+fn print_frames(rt: &impl Print, pool: BufferPool, total: usize) -> io::Result<()> {
     for f in 0..96 {
         if f < total {
-            print_frame(pool, f);
+            print_frame(rt, pool, f)?;
         }
     }
+    Ok(())
 }
 
-fn print_space_page(space: &[u8], page: usize)
+fn print_space_page(rt: &impl Print, space: &[u8], page: usize) -> io::Result<()>
     requires { page < 1024 }
 {
-    io::write_all(STDOUT_FILENO, b"-");
-    print_page(space, page);
+    print!(rt; "-")?;
+    print_page(rt, space, page)
 }
 
 // So many pages of the space.
-fn print_space(space: &[u8], pages: usize)
+fn print_space(rt: &impl Print, space: &[u8], pages: usize) -> io::Result<()>
     requires { pages < 1024 }
 {
     for page in 0..pages {
-        print_space_page(space, page);
+        print_space_page(rt, space, page)?;
     }
+    Ok(())
 }
 
 // Of a space whose store has so many pages.
@@ -137,15 +140,15 @@ fn pages_printed(pages: u16) -> usize
     }
 }
 
-fn print_tally(tally: Tally) {
-    io::write_all(STDOUT_FILENO, b"tally");
-    print_next(tally.hits);
-    print_next(tally.joins);
-    print_next(tally.admitted);
-    print_next(tally.revived);
-    print_next(tally.drops);
-    print_next(tally.refused);
-    io::write_all(STDOUT_FILENO, b"\n");
+fn print_tally(rt: &impl Print, tally: Tally) -> io::Result<()> {
+    print!(rt; "tally")?;
+    print_next(rt, tally.hits)?;
+    print_next(rt, tally.joins)?;
+    print_next(rt, tally.admitted)?;
+    print_next(rt, tally.revived)?;
+    print_next(rt, tally.drops)?;
+    print_next(rt, tally.refused)?;
+    println!(rt)
 }
 
 // A row that no client has: nothing is held 77 times.
@@ -157,80 +160,88 @@ fn unused() -> Row {
 }
 
 // A page and the number of its grants, or a point for a row that is as it was.
-fn print_held(row: Row) {
+fn print_held(rt: &impl Print, row: Row) -> io::Result<()> {
     if row.page == 77 && row.times == 77 {
-        io::write_all(STDOUT_FILENO, b" .");
+        print!(rt; " .")
     } else {
-        print_next(row.page);
-        io::write_all(STDOUT_FILENO, b"x");
-        io::print_decimal(STDOUT_FILENO, row.times as u64);
+        let page = row.page;
+        let times = row.times;
+        print!(rt; " {page}x{times}")
     }
 }
 
-fn print_rows(rows: [Row; HELD]) {
+fn print_rows(rt: &impl Print, rows: [Row; HELD]) -> io::Result<()> {
     for i in 0..8 {
-        print_held(rows[i]);
+        print_held(rt, rows[i])?;
     }
+    Ok(())
 }
 
 // Whom it is about, on how many rows it was asked, the answer, and what it leaves of eight rows.
-fn print_list(client: u8, room: u32, listed: Listed) {
+fn print_list(rt: &impl Print, client: u8, room: u32, listed: Listed) -> io::Result<()> {
     let answer = listed.answer;
     let rows = listed.rows;
-    io::write_all(STDOUT_FILENO, b"holds");
-    print_next(client as u32);
-    print_next(room);
-    print_next(answers::code_of(answer));
-    print_next(answers::value_of(answer));
-    print_rows(rows);
-    io::write_all(STDOUT_FILENO, b"\n");
+    print!(rt; "holds")?;
+    print_next(rt, client as u32)?;
+    print_next(rt, room)?;
+    print_next(rt, answers::code_of(answer))?;
+    print_next(rt, answers::value_of(answer))?;
+    print_rows(rt, rows)?;
+    println!(rt)
 }
 
 // The client's holdings on so many rows, if there are so many.
-fn print_on_first(pool: BufferPool, client: u8, room: u32) {
+fn print_on_first(rt: &impl Print, pool: BufferPool, client: u8, room: u32) -> io::Result<()> {
     if room <= 8 {
         let listed = byte_holdings::on_first(pool, client, [unused(); 8], room as usize);
-        print_list(client, room, listed);
+        print_list(rt, client, room, listed)?;
     }
+    Ok(())
 }
 
 // The client's holdings on eight rows, on exactly enough, and on one too few if it needs any.
-fn print_client(pool: BufferPool, client: u8) {
+fn print_client(rt: &impl Print, pool: BufferPool, client: u8) -> io::Result<()> {
     let listed = byte_holdings::holdings_on(pool, client, [unused(); 8]);
-    print_list(client, 8, listed);
+    print_list(rt, client, 8, listed)?;
     let answer = listed.answer;
     let needed = answers::value_of(answer);
-    print_on_first(pool, client, needed);
+    print_on_first(rt, pool, client, needed)?;
     if needed > 0 {
-        print_on_first(pool, client, needed - 1);
+        print_on_first(rt, pool, client, needed - 1)?;
     }
+    Ok(())
 }
 
 // Of so many clients.
-fn print_holdings(pool: BufferPool, clients: u8) {
+fn print_holdings(rt: &impl Print, pool: BufferPool, clients: u8) -> io::Result<()> {
     for client in 0..clients {
-        print_client(pool, client);
+        print_client(rt, pool, client)?;
     }
+    Ok(())
 }
 
 // The clients' holdings, and those of the client that is one too many.
-fn print_books(state: Tallied) {
+fn print_books(rt: &impl Print, state: Tallied) -> io::Result<()> {
     let pool = state.pool;
     let tally = state.tally;
     let books = pool.pool;
     let clients = books.client_count;
-    print_tally(tally);
-    print_holdings(pool, clients);
-    print_client(pool, clients);
+    print_tally(rt, tally)?;
+    print_holdings(rt, pool, clients)?;
+    print_client(rt, pool, clients)
 }
 
-fn dump(state: Tallied, space: &[u8]) {
+fn dump(rt: &impl Print, state: Tallied, space: &[u8]) -> io::Result<()> {
     let pool = state.pool;
     let books = pool.pool;
     let memory = pool.memory;
-    print_frames(pool, books.size as usize + 2 * books.client_count as usize);
-    print_space(space, pages_printed(memory.pages));
-    print_books(state);
+    print_frames(
+        rt,
+        pool,
+        books.size as usize + 2 * books.client_count as usize,
+    )?;
+    print_space(rt, space, pages_printed(memory.pages))?;
+    print_books(rt, state)
 }
 
 // ---- the script
@@ -334,24 +345,30 @@ fn with_tally(state: Tallied, n: u32) -> Tallied {
 }
 
 // A line after the setup: another tally, a dump, or a call that is lent the first bytes of the space.
-fn play_line(state: Tallied, line: Line, space: &mut [u8], lent: usize) -> Tallied {
+fn play_line(
+    rt: &impl Print,
+    state: Tallied,
+    line: Line,
+    space: &mut [u8],
+    lent: usize,
+) -> io::Result<Tallied> {
     if line.kind == 6 {
-        return state;
+        return Ok(state);
     }
     if line.kind == 8 {
-        return with_tally(state, line.page);
+        return Ok(with_tally(state, line.page));
     }
     if line.kind == 7 {
-        dump(state, space);
-        return state;
+        dump(rt, state, space)?;
+        return Ok(state);
     }
     if lent > space.len() {
-        return state;
+        return Ok(state);
     }
     let next = after(state, line, &mut space[..lent]);
     let answer = next.answer;
-    print_answer(answer);
-    next
+    print_answer(rt, answer)?;
+    Ok(next)
 }
 
 fn lent_after(line: Line, lent: usize) -> usize {
@@ -363,29 +380,36 @@ fn lent_after(line: Line, lent: usize) -> usize {
 }
 
 // The lines after the setup, which was lent so many bytes of the space.
-fn play_lines(script: &[u8], first: Tallied, at_setup: usize, space: &mut [u8]) {
+fn play_lines(
+    rt: &impl Print,
+    script: &[u8],
+    first: Tallied,
+    at_setup: usize,
+    space: &mut [u8],
+) -> io::Result<()> {
     let mut state = first;
     let mut lent = at_setup;
     let mut at = 12;
     while at < script.len() {
         if script.len() - at < 12 {
-            return;
+            return Ok(());
         }
         let line = line_at(script, at);
         at += 12;
         lent = lent_after(line, lent);
-        state = play_line(state, line, space, lent);
+        state = play_line(rt, state, line, space, lent)?;
     }
+    Ok(())
 }
 
-fn play(script: &[u8], space: &mut [u8]) {
+fn play(rt: &impl Print, script: &[u8], space: &mut [u8]) -> io::Result<()> {
     if script.len() < 12 {
-        return;
+        return Ok(());
     }
     let line = line_at(script, 0);
     let length = line.offset as usize;
     if length > space.len() {
-        return;
+        return Ok(());
     }
     let done = buffered::setup(
         line.client,
@@ -395,9 +419,9 @@ fn play(script: &[u8], space: &mut [u8]) {
         &space[..length],
     );
     let answer = done.answer;
-    print_answer(answer);
+    print_answer(rt, answer)?;
     if answers::refusal_of(answer) != 0 {
-        return;
+        return Ok(());
     }
     let pool = done.pool;
     let tally = Tally {
@@ -409,6 +433,7 @@ fn play(script: &[u8], space: &mut [u8]) {
         refused: 0,
     };
     play_lines(
+        rt,
         script,
         Tallied {
             answer,
@@ -417,7 +442,7 @@ fn play(script: &[u8], space: &mut [u8]) {
         },
         length,
         space,
-    );
+    )
 }
 
 // What stands in the space at first: it differs from byte to byte, and from page to page.
@@ -431,10 +456,10 @@ fn put_first(space: &mut [u8]) {
     }
 }
 
-fn main() {
-    let mut script = [0u8; 8192];
-    let n = io::read_full(STDIN_FILENO, &mut script);
+fn main(rt: HostRuntime) -> io::Result<()> {
+    let mut script = Vec::new(rt.alloc());
+    rt.stdin().take(8192).read_to_end(&mut script)?;
     let mut space = [0u8; 16512];
     put_first(&mut space);
-    play(&script[..n], &mut space);
+    play(&rt, script.as_slice(), &mut space)
 }

@@ -6,7 +6,7 @@
 #![tactic(auto)]
 
 use pool::{Answer, Call, Client, FRAMES, NONE, Pool, Tally};
-use std::num::wrapping_add_u32;
+use std::io;
 
 // A run so far.
 #[derive(Clone, Copy)]
@@ -26,27 +26,14 @@ struct Run {
 
 // ---- printing
 
-fn number(n: u32) {
-    io::print_decimal(1, n as u64);
+fn line(rt: &impl Print, at: u32, client: u8, answer: Answer) -> io::Result<()> {
+    let code = answers::code_of(answer);
+    let value = answers::value_of(answer);
+    println!(rt; "{at} {client} {code} {value}")
 }
 
-fn line(at: u32, client: u8, answer: Answer) {
-    number(at);
-    io::write_all(1, b" ");
-    number(client as u32);
-    io::write_all(1, b" ");
-    number(answers::code_of(answer));
-    io::write_all(1, b" ");
-    number(answers::value_of(answer));
-    io::write_all(1, b"\n");
-}
-
-fn fact(name: &[u8], n: u32) {
-    io::write_all(1, b"# ");
-    io::write_all(1, name);
-    io::write_all(1, b": ");
-    number(n);
-    io::write_all(1, b"\n");
+fn fact(rt: &impl Print, name: &str, n: u32) -> io::Result<()> {
+    println!(rt; "# {name}: {n}")
 }
 
 // ---- facts of a pool
@@ -57,7 +44,7 @@ fn wide(x: u8) -> u32 {
 
 // One number more into a sum that tells the order of its numbers.
 fn mixed(sum: u32, x: u32) -> u32 {
-    wrapping_add_u32(wrapping_add_u32(wrapping_add_u32(sum, sum), sum), x)
+    sum.wrapping_add(sum).wrapping_add(sum).wrapping_add(x)
 }
 
 fn bytes_into(sum: u32, xs: &[u8]) -> u32 {
@@ -114,10 +101,10 @@ fn digest(pool: Pool) -> u32 {
 
 // How many places of the table map the page.
 fn places_of<'a>(pages: &'a [u32; FRAMES], frames: &'a [u8; FRAMES], page: u32) -> u32 {
-    let mut places = 0;
+    let mut places: u32 = 0;
     for i in 0..FRAMES {
         if pages[i] == page && frames[i] != NONE {
-            places = wrapping_add_u32(places, 1);
+            places = places.wrapping_add(1);
         }
     }
     places
@@ -125,11 +112,11 @@ fn places_of<'a>(pages: &'a [u32; FRAMES], frames: &'a [u8; FRAMES], page: u32) 
 
 // How many places of the table map a page that another one maps, too.
 fn mapped_twice<'a>(pages: &'a [u32; FRAMES], frames: &'a [u8; FRAMES]) -> u32 {
-    let mut places = 0;
+    let mut places: u32 = 0;
     for i in 0..FRAMES {
         if frames[i] != NONE {
             if places_of(pages, frames, pages[i]) > 1 {
-                places = wrapping_add_u32(places, 1);
+                places = places.wrapping_add(1);
             }
         }
     }
@@ -138,44 +125,45 @@ fn mapped_twice<'a>(pages: &'a [u32; FRAMES], frames: &'a [u8; FRAMES]) -> u32 {
 
 // How many pages are in the table. By SPECIFICATION 7.4 they are as many as were admitted and not dropped.
 fn pages_in_table<'a>(frames: &'a [u8; FRAMES]) -> u32 {
-    let mut pages = 0;
+    let mut pages: u32 = 0;
     for i in 0..FRAMES {
         if frames[i] != NONE {
-            pages = wrapping_add_u32(pages, 1);
+            pages = pages.wrapping_add(1);
         }
     }
     pages
 }
 
-fn tally_facts(tally: Tally) {
-    fact(b"hits", tally.hits);
-    fact(b"joins", tally.joins);
-    fact(b"admitted", tally.admitted);
-    fact(b"revived", tally.revived);
-    fact(b"drops", tally.drops);
-    fact(b"refused", tally.refused);
+fn tally_facts(rt: &impl Print, tally: Tally) -> io::Result<()> {
+    fact(rt, "hits", tally.hits)?;
+    fact(rt, "joins", tally.joins)?;
+    fact(rt, "admitted", tally.admitted)?;
+    fact(rt, "revived", tally.revived)?;
+    fact(rt, "drops", tally.drops)?;
+    fact(rt, "refused", tally.refused)
 }
 
-fn facts(run: Run) {
+fn facts(rt: &impl Print, run: Run) -> io::Result<()> {
     let pool = run.pool;
     let tally = run.tally;
     fact(
-        b"places that map a page twice",
+        rt,
+        "places that map a page twice",
         mapped_twice(&pool.table_pages, &pool.table_frames),
-    );
-    fact(b"calls turned down that changed the pool", run.changed);
-    tally_facts(tally);
-    fact(b"pages in the table", pages_in_table(&pool.table_frames));
+    )?;
+    fact(rt, "calls turned down that changed the pool", run.changed)?;
+    tally_facts(rt, tally)?;
+    fact(rt, "pages in the table", pages_in_table(&pool.table_frames))
 }
 
 // ---- calls
 
-fn started(size: u8, client_count: u8, cap: u8, hand: u32) -> Run {
+fn started(rt: &impl Print, size: u8, client_count: u8, cap: u8, hand: u32) -> io::Result<Run> {
     let done = calls::setup(size, client_count, cap, hand);
     let answer = done.answer;
     let pool = done.pool;
-    line(0, 0, answer);
-    Run {
+    line(rt, 0, 0, answer)?;
+    Ok(Run {
         pool,
         tally: Tally {
             hits: 0,
@@ -190,7 +178,7 @@ fn started(size: u8, client_count: u8, cap: u8, hand: u32) -> Run {
         value: answers::value_of(answer),
         changed: 0,
         seed: 5,
-    }
+    })
 }
 
 // SPECIFICATION 3.10: 1 where a call that was turned down changed the pool.
@@ -209,21 +197,28 @@ fn broke(answer: Answer, before: Pool, after: Pool) -> u32 {
 }
 
 // The run after a call: its line is printed.
-fn told(run: Run, client: u8, answer: Answer, tally: Tally, pool: Pool) -> Run {
-    line(run.at, client, answer);
+fn told(
+    rt: &impl Print,
+    run: Run,
+    client: u8,
+    answer: Answer,
+    tally: Tally,
+    pool: Pool,
+) -> io::Result<Run> {
+    line(rt, run.at, client, answer)?;
     let before = run.pool;
-    Run {
+    Ok(Run {
         pool,
         tally,
-        at: wrapping_add_u32(run.at, 1),
+        at: run.at.wrapping_add(1),
         code: answers::code_of(answer),
         value: answers::value_of(answer),
-        changed: wrapping_add_u32(run.changed, broke(answer, before, pool)),
+        changed: run.changed.wrapping_add(broke(answer, before, pool)),
         seed: run.seed,
-    }
+    })
 }
 
-fn played(run: Run, call: Call) -> Run {
+fn played(rt: &impl Print, run: Run, call: Call) -> io::Result<Run> {
     let pool = run.pool;
     let tally = run.tally;
     match call {
@@ -231,78 +226,78 @@ fn played(run: Run, call: Call) -> Run {
             let done = calls::begin(pool, client, page);
             let answer = done.answer;
             let next = done.pool;
-            told(run, client, answer, tally, next)
+            told(rt, run, client, answer, tally, next)
         }
         Call::Step(client) => {
             let done = calls::step_tallied(pool, client, tally);
             let answer = done.answer;
             let counts = done.tally;
             let next = done.pool;
-            told(run, client, answer, counts, next)
+            told(rt, run, client, answer, counts, next)
         }
         Call::Release(client, page) => {
             let done = calls::release(pool, client, page);
             let answer = done.answer;
             let next = done.pool;
-            told(run, client, answer, tally, next)
+            told(rt, run, client, answer, tally, next)
         }
     }
 }
 
 // A step, unless the last answer was granted, a refusal, or still working at the stage.
-fn short_of(run: Run, client: u8, stage: u32) -> Run {
+fn short_of(rt: &impl Print, run: Run, client: u8, stage: u32) -> io::Result<Run> {
     if run.code > 1 {
-        return run;
+        return Ok(run);
     }
     if run.code == 1 {
         if run.value == stage {
-            return run;
+            return Ok(run);
         }
     }
-    played(run, Call::Step(client))
+    played(rt, run, Call::Step(client))
 }
 
 // A begin, and steps until the client stands at the stage, is granted or is refused.
-fn requested_to(run: Run, client: u8, page: u32, stage: u32) -> Run {
-    let mut now = played(run, Call::Begin(client, page));
+fn requested_to(rt: &impl Print, run: Run, client: u8, page: u32, stage: u32) -> io::Result<Run> {
+    let mut now = played(rt, run, Call::Begin(client, page))?;
     for i in 0u32..60 {
-        now = short_of(now, client, stage);
+        now = short_of(rt, now, client, stage)?;
     }
-    now
+    Ok(now)
 }
 
-fn requested(run: Run, client: u8, page: u32) -> Run {
-    requested_to(run, client, page, 0)
+fn requested(rt: &impl Print, run: Run, client: u8, page: u32) -> io::Result<Run> {
+    requested_to(rt, run, client, page, 0)
 }
 
 // ---- the parts
 
 // Eight grants are given, and the next begin is refused by 12. Then one grant ends, that of an index page, and the ninth page takes its slot when the
 // sweep comes by for the third time.
-fn nine_grants() {
-    let mut run = started(8, 1, 3, 0);
+fn nine_grants(rt: &impl Print) -> io::Result<()> {
+    let mut run = started(rt, 8, 1, 3, 0)?;
     for page in 1u32..10 {
-        run = requested(run, 0, page);
+        run = requested(rt, run, 0, page)?;
     }
-    run = played(run, Call::Step(0));
-    run = played(run, Call::Release(0, 9));
-    run = played(run, Call::Release(0, 1));
-    run = requested(run, 0, 9);
-    facts(run);
+    run = played(rt, run, Call::Step(0))?;
+    run = played(rt, run, Call::Release(0, 9))?;
+    run = played(rt, run, Call::Release(0, 1))?;
+    run = requested(rt, run, 0, 9)?;
+    facts(rt, run)
 }
 
 // Case P6.
-fn revived_page() {
-    let mut run = started(2, 2, 3, 0);
-    run = requested(run, 0, 9);
-    run = requested(run, 0, 5);
-    run = played(run, Call::Release(0, 9));
-    run = played(run, Call::Release(0, 5));
-    run = requested_to(run, 0, 7, 17);
-    run = requested(run, 1, 9);
-    run = played(run, Call::Step(0));
-    run = played(run, Call::Step(0));
-    facts(run);
+fn revived_page(rt: &impl Print) -> io::Result<()> {
+    let mut run = started(rt, 2, 2, 3, 0)?;
+    run = requested(rt, run, 0, 9)?;
+    run = requested(rt, run, 0, 5)?;
+    run = played(rt, run, Call::Release(0, 9))?;
+    run = played(rt, run, Call::Release(0, 5))?;
+    run = requested_to(rt, run, 0, 7, 17)?;
+    run = requested(rt, run, 1, 9)?;
+    run = played(rt, run, Call::Step(0))?;
+    run = played(rt, run, Call::Step(0))?;
+    facts(rt, run)
 }
 
 fn next_seed(seed: u32) -> u32 {
@@ -324,37 +319,40 @@ fn call_by(seed: u32) -> Call {
     Call::Step(client)
 }
 
-fn mixed_on(run: Run) -> Run {
+fn mixed_on(rt: &impl Print, run: Run) -> io::Result<Run> {
     let mut now = run;
     let seed = next_seed(run.seed);
     now.seed = seed;
-    played(now, call_by(seed))
+    played(rt, now, call_by(seed))
 }
 
-fn mixed_calls() {
-    let mut run = started(4, 3, 2, 4294967295);
+fn mixed_calls(rt: &impl Print) -> io::Result<()> {
+    let mut run = started(rt, 4, 3, 2, 4294967295)?;
     for i in 0u32..600 {
-        run = mixed_on(run);
+        run = mixed_on(rt, run)?;
     }
-    facts(run);
+    facts(rt, run)
 }
 
 // Three of case P8's setups, expected from the promise of `setup` alone.
 fn setup_ranges() {
     let largest = calls::setup(64, 16, 100, 0);
     let accepted = largest.answer;
-    check::expect(answers::refusal_of(accepted) == 0);
+    let accepted_number = answers::refusal_of(accepted);
+    prove!(accepted_number == 0);
     let larger = calls::setup(65, 16, 100, 0);
     let refused = larger.answer;
-    check::expect(answers::refusal_of(refused) == 8);
+    let refused_number = answers::refusal_of(refused);
+    prove!(refused_number == 8);
     let capped = calls::setup(64, 16, 101, 0);
     let above = capped.answer;
-    check::expect(answers::refusal_of(above) == 8);
+    let above_number = answers::refusal_of(above);
+    prove!(above_number == 8);
 }
 
-fn main() {
+fn main(rt: HostRuntime) -> io::Result<()> {
     setup_ranges();
-    nine_grants();
-    revived_page();
-    mixed_calls();
+    nine_grants(&rt)?;
+    revived_page(&rt)?;
+    mixed_calls(&rt)
 }

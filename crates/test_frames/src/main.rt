@@ -5,8 +5,8 @@
 // in the comments of `main`.
 #![tactic(auto)]
 
-use libc::STDOUT_FILENO;
-use test_support::{State, print, print_line, release, request, set_up};
+use std::io;
+use test_support::{State, print_line, release, request, set_up};
 
 fn client_of(page: u32) -> u8 {
     (page % 16) as u8
@@ -27,39 +27,38 @@ fn visits(state: State, first: u32, end: u32) -> State {
     at
 }
 
-fn print_taken(state: State, page: u32) {
+fn print_taken(rt: &impl Print, state: State, page: u32) -> io::Result<()> {
     let pool = state.pool;
-    print(page);
-    io::write_all(STDOUT_FILENO, b" ");
-    print_line(pool.last as u32);
+    let last = pool.last;
+    println!(rt; "{page} {last}")
 }
 
-fn main() {
+fn main(rt: HostRuntime) -> io::Result<()> {
     // With C 1 every count is 1 or 0, an index page's too: a sweep evicts the first frame that it meets and that is not held.
     let mut state = set_up(64, 16, 1, 0);
 
     // Each page takes the frame of its own number: the one after the last, and never taken before. Page 94 is kept.
     state = visits(state, 0, 94);
     state = requested(state, 94);
-    print_taken(state, 94);
+    print_taken(&rt, state, 94)?;
     state = visits(state, 95, 96);
-    print_taken(state, 95);
+    print_taken(&rt, state, 95)?;
 
     // The search starts with frame 0, whose page was evicted for page 64.
     state = visits(state, 96, 97);
-    print_taken(state, 96);
+    print_taken(&rt, state, 96)?;
 
     // Frames 1 to 93 once more. Then the search starts with frame 94, which is held, and goes on with frame 95. Page 190 is kept.
     state = visits(state, 97, 190);
-    print_taken(state, 189);
+    print_taken(&rt, state, 189)?;
     state = requested(state, 190);
-    print_taken(state, 190);
+    print_taken(&rt, state, 190)?;
 
     // Frames 0 to 93. Then the search starts with frame 94, and both this and frame 95 are held: it goes on with frame 0.
     state = visits(state, 191, 285);
-    print_taken(state, 284);
+    print_taken(&rt, state, 284)?;
     state = visits(state, 285, 286);
-    print_taken(state, 285);
+    print_taken(&rt, state, 285)?;
     let tally = state.tally;
-    print_line(tally.admitted);
+    print_line(&rt, tally.admitted)
 }

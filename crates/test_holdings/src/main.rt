@@ -7,8 +7,9 @@
 
 ghost use Rattle.std.specs.Prelude.{◌≤◌, length};
 
-use libc::STDIN_FILENO;
 use pool::{Call, Reading};
+use std::io;
+use std::io::Read;
 use test_support::{State, begin, print_on_first, release, set_up, step};
 
 fn after(state: State, call: Call) -> State {
@@ -20,7 +21,7 @@ fn after(state: State, call: Call) -> State {
 }
 
 // The calls after the setup, up to a record that cannot be read.
-fn play_calls(schedule: &[u8], first: State)
+fn play_calls(rt: &impl Print, schedule: &[u8], first: State) -> io::Result<()>
     requires { length schedule.now ≤ 16384 }
 {
     let mut state = first;
@@ -29,33 +30,36 @@ fn play_calls(schedule: &[u8], first: State)
     while place < schedule.len() {
         let reading = records::read(&schedule[place..], false);
         let Reading::Asked(call) = reading else {
-            return;
+            return Ok(());
         };
         place += 8;
         state = after(state, call);
-        print_on_first(state, answers::caller(call), room);
+        print_on_first(rt, state, answers::caller(call), room)?;
         room = (room + 1) % 9;
     }
+    Ok(())
 }
 
-fn play(schedule: &[u8])
+fn play(rt: &impl Print, schedule: &[u8]) -> io::Result<()>
     requires { length schedule.now ≤ 16384 }
 {
     let reading = records::read(schedule, true);
     let Reading::Setup(size, client_count, cap, hand) = reading else {
-        return;
+        return Ok(());
     };
     let done = storeless::setup(size, client_count, cap, hand);
     let answer = done.answer;
     if storeless::refusal_of(answer) == 0 {
-        play_calls(schedule, set_up(size, client_count, cap, hand));
+        play_calls(rt, schedule, set_up(size, client_count, cap, hand))?;
     }
+    Ok(())
 }
 
-fn main() {
-    let mut schedule = [0u8; 16385];
-    let read = io::read_full(STDIN_FILENO, &mut schedule);
+fn main(rt: HostRuntime) -> io::Result<()> {
+    let mut schedule = Vec::new(rt.alloc());
+    let read = rt.stdin().take(16385).read_to_end(&mut schedule)?;
     if read <= 16384 {
-        play(&schedule[..read]);
+        play(&rt, schedule.as_slice())?;
     }
+    Ok(())
 }

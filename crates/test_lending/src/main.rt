@@ -4,6 +4,7 @@
 // drops and refused, a line each. Why `stdout` says what it says is in the comments of `count` and `list`.
 #![tactic(auto)]
 
+use std::io;
 use test_support::{
     State, begin, print_line, print_listed, print_on_first, release, request, set_up, step, steps,
 };
@@ -18,23 +19,26 @@ fn rounds(state: State, n: u8) -> State {
     at
 }
 
-fn print_holdings(state: State, client: u8) {
+fn print_holdings(rt: &impl Print, state: State, client: u8) -> io::Result<()> {
     let pool = state.pool;
-    print_listed(storeless::holdings_on(pool, client, test_support::filler()));
+    print_listed(
+        rt,
+        storeless::holdings_on(pool, client, test_support::filler()),
+    )
 }
 
-fn print_tally(state: State) {
+fn print_tally(rt: &impl Print, state: State) -> io::Result<()> {
     let tally = state.tally;
-    print_line(tally.hits);
-    print_line(tally.joins);
-    print_line(tally.admitted);
-    print_line(tally.revived);
-    print_line(tally.drops);
-    print_line(tally.refused);
+    print_line(rt, tally.hits)?;
+    print_line(rt, tally.joins)?;
+    print_line(rt, tally.admitted)?;
+    print_line(rt, tally.revived)?;
+    print_line(rt, tally.drops)?;
+    print_line(rt, tally.refused)
 }
 
 // The tally, and with it lists of one page and of two.
-fn count() {
+fn count(rt: &impl Print) -> io::Result<()> {
     // S 2, T 2, C 3.
     let mut state = set_up(2, 2, 3, 0);
 
@@ -59,10 +63,10 @@ fn count() {
     state = request(state, 1, 7, 8);
 
     // Client 0 holds 9 and 5, which was granted last; client 1 holds 9. There is no client 2: refusal 9, and no row.
-    print_holdings(state, 0);
-    print_holdings(state, 1);
-    print_holdings(state, 2);
-    print_tally(state);
+    print_holdings(rt, state, 0)?;
+    print_holdings(rt, state, 1)?;
+    print_holdings(rt, state, 2)?;
+    print_tally(rt, state)?;
 
     // Page 5 is not held any more, its count is 1: stages 1, 4, 5, 10, 11, 12 (busy), 11 to 18. At 17 page 5 goes: drops 1; admitted 3.
     state = release(state, 0, 5);
@@ -81,13 +85,13 @@ fn count() {
     state = steps(state, 0, 2);
 
     // Client 0 holds 5, client 1 holds 7: two pages are in the table, and by SPECIFICATION 7.4 there are 4 - 2.
-    print_holdings(state, 0);
-    print_holdings(state, 1);
-    print_tally(state);
+    print_holdings(rt, state, 0)?;
+    print_holdings(rt, state, 1)?;
+    print_tally(rt, state)
 }
 
 // Rows by rising page number, in whichever order the pages were granted (SPECIFICATION 8.1).
-fn list() {
+fn list(rt: &impl Print) -> io::Result<()> {
     // S 8, T 2, C 3. Client 0 gets the largest of all page numbers first, then 0 and 7, each into an empty slot (stages 1, 4 to 9, 18); to begin 7 once
     // more is refused by 18. Client 1 gets the same three by hits, in another order.
     let mut state = set_up(8, 2, 3, 0);
@@ -98,18 +102,18 @@ fn list() {
     state = request(state, 1, 7, 3);
     state = request(state, 1, 4294967295, 3);
     state = request(state, 1, 0, 3);
-    print_holdings(state, 0);
-    print_holdings(state, 1);
+    print_holdings(rt, state, 0)?;
+    print_holdings(rt, state, 1)?;
 
     // Three rows are enough; two are not: refusal 14, and they stay as they were.
-    print_on_first(state, 0, 3);
-    print_on_first(state, 0, 2);
+    print_on_first(rt, state, 0, 3)?;
+    print_on_first(rt, state, 0, 2)?;
 
     // Without 7, which one release ends, two rows are enough. A client that works may be asked, too.
     state = release(state, 0, 7);
-    print_holdings(state, 0);
+    print_holdings(rt, state, 0)?;
     state = begin(state, 0, 5);
-    print_on_first(state, 0, 2);
+    print_on_first(rt, state, 0, 2)?;
 
     // Five more pages for client 1, falling: eight rows, and not one fewer is enough.
     state = request(state, 1, 6, 8);
@@ -117,15 +121,15 @@ fn list() {
     state = request(state, 1, 4, 8);
     state = request(state, 1, 3, 8);
     state = request(state, 1, 2, 8);
-    print_holdings(state, 1);
-    print_on_first(state, 1, 7);
+    print_holdings(rt, state, 1)?;
+    print_on_first(rt, state, 1, 7)?;
 
     // Client 0 once more, on rows that say nothing.
     let pool = state.pool;
-    print_listed(storeless::holdings_of(pool, 0));
+    print_listed(rt, storeless::holdings_of(pool, 0))
 }
 
-fn main() {
-    count();
-    list();
+fn main(rt: HostRuntime) -> io::Result<()> {
+    count(&rt)?;
+    list(&rt)
 }

@@ -5,9 +5,10 @@
 // It prints a line for each: the space's bytes, then the records, the bytes and the refusal that the run returned, then the space's check sum.
 #![tactic(auto)]
 
-ghost use Rattle.std.specs.Prelude.{◌≡◌, ◌≤◌, length};
+ghost use Rattle.std.specs.Prelude.{◌≡◌, ◌≤◌, IfOk, length};
 
-use libc::{STDIN_FILENO, STDOUT_FILENO};
+use std::io;
+use std::io::Read;
 use storeless::Ended;
 
 // The space read as one number, its first byte highest, modulo 4,294,967,291. That is a prime, so any one byte that is not as it should be is seen.
@@ -21,26 +22,21 @@ fn check_sum(space: &[u8]) -> u64 {
     sum
 }
 
-fn print_then(n: u64, after: &[u8]) {
-    io::print_decimal(STDOUT_FILENO, n);
-    io::write_all(STDOUT_FILENO, after);
-}
-
-fn print_line(size: usize, ended: Ended, sum: u64) {
-    print_then(size as u64, b" ");
-    print_then(ended.records as u64, b" ");
-    print_then(ended.bytes as u64, b" ");
-    print_then(ended.refusal as u64, b" ");
-    print_then(sum, b"\n");
+fn print_line(rt: &impl Print, size: usize, ended: Ended, sum: u64) -> io::Result<()> {
+    let records = ended.records;
+    let bytes = ended.bytes;
+    let refusal = ended.refusal;
+    println!(rt; "{size} {records} {bytes} {refusal} {sum}")
 }
 
 // How many bytes of the space the report takes.
-fn play_in(schedule: &[u8], space: &mut [u8]) -> usize
-    ensures { result ≤ length space.new }
+fn play_in(rt: &impl Print, schedule: &[u8], space: &mut [u8]) -> io::Result<usize>
+    ensures { IfOk result (λ n. n ≤ length space.new) }
 {
     let ended = storeless::run(schedule, space);
-    print_line(space.len(), ended, check_sum(space));
-    ended.bytes
+    let bytes = ended.bytes;
+    print_line(rt, space.len(), ended, check_sum(space))?;
+    Ok(bytes)
 }
 
 // 24 bytes more than 2,048 lines can take, each of them 255, which no report has.
@@ -51,27 +47,28 @@ fn new_bytes() -> [u8; 49176]
 }
 
 // Into a new space of so many bytes.
-fn play(schedule: &[u8], size: usize) -> usize
+fn play(rt: &impl Print, schedule: &[u8], size: usize) -> io::Result<usize>
     requires { size ≤ 49176 }
-    ensures { result ≤ size }
+    ensures { IfOk result (λ n. n ≤ size) }
 {
     let mut bytes = new_bytes();
-    play_in(schedule, &mut bytes[..size])
+    play_in(rt, schedule, &mut bytes[..size])
 }
 
 // Spaces of `first` bytes, and of one byte more each, up to fewer than `end`.
-fn play_each(schedule: &[u8], first: usize, end: usize)
+fn play_each(rt: &impl Print, schedule: &[u8], first: usize, end: usize) -> io::Result<()>
     requires { end ≤ 49177 }
 {
     for size in first..end {
-        play(schedule, size);
+        play(rt, schedule, size)?;
     }
+    Ok(())
 }
 
-fn main() {
-    let mut schedule = [0u8; 16385];
-    let read = io::read_full(STDIN_FILENO, &mut schedule);
-    let bytes = play(&schedule[..read], 49152);
-    play_each(&schedule[..read], 0, 49);
-    play_each(&schedule[..read], bytes, bytes + 25);
+fn main(rt: HostRuntime) -> io::Result<()> {
+    let mut schedule = Vec::new(rt.alloc());
+    rt.stdin().take(16385).read_to_end(&mut schedule)?;
+    let bytes = play(&rt, schedule.as_slice(), 49152)?;
+    play_each(&rt, schedule.as_slice(), 0, 49)?;
+    play_each(&rt, schedule.as_slice(), bytes, bytes + 25)
 }

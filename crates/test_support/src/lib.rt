@@ -5,7 +5,7 @@
 ghost use Rattle.std.specs.Prelude.{◌≤◌};
 ghost use Rattle.pool.specs.Limits.{max_held};
 
-use libc::STDOUT_FILENO;
+use std::io;
 use storeless::{Listed, Pool, Row, Tally};
 
 // The pool, and the one tally that is lent to every step.
@@ -69,37 +69,36 @@ pub fn request(state: State, client: u8, page: u32, n: u8) -> State {
     steps(begin(state, client, page), client, n)
 }
 
-pub fn print(n: u32) {
-    io::print_decimal(STDOUT_FILENO, n as u64);
+pub fn print(rt: &impl Print, n: u32) -> io::Result<()> {
+    print!(rt; "{n}")
 }
 
-pub fn print_line(n: u32) {
-    print(n);
-    io::write_all(STDOUT_FILENO, b"\n");
+pub fn print_line(rt: &impl Print, n: u32) -> io::Result<()> {
+    println!(rt; "{n}")
 }
 
-fn print_row(row: Row) {
-    io::write_all(STDOUT_FILENO, b" ");
-    print(row.page);
-    io::write_all(STDOUT_FILENO, b" ");
-    print(row.times as u32);
+fn print_row(rt: &impl Print, row: Row) -> io::Result<()> {
+    let page = row.page;
+    let times = row.times;
+    print!(rt; " {page} {times}")
 }
 
-fn print_rows(rows: [Row; 8]) {
+fn print_rows(rt: &impl Print, rows: [Row; 8]) -> io::Result<()> {
     for i in 0..8 {
-        print_row(rows[i]);
+        print_row(rt, rows[i])?;
     }
+    Ok(())
 }
 
 // A list as its answer's code and value and its rows, a page and its times each, on one line.
-pub fn print_listed(listed: Listed) {
+pub fn print_listed(rt: &impl Print, listed: Listed) -> io::Result<()> {
     let answer = listed.answer;
     let rows = listed.rows;
-    print(storeless::code_of(answer));
-    io::write_all(STDOUT_FILENO, b" ");
-    print(storeless::value_of(answer));
-    print_rows(rows);
-    io::write_all(STDOUT_FILENO, b"\n");
+    let code = storeless::code_of(answer);
+    let value = storeless::value_of(answer);
+    print!(rt; "{code} {value}")?;
+    print_rows(rt, rows)?;
+    println!(rt)
 }
 
 // Every row has the page 77, seven times, so that it is seen which rows are filled (SPECIFICATION 8.2).
@@ -109,9 +108,9 @@ pub fn filler() -> [Row; 8] {
 }
 
 // The client's holdings on the first `room` rows of these.
-pub fn print_on_first(state: State, client: u8, room: usize)
+pub fn print_on_first(rt: &impl Print, state: State, client: u8, room: usize) -> io::Result<()>
     requires { room ≤ max_held }
 {
     let pool = state.pool;
-    print_listed(holdings::on_first(pool, client, filler(), room));
+    print_listed(rt, holdings::on_first(pool, client, filler(), room))
 }

@@ -5,7 +5,8 @@
 // number of bytes. `bench/run` takes the time of a step from it.
 #![tactic(auto)]
 
-use libc::STDIN_FILENO;
+use std::io;
+use std::io::Read;
 use test_support::{State, print_line, request};
 
 // Each of 64 pages into an empty slot, by stages 1, 4 to 9 and 18; every client keeps four of them.
@@ -26,13 +27,13 @@ fn sweeps(state: State, n: usize) -> State {
     at
 }
 
-fn main() {
-    let mut input = [0u8; 4096];
-    let n = io::read_full(STDIN_FILENO, &mut input);
+fn main(rt: HostRuntime) -> io::Result<()> {
+    let mut input = Vec::new(rt.alloc());
+    let n = rt.stdin().take(4096).read_to_end(&mut input)?;
     // S 64, T 16, C 100.
     let mut state = test_support::set_up(64, 16, 100, 0);
     state = fill(state);
     state = sweeps(state, n);
     let tally = state.tally;
-    print_line(tally.refused);
+    print_line(&rt, tally.refused)
 }
