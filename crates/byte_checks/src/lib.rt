@@ -146,7 +146,8 @@ fn unmarked<'a>(filled: &'a [u8; FRAMES], changed: &'a [u8; FRAMES], n: usize) -
         if filled[i] != 0 {
             return false;
         }
-        if changed[i] != 0 {
+        let mark = changed[i];
+        if mark != 0 {
             return false;
         }
     }

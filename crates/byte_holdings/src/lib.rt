@@ -1,8 +1,8 @@
 // Holdings of a pool that has bytes (SPECIFICATION 8.2, 13.11): those of the pool, after a check 8 that looks at the bytes, too. Public, through crate
 // `foqheran`.
 //
-// Check 8 is made in `books`, by value. So `holdings` has no branch and only hands the list on: what is proved of a lent list is proved by hand, and so
-// is kept short. The second clause of each public promise lists by which refusals the call can be refused; 0 is no refusal.
+// Check 8 is made in `books`, by value. So `holdings` has no branch and only hands the list on. The second clause of each public promise lists by
+// which refusals the call can be refused; 0 is no refusal.
 #![tactic(auto)]
 
 ghost use Rattle.std.specs.Prelude.{◌≡◌, List, ℕ, ◌≤◌, take};

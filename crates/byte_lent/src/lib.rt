@@ -1,7 +1,6 @@
 // The step of a pool that has bytes, over a lent tally and a lent store (SPECIFICATION 7.2, 13.4). Public, through crate `foqheran`.
 //
-// All decisions are in crate `byte_step`, with the tally by value. `step` only carries the tally there and back and hands the store on: what is proved of
-// a lent tally is proved by hand, and so is kept short.
+// All decisions are in crate `byte_step`, with the tally by value. `step` only carries the tally there and back and hands the store on.
 #![tactic(auto)]
 
 ghost use Rattle.std.specs.Prelude.{◌≡◌};

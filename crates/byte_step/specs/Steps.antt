@@ -3,7 +3,6 @@ use Rattle.std.proofs.Math.Path.{◌≡◌, refl, sym}
 use Rattle.std.proofs.Common.{ap, subst, ◌∙◌, eq-eqb, ne_eqb}
 use Rattle.std.specs.Prelude.{◌≢◌, true, false, List, ℕ, ◌*◌, length}
 use Rattle.pool.specs.Choose.{choose, both, either}
-use Rattle.pool.specs.State.{total}
 use Rattle.pool.specs.Valid.{valid}
 use Rattle.pool.specs.Answers.{refusal_of}
 use Rattle.pool.specs.Tallies.{tallied}
@@ -11,7 +10,6 @@ use Rattle.pool.specs.declared.Answer.TheVariants.{Refused}
 use Rattle.pool.specs.declared.Call.TheVariants.{Step}
 use Rattle.pool.specs.declared.Pool.{Pool}
 use Rattle.pool.specs.declared.Tally.{Tally}
-use Rattle.pool.specs.declared.Write.{Write}
 use Rattle.answers.specs.Among.{Among}
 use Rattle.answers.specs.Refusals.{by_step}
 use Rattle.memory.specs.Memory.{page_bytes, memory_after, store_after}

@@ -36,15 +36,15 @@ unasked =
 pub kept : Kept
 kept =
     record {
-      setup = λ w names k e. setup.known w names k _ e (setup-met.met w.𝓤 w.𝓛 w.𝓜 w.𝓡);
-      begin = λ w names k e. begin.known w names k _ e (begin-met.met w.𝓤 w.𝓛 w.𝓜 w.𝓡);
-      release = λ w names k e. release.known w names k _ e (release-met.met w.𝓤 w.𝓛 w.𝓜 w.𝓡);
-      step_tallied = λ w names k e. step_tallied.known w names k _ e (step-tallied-met.met w.𝓤 w.𝓛 w.𝓜 w.𝓡);
+      setup = λ w wired names k e. setup.known w names k _ e (setup-met.met w.𝓤 w.𝓛 w.𝓜 w.𝓡 wired);
+      begin = λ w wired names k e. begin.known w names k _ e (begin-met.met w.𝓤 w.𝓛 w.𝓜 w.𝓡 wired);
+      release = λ w wired names k e. release.known w names k _ e (release-met.met w.𝓤 w.𝓛 w.𝓜 w.𝓡 wired);
+      step_tallied = λ w wired names k e. step_tallied.known w names k _ e (step-tallied-met.met w.𝓤 w.𝓛 w.𝓜 w.𝓡 wired);
       step_says = λ w κs b c t s pool client tally store r. refl;
       step = step-met.met;
-      read = λ w names k e. read.known w names k _ e (read-met.met w.𝓤 w.𝓛 w.𝓜 w.𝓡);
-      write = λ w names k e. write.known w names k _ e (write-met.met w.𝓤 w.𝓛 w.𝓜 w.𝓡);
-      holdings_on_call = λ w names k e. holdings_on_call.known w names k _ e (holdings-on-met.met w.𝓤 w.𝓛 w.𝓜 w.𝓡);
+      read = λ w wired names k e. read.known w names k _ e (read-met.met w.𝓤 w.𝓛 w.𝓜 w.𝓡 wired);
+      write = λ w wired names k e. write.known w names k _ e (write-met.met w.𝓤 w.𝓛 w.𝓜 w.𝓡 wired);
+      holdings_on_call = λ w wired names k e. holdings_on_call.known w names k _ e (holdings-on-met.met w.𝓤 w.𝓛 w.𝓜 w.𝓡 wired);
       holdings_says = λ w κs b c l pool client rows a. refl;
       holdings = holdings-met.met;
     }

@@ -38,6 +38,7 @@ use Rattle.memory.specs.Happenings.{Happening, happenings, state_after}
 use Rattle.memory.specs.declared.BufferPool.{BufferPool}
 use Rattle.memory.specs.declared.Memory.{Memory}
 use Rattle.memory.specs.declared.Reply.{Reply}
+use Rattle.memory.specs.declared.Tallied.{Tallied}
 use Rattle.contents.specs.Contents.{Reads, Writes, WritesSome, ReadsLast}
 use Rattle.contents.proofs.LastWritten.{reads_last}
 use Rattle.contents.proofs.SetupKept.{pool_fresh}
@@ -125,8 +126,18 @@ replied x t r z o e = let h = store_stays x r (no_step r z) in (
 request : ClaimRequest
 request x y t u q a (begin {c} {g} r l) = replied x t (Asks (Begin c g)) (λ z. z) r (l.0 x.store)
 request x y t u q a (release {c} {g} r l) = replied x t (Asks (Release c g)) (λ z. z) r (l.0 x.store)
-request x y t u q a (step_tallied n r l) = rw (l.0.0, l.0.1) (refl, refl, refl)
-request x y t u q a (step r l) = rw (l.0, l.2) (refl, refl, l.1)
+request x y t u q a (step_tallied {c} n r {left} l) =
+    let s = call_on x (Asks (Step c)) in (
+      ap (λ (k : Tallied). k.answer) l.0.0,
+      ap (λ (k : Tallied). state_of k.pool left) l.0.0 ∙ ap (state_of (buffer_pool s.state)) l.0.1,
+      ap (λ (k : Tallied). k.tally) l.0.0,
+    )
+request x y t u q a (step {c} r {u = v} {left} l) =
+    let s = call_on x (Asks (Step c)) in (
+      ap (λ (k : Reply). k.answer) l.0,
+      ap (λ (k : Reply). state_of k.pool left) l.0 ∙ ap (state_of (buffer_pool s.state)) l.2,
+      l.1,
+    )
 request x y t u q a (read {c} {g} {o} n r l) = replied x t (ReadByte c g o) (λ z. z) r l.0
 request x y t u q a (write {c} {g} {o} {v} n r l) = replied x t (WriteByte c g o v) (λ z. z) r l.0
 

@@ -4,7 +4,6 @@ use Rattle.std.proofs.Math.Path.{ap}
 use Rattle.std.proofs.Common.{◌∙◌, arith, ltb-true, leb-true}
 use Rattle.pool.specs.declared.Answer.TheVariants.{Done}
 use Rattle.pool.specs.declared.Counted.TheVariants.{Nothing}
-use Rattle.pool.specs.declared.Pool.{Pool}
 use Rattle.laws.specs.Choices.{by_test}
 use Rattle.laws.specs.Scans.{both_true}
 use Rattle.memory.specs.Memory.{page_bytes, max_pages, byte, filled_from, written}

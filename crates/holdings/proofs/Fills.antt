@@ -2,7 +2,7 @@
 use mathlib.Core.Path.{◌≡◌, refl}
 use mathlib.Core.Bool.{Bool, true, false}
 use mathlib.Core.List.{List, ◌++◌}
-use Prim.Native.Nat.{ℕ}
+use Prim.Native.Nat.{ℕ, ◌≤◌}
 use lib.Dec.{eqb}
 use lib.ListN.{length, drop}
 use lib.Seq.{take-append_seam}
@@ -12,7 +12,10 @@ use Rattle.pool.specs.declared.Pool.{Pool}
 use Rattle.pool.specs.declared.Row.{Row}
 use Rattle.pool.specs.declared.Listed.{Listed}
 use Rattle.pool.specs.declared.Answer.TheVariants.{Done, Refused}
+use Rattle.std.proofs.Common.{arith, length-append}
+use Rattle.laws.specs.Choices.{by_test}
 use Rattle.laws.specs.Laid.{laid}
+use Rattle.collecting.specs.Rows.{blank}
 use Rattle.collecting.specs.Collects.{filled, turned_down, collected_of}
 use Rattle.collecting.specs.declared.Collected.{Collected}
 
@@ -29,3 +32,10 @@ fills_list p c lent = by_refusal (rows_of p c) (holdings_refusal p c (length len
         ≡ choose t (listed (Done (length rows)) (rows ++ drop (length rows) lent)) (listed (Refused n) lent)
     by_refusal rows n true = rw (take-append_seam rows)
     by_refusal rows n false = refl
+
+-- of what is collected there are as many rows as it says
+pub rows_there : (p : Pool) (c room : ℕ) → (collected_of p c room).n ≤ length (collected_of p c room).rows
+unfolding collected_of
+rows_there p c room =
+    by_test (λ (x : Collected). x.n ≤ length x.rows)
+    (λ _. omega (arith, length-append (rows_of p c) (drop (length (rows_of p c)) blank))) (λ _. omega arith)

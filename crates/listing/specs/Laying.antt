@@ -1,5 +1,5 @@
 -- How the loop lays rows over the lent numbers, and what each way out of the code comes to. Assumes nothing.
-use Rattle.std.specs.Prelude.{◌≡◌, refl, ◌≢◌, true, false, ℕ, zero, suc, ◌+◌, ◌*◌, ◌<◌, ◌≤◌, leb, get_or, set, take}
+use Rattle.std.specs.Prelude.{◌≡◌, refl, ◌≢◌, false, ℕ, zero, suc, ◌+◌, ◌*◌, ◌<◌, ◌≤◌, leb, get_or, set, take}
 use Rattle.std.proofs.Common.{sym, ◌∙◌, add-one, length-append, take_at}
 use Rattle.std.proofs.Math.Path.{ap}
 use mathlib.Core.List.{List, [], ◌∷◌, ◌++◌}

@@ -41,6 +41,7 @@ fn refusal_at(call: Call, client: Client, grant_pages: &[u32; GRANTS]) -> u8
 }
 
 // By which of 9 to 13 and 18 a call is turned down, 9 where there is no such client; 0: by none of them. The client is not looked at by 9.
+#[tactic(auto, using(laws::specs::Choices::chosen, laws::specs::Choices::passed))]
 pub fn turned_by(call: Call, client_count: u8, client: Client, grant_pages: &[u32; GRANTS]) -> u8
     requires { (client_count ≤ max_clients) × (client.held ≤ max_held) }
     ensures value { (p : Pool) → Caller p call client_count client grant_pages.now → result ≡ turned_by p call }

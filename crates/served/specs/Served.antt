@@ -1,5 +1,5 @@
 -- What each function for other languages promises, and how each way out of its code is that. Assumes nothing.
-use Rattle.std.specs.Prelude.{◌≡◌, ◌≢◌, Bool, true, false, List, ℕ, ◌*◌, ◌/◌, eqb, length, replicate}
+use Rattle.std.specs.Prelude.{◌≡◌, ◌≢◌, Bool, true, false, List, ℕ, ◌*◌, ◌/◌, length, replicate}
 use Rattle.std.proofs.Math.Path.{refl, sym, ap}
 use Rattle.std.proofs.Common.{◌∙◌}
 use borrow.Author.Tests.{eq-eqb, ne_eqb}
@@ -21,7 +21,7 @@ use Rattle.laws.specs.Choices.{chosen, passed}
 use Rattle.memory.specs.Memory.{page_bytes, blank, memory_after, store_after}
 use Rattle.memory.specs.Requests.{Request, Asks, ReadByte, WriteByte, State, Result, turned_back, lent, store_ok, length_ok, setup_on, action_on}
 use Rattle.memory.specs.declared.Memory.{Memory}
-use Rattle.effects.specs.Parts.{replaced_of, marks_after, bytes_after, store_in, memory_in_parts, store_in_parts}
+use Rattle.effects.specs.Parts.{marks_after, bytes_after, store_in, memory_in_parts, store_in_parts}
 use Rattle.filling.specs.Parts.{bytes_filled, marks_filled, byte_in, bytes_written, marks_written}
 use Rattle.filling.specs.Acting.{reads_as, writes_as}
 use Rattle.holding.specs.Holds.{HeldBy}

@@ -34,12 +34,12 @@ unasked =
 pub kept : Kept
 kept =
     record {
-      setup = λ w names k e. setup.known w names k _ e (setup-met.met w.𝓤 w.𝓛 w.𝓜 w.𝓡);
-      begin = λ w names k e. begin.known w names k _ e (begin-met.met w.𝓤 w.𝓛 w.𝓜 w.𝓡);
-      release = λ w names k e. release.known w names k _ e (release-met.met w.𝓤 w.𝓛 w.𝓜 w.𝓡);
-      step = λ w names k e. step.known w names k _ e (step-met.met w.𝓤 w.𝓛 w.𝓜 w.𝓡);
-      read = λ w names k e. read.known w names k _ e (read-met.met w.𝓤 w.𝓛 w.𝓜 w.𝓡);
-      write = λ w names k e. write.known w names k _ e (write-met.met w.𝓤 w.𝓛 w.𝓜 w.𝓡);
-      holdings = λ w names k e. holdings.known w names k _ e (holdings-met.met w.𝓤 w.𝓛 w.𝓜 w.𝓡);
-      check = λ w names k e. check.known w names k _ e (check-met.met w.𝓤 w.𝓛 w.𝓜 w.𝓡);
+      setup = λ w wired names k e. setup.known w names k _ e (setup-met.met w.𝓤 w.𝓛 w.𝓜 w.𝓡 wired);
+      begin = λ w wired names k e. begin.known w names k _ e (begin-met.met w.𝓤 w.𝓛 w.𝓜 w.𝓡 wired);
+      release = λ w wired names k e. release.known w names k _ e (release-met.met w.𝓤 w.𝓛 w.𝓜 w.𝓡 wired);
+      step = λ w wired names k e. step.known w names k _ e (step-met.met w.𝓤 w.𝓛 w.𝓜 w.𝓡 wired);
+      read = λ w wired names k e. read.known w names k _ e (read-met.met w.𝓤 w.𝓛 w.𝓜 w.𝓡 wired);
+      write = λ w wired names k e. write.known w names k _ e (write-met.met w.𝓤 w.𝓛 w.𝓜 w.𝓡 wired);
+      holdings = λ w wired names k e. holdings.known w names k _ e (holdings-met.met w.𝓤 w.𝓛 w.𝓜 w.𝓡 wired);
+      check = λ w wired names k e. check.known w names k _ e (check-met.met w.𝓤 w.𝓛 w.𝓜 w.𝓡 wired);
     }

@@ -2,7 +2,7 @@
 -- `Asked`, what a caller has to show, and `Learnt`, what it learns of the result and of everything lent. A contract that says less makes these say less,
 -- and the proofs of what `Serving.antt` claims fail. Statements only. Assumes nothing.
 use Rattle.std.specs.Prelude.{List, ℕ}
-use Rattle.std.specs.Borrow.{GName, Bor}
+use Rattle.std.specs.Borrow.{GName, Bor, MutBor}
 use contract.Lifetimes.{Lfts}
 use borrow.Fn.Kinds.{Dens}
 use Rattle.walks.specs.Teaching.{Teaches}
@@ -115,8 +115,12 @@ pub record Loans : Type 0 where
   pub ptr : ℕ → ℕ × ℕ
   pub name : ℕ → GName
 
+-- What a function reads, and what it may write.
 abbrev lent : {A : Type 0} → Loans → ℕ → A → Bor A
-lent l i v = record { ref_ptr = l.ptr i; ghost_name = l.name i; now = v }
+lent l i v = record { ref_ptr = l.ptr i; now = v }
+
+abbrev handed : {A : Type 0} → Loans → ℕ → A → MutBor A
+handed l i v = record { ref_ptr = l.ptr i; ghost_name = l.name i; now = v }
 
 -- one argument of a function, and those after it
 infixr 30 ◌&◌
@@ -125,17 +129,17 @@ a & b = (a, b)
 
 -- the books, each part by a reference, before what else is lent
 abbrev LentBooks : Type 0 → Type 0
-LentBooks A = Bor ℕ × (Bor ℕ × (Bor ℕ × (Bor (List ℕ) × (Bor (List ℕ) × (Bor (List ℕ) × (Bor (List ℕ) × (Bor (List ℕ) × (Bor (List ℕ) × (Bor (List ℕ) × (Bor (List ℕ) × (Bor (List ℕ) × (Bor (List ℕ) × A))))))))))))
+LentBooks A = MutBor ℕ × (MutBor ℕ × (MutBor ℕ × (MutBor (List ℕ) × (MutBor (List ℕ) × (MutBor (List ℕ) × (MutBor (List ℕ) × (MutBor (List ℕ) × (MutBor (List ℕ) × (MutBor (List ℕ) × (MutBor (List ℕ) × (MutBor (List ℕ) × (MutBor (List ℕ) × A))))))))))))
 
 abbrev lent_books : {A : Type 0} → Loans → Books → A → LentBooks A
 lent_books l b rest =
-    lent l 0 b.hand & lent l 1 b.free & lent l 2 b.last & lent l 3 b.slots & lent l 4 b.pages & lent l 5 b.pins & lent l 6 b.counts &
-    lent l 7 b.table_pages & lent l 8 b.table_frames & lent l 9 b.client_bytes & lent l 10 b.client_words & lent l 11 b.grant_pages &
-    lent l 12 b.grant_frames & rest
+    handed l 0 b.hand & handed l 1 b.free & handed l 2 b.last & handed l 3 b.slots & handed l 4 b.pages & handed l 5 b.pins & handed l 6 b.counts &
+    handed l 7 b.table_pages & handed l 8 b.table_frames & handed l 9 b.client_bytes & handed l 10 b.client_words & handed l 11 b.grant_pages &
+    handed l 12 b.grant_frames & rest
 
 -- the frames' bytes and marks
-abbrev lent_frames : Loans → Frames → Bor (List ℕ) × (Bor (List ℕ) × (Bor (List ℕ) × Unit {0}))
-lent_frames l f = lent l 13 f.bytes & lent l 14 f.filled & lent l 15 f.changed & tt
+abbrev lent_frames : Loans → Frames → MutBor (List ℕ) × (MutBor (List ℕ) × (MutBor (List ℕ) × Unit {0}))
+lent_frames l f = handed l 13 f.bytes & handed l 14 f.filled & handed l 15 f.changed & tt
 
 -- how many clients there are, their records and grants, for those that only read them
 abbrev lent_grants : Loans → Server → ℕ × (Bor (List ℕ) × (Bor (List ℕ) × (Bor (List ℕ) × (Bor (List ℕ) × Unit {0}))))
@@ -151,7 +155,7 @@ lent_grants l x =
 abbrev pub SetupSays : Lfts 21 → Loans → (s t c h : ℕ) → Server → (r : ℕ) → Server → Type 0
 SetupSays κs l s t c h x r y =
     let given : (Server → Dens κs setup-kinds.ps) = λ z.
-    s & t & c & h & lent l 20 x.store & lent l 21 z.size & lent l 22 z.clients & lent l 23 z.cap & lent l 24 z.pages &
+    s & t & c & h & lent l 20 x.store & handed l 21 z.size & handed l 22 z.clients & handed l 23 z.cap & handed l 24 z.pages &
     lent_books l z.books (lent_frames l z.frames) in
     setup.Learnt κs (given x) r (given y)
 
@@ -169,7 +173,7 @@ ReleaseSays κs l c g x r b =
 abbrev pub StepSays : Lfts 19 → Loans → (c : ℕ) → Server → (t : List ℕ) → (e r : ℕ) → Books → Frames → List ℕ → (u : List ℕ) → (d : ℕ) → Type 0
 StepSays κs l c x t e r b f s u d =
     let given : (List ℕ → ℕ → List ℕ → Frames → Books → Dens κs step-kinds.ps) = λ n k store z w.
-    c & lent l 30 n & lent l 31 k & lent l 20 store & x.pages & lent l 13 z.bytes & lent l 14 z.filled & lent l 15 z.changed &
+    c & handed l 30 n & handed l 31 k & handed l 20 store & x.pages & handed l 13 z.bytes & handed l 14 z.filled & handed l 15 z.changed &
     x.size & x.clients & x.cap & lent_books l w tt in
     step.Learnt κs (given t e x.store x.frames x.books) r (given u d s f b)
 
@@ -177,13 +181,13 @@ StepSays κs l c x t e r b f s u d =
 abbrev pub ReadSays : Lfts 4 → Loans → (c g o : ℕ) → Server → (r : ℕ) → (bytes filled : List ℕ) → Type 0
 ReadSays κs l c g o x r bytes filled =
     let given : (List ℕ → List ℕ → Dens κs read-kinds.ps) = λ b m.
-    c & g & o & lent l 20 x.store & x.pages & lent l 13 b & lent l 14 m & lent_grants l x in
+    c & g & o & lent l 20 x.store & x.pages & handed l 13 b & handed l 14 m & lent_grants l x in
     read.Learnt κs (given x.frames.bytes x.frames.filled) r (given bytes filled)
 
 abbrev pub WriteSays : Lfts 5 → Loans → (c g o v : ℕ) → Server → (r : ℕ) → Frames → Type 0
 WriteSays κs l c g o v x r f =
     let given : (Frames → Dens κs write-kinds.ps) = λ z.
-    c & g & o & v & lent l 20 x.store & x.pages & lent l 13 z.bytes & lent l 14 z.filled & lent l 15 z.changed & lent_grants l x in
+    c & g & o & v & lent l 20 x.store & x.pages & handed l 13 z.bytes & handed l 14 z.filled & handed l 15 z.changed & lent_grants l x in
     write.Learnt κs (given x.frames) r (given f)
 
 -- holdings, lent the numbers t, which leave u
@@ -191,7 +195,7 @@ abbrev pub HoldingsSays : Lfts 2 → Loans → (c : ℕ) → Server → (t : Lis
 HoldingsSays κs l c x t r u =
     let b = x.books in
     let given : (List ℕ → Dens κs holdings-kinds.ps) = λ n.
-    c & lent l 30 n & x.clients & lent l 9 b.client_bytes & lent l 10 b.client_words & lent l 11 b.grant_pages & tt in
+    c & handed l 30 n & x.clients & lent l 9 b.client_bytes & lent l 10 b.client_words & lent l 11 b.grant_pages & tt in
     holdings.Learnt κs (given t) r (given u)
 
 -- check, which only reads
@@ -207,14 +211,14 @@ CheckSays κs l x r =
 -- ---- the code keeps its contracts
 
 pub record Kept : Type 2 where
-  pub setup : Teaches 21 setup-kinds.ps setup-kinds.r setup.Asked setup.Learnt setup-code.routine
-  pub begin : Teaches 13 begin-kinds.ps begin-kinds.r begin.Asked begin.Learnt begin-code.routine
-  pub release : Teaches 13 release-kinds.ps release-kinds.r release.Asked release.Learnt release-code.routine
-  pub step : Teaches 19 step-kinds.ps step-kinds.r step.Asked step.Learnt step-code.routine
-  pub read : Teaches 4 read-kinds.ps read-kinds.r read.Asked read.Learnt read-code.routine
-  pub write : Teaches 5 write-kinds.ps write-kinds.r write.Asked write.Learnt write-code.routine
-  pub holdings : Teaches 2 holdings-kinds.ps holdings-kinds.r holdings.Asked holdings.Learnt holdings-code.routine
-  pub check : Teaches 1 check-kinds.ps check-kinds.r check.Asked check.Learnt check-code.routine
+  pub setup : Teaches 21 setup-kinds.ps setup-kinds.r setup.Asked setup.Learnt setup-code.code setup-code.name
+  pub begin : Teaches 13 begin-kinds.ps begin-kinds.r begin.Asked begin.Learnt begin-code.code begin-code.name
+  pub release : Teaches 13 release-kinds.ps release-kinds.r release.Asked release.Learnt release-code.code release-code.name
+  pub step : Teaches 19 step-kinds.ps step-kinds.r step.Asked step.Learnt step-code.code step-code.name
+  pub read : Teaches 4 read-kinds.ps read-kinds.r read.Asked read.Learnt read-code.code read-code.name
+  pub write : Teaches 5 write-kinds.ps write-kinds.r write.Asked write.Learnt write-code.code write-code.name
+  pub holdings : Teaches 2 holdings-kinds.ps holdings-kinds.r holdings.Asked holdings.Learnt holdings-code.code holdings-code.name
+  pub check : Teaches 1 check-kinds.ps check-kinds.r check.Asked check.Learnt check-code.code check-code.name
 
 -- and asks nothing, of whatever it is lent
 pub record Unasked : Type 2 where

@@ -7,6 +7,7 @@ ghost use Rattle.pool.specs.Tallies.{up, tallied};
 use pool::{Counted, Tally};
 
 // SPECIFICATION 7.1. A count that went on past its largest value would start again from 0.
+#[tactic(auto, using(laws::specs::Choices::tests), unfolding(pool::specs::Tallies::up, pool::specs::Choose::choose))]
 pub fn up(n: u32) -> u32
     ensures { result ≡ up n }
 {
@@ -14,6 +15,7 @@ pub fn up(n: u32) -> u32
 }
 
 // SPECIFICATION 7.1. What an action is counted as is said where it is decided, in crates `stages` and `moves`.
+#[tactic(auto, unfolding(pool::specs::Tallies::tallied))]
 pub fn tallied(counted: Counted, tally: Tally) -> Tally
     ensures { result ≡ tallied counted tally }
 {

@@ -36,13 +36,13 @@ unasked =
 pub kept : Kept
 kept =
     record {
-      setup = λ w names k e. setup.known w names k _ e (setup-met.met w.𝓤 w.𝓛 w.𝓜 w.𝓡);
-      begin = λ w names k e. begin.known w names k _ e (begin-met.met w.𝓤 w.𝓛 w.𝓜 w.𝓡);
-      release = λ w names k e. release.known w names k _ e (release-met.met w.𝓤 w.𝓛 w.𝓜 w.𝓡);
-      step_tallied = λ w names k e. step_tallied.known w names k _ e (step-tallied-met.met w.𝓤 w.𝓛 w.𝓜 w.𝓡);
-      step_of = λ w names k e. step_of.known w names k _ e (step-of-met.met w.𝓤 w.𝓛 w.𝓜 w.𝓡);
-      holdings_on = λ w names k e. holdings_on.known w names k _ e (holdings-on-met.met w.𝓤 w.𝓛 w.𝓜 w.𝓡);
-      holdings_of_call = λ w names k e. holdings_of_call.known w names k _ e (holdings-of-met.met w.𝓤 w.𝓛 w.𝓜 w.𝓡);
+      setup = λ w wired names k e. setup.known w names k _ e (setup-met.met w.𝓤 w.𝓛 w.𝓜 w.𝓡 wired);
+      begin = λ w wired names k e. begin.known w names k _ e (begin-met.met w.𝓤 w.𝓛 w.𝓜 w.𝓡 wired);
+      release = λ w wired names k e. release.known w names k _ e (release-met.met w.𝓤 w.𝓛 w.𝓜 w.𝓡 wired);
+      step_tallied = λ w wired names k e. step_tallied.known w names k _ e (step-tallied-met.met w.𝓤 w.𝓛 w.𝓜 w.𝓡 wired);
+      step_of = λ w wired names k e. step_of.known w names k _ e (step-of-met.met w.𝓤 w.𝓛 w.𝓜 w.𝓡 wired);
+      holdings_on = λ w wired names k e. holdings_on.known w names k _ e (holdings-on-met.met w.𝓤 w.𝓛 w.𝓜 w.𝓡 wired);
+      holdings_of_call = λ w wired names k e. holdings_of_call.known w names k _ e (holdings-of-met.met w.𝓤 w.𝓛 w.𝓜 w.𝓡 wired);
       step_says = λ w κs p c lent pool client tally r. refl;
       step = step-met.met;
       holdings_says = λ w κs p c lent pool client rows a. refl;

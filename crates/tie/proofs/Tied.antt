@@ -28,6 +28,8 @@ use Rattle.laws.specs.Choices.{by_test}
 use Rattle.laws.specs.Setups.{made_fresh}
 use Rattle.calls.specs.Refusals.{setup_refusals, begin_refusals, step_refusals, release_refusals}
 use Rattle.calls.specs.Tallied.{stepped_of}
+use Rattle.calls.specs.declared.Stepped.{Stepped}
+use Rattle.step.specs.declared.Answered.{Answered}
 use Rattle.guarantee.specs.Runs.{events, EndsRequest}
 use Rattle.guarantee.specs.Progress.{Accepting, GetsThrough, StepAnswered}
 use Rattle.guarantee.proofs.Progress.{same_places, of_numbers, steps_there, steps_back}
@@ -60,11 +62,11 @@ unfolding move_of release_move
 release_quiet p c g t = quiet p (Release c g) t (by_test (λ (m : Move). m.counted ≡ Nothing) (λ _. refl) (λ _. refl))
 
 call : ClaimCall
-call p q t u x a (begin {c} {g} r l) = rw l.0 (refl, refl, begin_quiet p c g t)
-call p q t u x a (release {c} {g} r l) = rw l.0 (refl, refl, release_quiet p c g t)
-call p q t u x a (step_tallied r l) = rw l.0 (refl, refl, refl)
-call p q t u x a (step_of r l) = rw l.0 (refl, refl, refl)
-call p q t u x a (step r l) = rw l.0 (refl, refl, l.1)
+call p q t u x a (begin {c} {g} r l) = (ap (λ (o : Outcome). o.answer) l.0, ap (λ (o : Outcome). o.pool) l.0, begin_quiet p c g t)
+call p q t u x a (release {c} {g} r l) = (ap (λ (o : Outcome). o.answer) l.0, ap (λ (o : Outcome). o.pool) l.0, release_quiet p c g t)
+call p q t u x a (step_tallied r l) = (ap (λ (o : Stepped). o.answer) l.0, ap (λ (o : Stepped). o.pool) l.0, ap (λ (o : Stepped). o.tally) l.0)
+call p q t u x a (step_of r l) = (ap (λ (o : Stepped). o.answer) l.0, ap (λ (o : Stepped). o.pool) l.0, ap (λ (o : Stepped). o.tally) l.0)
+call p q t u x a (step r l) = (ap (λ (o : Answered). o.answer) l.0, ap (λ (o : Answered). o.pool) l.0, l.1)
 
 any_tally : ClaimAnyTally
 any_tally p q q' t t' u u' x a a' m n =

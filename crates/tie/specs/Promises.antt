@@ -6,7 +6,7 @@ use Rattle.std.specs.Prelude.{◌≡◌, List, ℕ}
 use base.Logic.{emp}
 use contract.Lifetimes.{Lfts}
 use contract.Monad.{fact}
-use Rattle.std.specs.Borrow.{Bor}
+use Rattle.std.specs.Borrow.{MutBor}
 use denote.Triple.Both.{Both}
 use borrow.Fn.World.{World}
 use Rattle.walks.specs.Teaching.{Teaches}
@@ -88,31 +88,31 @@ pub record Unasked : Type 2 where
   pub release : (p : Pool) (c g : ℕ) → release.Asked tt (p, (c, (g, tt)))
   pub step_tallied : (p : Pool) (c : ℕ) (t : Tally) → step_tallied.Asked tt (p, (c, (t, tt)))
   pub step_of : (p : Pool) (c : ℕ) (t : Tally) → step_of.Asked tt (p, (c, (t, tt)))
-  pub step : (w : World) (κs : Lfts 1) (p : Pool) (c : ℕ) (tally : Bor Tally)
-      → (step.spec w.𝓛 w.𝓜.mem w.𝓡.run κs (p, (c, (tally, tt)))).requires tt ≡ emp w.𝓤
+  pub step : (w : World) (κs : Lfts 1) (p : Pool) (c : ℕ) (tally : MutBor Tally)
+      → (step.spec w.𝓛 w.𝓜.mem w.𝓡.returns κs (p, (c, (tally, tt)))).requires tt ≡ emp w.𝓤
   pub holdings_on : (p : Pool) (c : ℕ) (rows : List Row) → holdings_on.Asked tt (p, (c, (rows, tt)))
   pub holdings_of_call : (p : Pool) (c : ℕ) → holdings_of_call.Asked tt (p, (c, tt))
-  pub holdings : (w : World) (κs : Lfts 1) (p : Pool) (c : ℕ) (rows : Bor (List Row))
-      → (holdings.spec w.𝓛 w.𝓜.mem w.𝓡.run κs (p, (c, (rows, tt)))).requires tt ≡ emp w.𝓤
+  pub holdings : (w : World) (κs : Lfts 1) (p : Pool) (c : ℕ) (rows : MutBor (List Row))
+      → (holdings.spec w.𝓛 w.𝓜.mem w.𝓡.returns κs (p, (c, (rows, tt)))).requires tt ≡ emp w.𝓤
 
 -- ---- the code keeps its contracts
 
 pub record Kept : Type 2 where
-  pub setup : Teaches 0 setup-kinds.ps setup-kinds.r setup.Asked setup.Learnt setup-code.routine
-  pub begin : Teaches 0 begin-kinds.ps begin-kinds.r begin.Asked begin.Learnt begin-code.routine
-  pub release : Teaches 0 release-kinds.ps release-kinds.r release.Asked release.Learnt release-code.routine
-  pub step_tallied : Teaches 0 step-tallied-kinds.ps step-tallied-kinds.r step_tallied.Asked step_tallied.Learnt step-tallied-code.routine
-  pub step_of : Teaches 0 step-of-kinds.ps step-of-kinds.r step_of.Asked step_of.Learnt step-of-code.routine
-  pub holdings_on : Teaches 0 holdings-on-kinds.ps holdings-on-kinds.r holdings_on.Asked holdings_on.Learnt holdings-on-code.routine
-  pub holdings_of_call : Teaches 0 holdings-of-kinds.ps holdings-of-kinds.r holdings_of_call.Asked holdings_of_call.Learnt holdings-of-code.routine
+  pub setup : Teaches 0 setup-kinds.ps setup-kinds.r setup.Asked setup.Learnt setup-code.code setup-code.name
+  pub begin : Teaches 0 begin-kinds.ps begin-kinds.r begin.Asked begin.Learnt begin-code.code begin-code.name
+  pub release : Teaches 0 release-kinds.ps release-kinds.r release.Asked release.Learnt release-code.code release-code.name
+  pub step_tallied : Teaches 0 step-tallied-kinds.ps step-tallied-kinds.r step_tallied.Asked step_tallied.Learnt step-tallied-code.code step-tallied-code.name
+  pub step_of : Teaches 0 step-of-kinds.ps step-of-kinds.r step_of.Asked step_of.Learnt step-of-code.code step-of-code.name
+  pub holdings_on : Teaches 0 holdings-on-kinds.ps holdings-on-kinds.r holdings_on.Asked holdings_on.Learnt holdings-on-code.code holdings-on-code.name
+  pub holdings_of_call : Teaches 0 holdings-of-kinds.ps holdings-of-kinds.r holdings_of_call.Asked holdings_of_call.Learnt holdings-of-code.code holdings-of-code.name
   -- of something lent, as it is at entry and at exit: what is said above is the first clause of the contract; and the function meets its contract
-  pub step_says : (w : World) (κs : Lfts 1) (p : Pool) (c : ℕ) (lent : Bor Tally) (pool : Both Pool Pool) (client : Both ℕ ℕ)
-      (tally : Both (Bor Tally) (Bor Tally)) (r : Answered)
-      → step.ensures-1 w.𝓛 κs w.𝓜.mem w.𝓡.run p c lent pool client tally r
+  pub step_says : (w : World) (κs : Lfts 1) (p : Pool) (c : ℕ) (lent : MutBor Tally) (pool : Both Pool Pool) (client : Both ℕ ℕ)
+      (tally : Both (MutBor Tally) (MutBor Tally)) (r : Answered)
+      → step.ensures-value w.𝓛 κs w.𝓜.mem w.𝓡.returns p c lent pool client tally r
       ≡ fact w.𝓤 (StepSays p c tally.entry.now r tally.exit.now)
   pub step : {M : Type 1} → step-stated.statement M
-  pub holdings_says : (w : World) (κs : Lfts 1) (p : Pool) (c : ℕ) (lent : Bor (List Row)) (pool : Both Pool Pool) (client : Both ℕ ℕ)
-      (rows : Both (Bor (List Row)) (Bor (List Row))) (a : Answer)
-      → holdings.ensures-1 w.𝓛 κs w.𝓜.mem w.𝓡.run p c lent pool client rows a
+  pub holdings_says : (w : World) (κs : Lfts 1) (p : Pool) (c : ℕ) (lent : MutBor (List Row)) (pool : Both Pool Pool) (client : Both ℕ ℕ)
+      (rows : Both (MutBor (List Row)) (MutBor (List Row))) (a : Answer)
+      → holdings.ensures-rows_after w.𝓛 κs w.𝓜.mem w.𝓡.returns p c lent pool client rows a
       ≡ fact w.𝓤 (HoldingsSays p c rows.entry.now a rows.exit.now)
   pub holdings : {M : Type 1} → holdings-stated.statement M

@@ -1,0 +1,10 @@
+-- It is a call of its kind, and `begin_refusals` lists by what such a call can be refused. Assumes nothing.
+use Rattle.calls.specs.Refusals.{begin_refusals}
+use Rattle.calls.proofs.begin.Goals as goal
+
+pub returns : goal.returns
+returns c =
+    record {
+      value = c.call_of.ensures;
+      among = rw c.call_of.ensures (begin_refusals _ _ _);
+    }

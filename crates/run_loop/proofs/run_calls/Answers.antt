@@ -1,0 +1,176 @@
+use borrow.Author.Rules.{rules}
+use native.Mathlib.Omega.{arith}
+use mathlib.Core.Path.{◌≡◌, sym, ap, ◌∙◌}
+use mathlib.Core.Bool.{true, false}
+use mathlib.Core.List.{List}
+use Prim.Native.Nat.{ℕ, ◌-◌, ◌≤◌, ◌<◌}
+use lib.ListN.{length}
+use Rattle.pool.specs.Limits.{max_clients}
+use Rattle.pool.specs.State.{number_of_clients}
+use Rattle.pool.specs.Valid as Valid
+use Rattle.pool.specs.Frames.{free_frame}
+use Rattle.pool.specs.Calls.{caller}
+use Rattle.pool.specs.Schedule.{read}
+use Rattle.pool.specs.declared.Call.{Call}
+use Rattle.pool.specs.declared.Pool.{Pool}
+use Rattle.pool.specs.declared.Reading.TheVariants.{Asked}
+use Rattle.frame_search.specs.Search.{searched}
+use Rattle.report.specs.Lines.{written}
+use Rattle.play.specs.Turn.{client_or_first, as_played}
+use Rattle.play.specs.Parts.{pool_of}
+use Rattle.play.specs.Playable.{record_at, number_small, frames_searchable, playable, turns}
+use Rattle.invariant.proofs.Valid.{valid_reached}
+use Rattle.lines.specs.Rest.{answer_line}
+use Rattle.records.proofs.Readings.{later_unread}
+use Rattle.lines.proofs.Runs.{from, from_length, report_here}
+use Rattle.run_loop.proofs.Going.{at_start, few, record_fits, place_fits, line_fits, falls, comes_to, all_read, full, unread, next}
+use borrow.Enum.Refused.{opened}
+use Rattle.run_loop.proofs.run_calls.Goals as goal
+use Rattle.run_loop.proofs.run_calls.Goals.{then-client-eq4, else-client-eq4}
+
+-- ---- the places of the walk: at the loop's head, past the let .. else, past `client_or_first`, past the search, past the turn
+
+-- ---- what a turn knows
+
+-- ---- the needs
+
+-- ---- a record's turn
+
+pub loop-place-init : goal.loop-place-init
+loop-place-init c =
+    let p = c.requires in
+    at_start p.set_up p.in_bounds.0 p.in_bounds.1 p.in_bounds.2
+
+pub overflow_sub-report : goal.overflow_sub-report
+overflow_sub-report c = c.loop-place.invariant.room
+
+pub shape_of-report-then-report-bytes-lt24 : goal.shape_of-report-then-report-bytes-lt24
+shape_of-report-then-report-bytes-lt24 c = c.loop-place.invariant.size
+
+pub returns-then-report-bytes-lt24 : goal.returns-then-report-bytes-lt24
+returns-then-report-bytes-lt24 c =
+    let l = c.loop-place in
+    let r = comes_to l.invariant _ (full l.invariant c.loop-place-test.true c.if-report-bytes-lt24.true) in
+    (c.ends.ensures ∙ r.0, sym (report_here l.bytes l.records 2 l.report) ∙ r.1)
+
+pub stop-requires : goal.stop-requires
+stop-requires c =
+    let g = c.loop-place.invariant in
+    (line_fits g c.if-report-bytes-lt24.false, few g)
+
+pub shape_of-report-in_default : goal.shape_of-report-in_default
+shape_of-report-in_default c = let same = c.loop-place.invariant.size in search rules
+
+pub returns-in_default : goal.returns-in_default
+returns-in_default c =
+    let g = c.loop-place.invariant in
+    let e = later_unread _ c.read-reading.ensures.value (opened c.in_default.in_default-own.keys2) c.unread_of.ensures in
+    let rest = comes_to g _ (unread g c.loop-place-test.true c.if-report-bytes-lt24.false _ e) in
+    (c.stop.ensures.0 ∙ rest.0, c.stop.ensures.1 ∙ rest.1)
+
+pub overflow_add-place : goal.overflow_add-place
+overflow_add-place c = place_fits c.loop-place.invariant
+
+pub offset_bounds-clients-number : goal.offset_bounds-clients-number
+offset_bounds-clients-number c =
+    let pool_at : Pool = let first = c.args.first in let l = c.loop-place in pool_of first.size (number_of_clients first) first.cap l.hand l.free l.last l.slots l.pages l.pins l.counts l.table_pages l.table_frames l.clients l.grant_pages l.grant_frames in
+    let call_of : Call = c.in-Asked.call in
+    let valid : Valid.valid pool_at ≡ true = valid_reached pool_at c.loop-place.invariant.reached in
+    let number_is : c.client_or_first-number.result ≡ client_or_first (number_of_clients pool_at) (caller call_of) = c.client_or_first-number.ensures ∙ ap (client_or_first (number_of_clients pool_at)) c.caller-caller.ensures in
+    let in_range : c.client_or_first-number.result < max_clients = number_small pool_at call_of valid number_is in
+    omega (arith, in_range)
+
+pub bounds-clients-number : goal.bounds-clients-number
+bounds-clients-number c =
+    let pool_at : Pool = let first = c.args.first in let l = c.loop-place in pool_of first.size (number_of_clients first) first.cap l.hand l.free l.last l.slots l.pages l.pins l.counts l.table_pages l.table_frames l.clients l.grant_pages l.grant_frames in
+    let call_of : Call = c.in-Asked.call in
+    let valid : Valid.valid pool_at ≡ true = valid_reached pool_at c.loop-place.invariant.reached in
+    let number_is : c.client_or_first-number.result ≡ client_or_first (number_of_clients pool_at) (caller call_of) = c.client_or_first-number.ensures ∙ ap (client_or_first (number_of_clients pool_at)) c.caller-caller.ensures in
+    let in_range : c.client_or_first-number.result < max_clients = number_small pool_at call_of valid number_is in
+    in_range
+
+pub free_frame-fresh-requires : goal.free_frame-fresh-requires
+free_frame-fresh-requires c =
+    let pool_at : Pool = let first = c.args.first in let l = c.loop-place in pool_of first.size (number_of_clients first) first.cap l.hand l.free l.last l.slots l.pages l.pins l.counts l.table_pages l.table_frames l.clients l.grant_pages l.grant_frames in
+    let valid : Valid.valid pool_at ≡ true = valid_reached pool_at c.loop-place.invariant.reached in
+    frames_searchable pool_at valid
+
+pub play-turn-requires : goal.play-turn-requires
+play-turn-requires c =
+    let pool_at : Pool = let first = c.args.first in let l = c.loop-place in pool_of first.size (number_of_clients first) first.cap l.hand l.free l.last l.slots l.pages l.pins l.counts l.table_pages l.table_frames l.clients l.grant_pages l.grant_frames in
+    let call_of : Call = c.in-Asked.call in
+    let valid : Valid.valid pool_at ≡ true = valid_reached pool_at c.loop-place.invariant.reached in
+    let number_is : c.client_or_first-number.result ≡ client_or_first (number_of_clients pool_at) (caller call_of) = c.client_or_first-number.ensures ∙ ap (client_or_first (number_of_clients pool_at)) c.caller-caller.ensures in
+    playable pool_at call_of valid number_is
+
+pub offset_bounds-clients-number-in-loop-place : goal.offset_bounds-clients-number-in-loop-place
+offset_bounds-clients-number-in-loop-place c =
+    let pool_at : Pool = let first = c.args.first in let l = c.loop-place in pool_of first.size (number_of_clients first) first.cap l.hand l.free l.last l.slots l.pages l.pins l.counts l.table_pages l.table_frames l.clients l.grant_pages l.grant_frames in
+    let call_of : Call = c.in-Asked.call in
+    let valid : Valid.valid pool_at ≡ true = valid_reached pool_at c.loop-place.invariant.reached in
+    let number_is : c.client_or_first-number.result ≡ client_or_first (number_of_clients pool_at) (caller call_of) = c.client_or_first-number.ensures ∙ ap (client_or_first (number_of_clients pool_at)) c.caller-caller.ensures in
+    let in_range : c.client_or_first-number.result < max_clients = number_small pool_at call_of valid number_is in
+    omega (arith, in_range)
+
+pub bounds-clients-number-in-loop-place : goal.bounds-clients-number-in-loop-place
+bounds-clients-number-in-loop-place c =
+    let pool_at : Pool = let first = c.args.first in let l = c.loop-place in pool_of first.size (number_of_clients first) first.cap l.hand l.free l.last l.slots l.pages l.pins l.counts l.table_pages l.table_frames l.clients l.grant_pages l.grant_frames in
+    let call_of : Call = c.in-Asked.call in
+    let valid : Valid.valid pool_at ≡ true = valid_reached pool_at c.loop-place.invariant.reached in
+    let number_is : c.client_or_first-number.result ≡ client_or_first (number_of_clients pool_at) (caller call_of) = c.client_or_first-number.ensures ∙ ap (client_or_first (number_of_clients pool_at)) c.caller-caller.ensures in
+    let in_range : c.client_or_first-number.result < max_clients = number_small pool_at call_of valid number_is in
+    in_range
+
+pub slice_bounds-write_answer-count : goal.slice_bounds-write_answer-count
+slice_bounds-write_answer-count c = c.loop-place.invariant.room
+
+pub slice_bounds-write_answer-start : goal.slice_bounds-write_answer-start
+slice_bounds-write_answer-start c = c.loop-place.invariant.room
+
+pub write_answer-bytes-requires : goal.write_answer-bytes-requires
+write_answer-bytes-requires c =
+    let records_few : c.loop-place.records ≤ 9999 = few c.loop-place.invariant in
+    let space_left : 24 ≤ length c.loop-place.report - c.loop-place.bytes = c.if-report-bytes-lt24.false in
+    let l = c.loop-place in
+    (rw (from_length l.bytes l.report) space_left, records_few)
+
+pub overflow_add-bytes : goal.overflow_add-bytes
+overflow_add-bytes c =
+    let space_left : 24 ≤ length c.loop-place.report - c.loop-place.bytes = c.if-report-bytes-lt24.false in
+    let g = c.loop-place.invariant in
+    omega (arith, c.write_answer-bytes.ensures.1, space_left, g.room, g.size, c.well_formed)
+
+pub overflow_add-records : goal.overflow_add-records
+overflow_add-records c = record_fits c.loop-place.invariant
+
+pub loop-place-smaller : goal.loop-place-smaller
+loop-place-smaller c = falls c.loop-place.invariant c.loop-place-test.true
+
+pub loop-place-preserved : goal.loop-place-preserved
+loop-place-preserved c =
+    let pool_at : Pool = let first = c.args.first in let l = c.loop-place in pool_of first.size (number_of_clients first) first.cap l.hand l.free l.last l.slots l.pages l.pins l.counts l.table_pages l.table_frames l.clients l.grant_pages l.grant_frames in
+    let call_of : Call = c.in-Asked.call in
+    let is_call : read false (from c.loop-place.place c.args.schedule.now) ≡ Asked call_of = sym c.read-reading.ensures.value ∙ c.in-Asked.is in
+    let valid : Valid.valid pool_at ≡ true = valid_reached pool_at c.loop-place.invariant.reached in
+    let number_is : c.client_or_first-number.result ≡ client_or_first (number_of_clients pool_at) (caller call_of) = c.client_or_first-number.ensures ∙ ap (client_or_first (number_of_clients pool_at)) c.caller-caller.ensures in
+    let space_left : 24 ≤ length c.loop-place.report - c.loop-place.bytes = c.if-report-bytes-lt24.false in
+    let frame_is : (record_at pool_at c.client_or_first-number.result).stage ≡ 4 → c.if-client-eq4.fresh ≡ free_frame (searched pool_at) = λ four. elim c.if-client-eq4.branch [ then-client-eq4 w ↦ w.fresh-is ∙ w.free_frame-fresh.ensures | else-client-eq4 w ↦ absurd (w.if-client-eq4.false four) ] in
+    let wrote = c.write_answer-bytes.ensures in
+    let l = c.loop-place in
+    let done = c.play-turn.ensures l.clients in
+    let is_turn = done.0 (turns pool_at call_of valid number_is frame_is) in
+    let its_line : ℕ → List ℕ = λ client. answer_line l.records client c.play-turn.result.answer in
+    let named = c.caller-caller.ensures in
+    next l.invariant c.loop-place-test.true space_left call_of is_call _
+    (as_played pool_at call_of number_is is_turn done.1)
+    wrote.1 (wrote.0 ∙ ap (λ (client : ℕ). length (its_line client)) named)
+    (wrote.2 ∙ ap (λ (client : ℕ). written (its_line client) (from l.bytes l.report)) named)
+
+pub shape_of-report : goal.shape_of-report
+shape_of-report c = c.loop-place.invariant.size
+
+pub returns : goal.returns
+returns c =
+    let l = c.loop-place in
+    let r = comes_to l.invariant _ (all_read l.invariant c.loop-place-test.false) in
+    (c.ends-2.ensures ∙ r.0, sym (report_here l.bytes l.records 0 l.report) ∙ r.1)

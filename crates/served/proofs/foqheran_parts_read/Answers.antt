@@ -1,0 +1,32 @@
+-- What turns the call down is told first; a call that is not turned down fills the frame of the client's grant. Assumes nothing.
+use mathlib.Core.Path.{refl}
+use mathlib.Core.List.{List}
+use Prim.Native.Nat.{ℕ}
+use Rattle.pool.specs.declared.Pool.{Pool}
+use Rattle.memory.specs.Requests.{State}
+use Rattle.in_place.specs.Held.{state_from}
+use Rattle.served.specs.Served.{read_turned, reads}
+use Rattle.served.proofs.foqheran_parts_read.Goals as goal
+
+pub returns-then-n-ne0 : goal.returns-then-n-ne0
+returns-then-n-ne0 c =
+    let state_of : Pool → List ℕ → State = λ p changed. let a = c.args in state_from p a.store_pages a.bytes.now a.filled.now changed a.store.now in
+    let a = c.args in
+    λ p changed k.
+    let x = state_of p changed in
+    read_turned x a.client a.page a.offset (c.holder_of-holder.ensures.held_by x k refl refl) c.if-n-ne0.true c.word.ensures
+
+pub fill-requires : goal.fill-requires
+fill-requires c = (c.holder_of-holder.ensures.lent_value c.if-n-ne0.false).0
+
+pub byte_of-byte-requires : goal.byte_of-byte-requires
+byte_of-byte-requires c = (c.holder_of-holder.ensures.lent_value c.if-n-ne0.false).1
+
+pub returns : goal.returns
+returns c =
+    let state_of : Pool → List ℕ → State = λ p changed. let a = c.args in state_from p a.store_pages a.bytes.now a.filled.now changed a.store.now in
+    let a = c.args in
+    λ p changed k.
+    let x = state_of p changed in
+    reads x a.client a.page a.offset (c.holder_of-holder.ensures.held_by x k refl refl) c.if-n-ne0.false c.fill.ensures.0 c.fill.ensures.1
+    c.byte_of-byte.ensures c.word-2.ensures

@@ -1,0 +1,14 @@
+-- The code and `stage19` test the same numbers in the same order, and each call ensures that branch of the definition. Assumes nothing.
+use Rattle.std.proofs.Common.{◌∙◌}
+use Rattle.pool.specs.Choose.{choose}
+use Rattle.pool.specs.Stages.{stage19}
+use Rattle.laws.specs.Choices.{tests}
+use Rattle.stages.proofs.stage19.Goals as goal
+
+pub returns-then-pins-eq-EVICTED : goal.returns-then-pins-eq-EVICTED
+unfolding stage19 choose
+returns-then-pins-eq-EVICTED c = c.works.ensures ∙ search tests
+
+pub returns : goal.returns
+unfolding stage19 choose
+returns c = c.works-2.ensures ∙ search tests

@@ -1,0 +1,6 @@
+-- A run's lines stand at the start of the space that it leaves. Assumes nothing.
+use Rattle.schedule.specs.Written.{within_report}
+use Rattle.test_spaces.proofs.play_in.Goals as goal
+
+pub returns : goal.returns
+returns g c = within_report _ _ c.run-ended.ensures.0 c.run-ended.ensures.1

@@ -1,3 +1,0 @@
-pub mod Lending
-pub mod Machine
-pub mod Promises
