@@ -112,6 +112,36 @@ def two_at_once():
     return "./replay, two at once: one builds"
 
 
+# As rt does, it keeps others out of the folder where it works, and of the top.
+LOCKING = """\
+#!/bin/sh
+for folder in . ../..; do
+    flock --nonblock $folder true || exit 1
+done
+""" + BUILT.partition("\n")[2]
+
+
+def rt_locks_too():
+    """What keeps a second ./replay out is no folder that rt locks."""
+    with a_top(None, LOCKING) as top:
+        write_program(top / "player", PLAYER)
+        same(run(top, data=EXAMPLE), (0, LISTING, PROGRESS),
+             "a run with an rt that locks the folders")
+    return "./replay, beside an rt that locks folders"
+
+
+def rt_waits():
+    """A line says so where rt waits for another rt."""
+    line = "waiting for another rt to finish in crates/pool"
+    waiting = BUILT.replace("exec >&2\n", 'exec >&2\necho "rt: %s"\n' % line)
+    with a_top(None, waiting) as top:
+        write_program(top / "player", PLAYER)
+        same(run(top, data=EXAMPLE),
+             (0, LISTING, PROGRESS.replace(PROVING, PROVING + "replay: %s\n"
+                                           % line)), "what is said of waiting")
+    return "./replay, while rt waits"
+
+
 def interrupted():
     """Ctrl-C ends rt, too, and there is no traceback."""
     with a_top(None, "#!/bin/sh\necho $$ >../../asked\nsleep 60\n") as top:
@@ -133,4 +163,5 @@ def interrupted():
     return "./replay, ended by Ctrl-C"
 
 
-TESTS = (proofs, failed_proofs, two_at_once, interrupted)
+TESTS = (proofs, failed_proofs, two_at_once, rt_locks_too, rt_waits,
+         interrupted)

@@ -29,6 +29,7 @@ def say(message):
 # The program, proved and built.
 
 MADE = TOP / "crates" / "replay" / "out" / "replay"  # by rt
+LOCK = TOP / "target" / "replay.lock"  # our own, as rt locks the folders
 BEGUN = re.compile(r"chose --jobs \d+ for (\w+)")
 
 
@@ -60,6 +61,8 @@ def follow(output, log):
             match = BEGUN.fullmatch(last)
             if match:
                 crate, since = match[1], time.monotonic()
+            elif "waiting for" in last:  # another rt, which works there
+                say(last)
         elif line.startswith(b"logic=proved") and crate in crates:
             proved.add(crate)
             say("%d of %d proved: %s (%.0f s)"
@@ -112,25 +115,28 @@ def prove():
                         % (status, last, path))
     os.remove(path)
     PROGRAM.parent.mkdir(parents=True, exist_ok=True)
-    shutil.copy(MADE, PROGRAM)
-    os.utime(PROGRAM, ns=(begun, begun))  # later changes are not in it
+    made = PROGRAM.with_suffix(".new")  # takes its place when it is whole
+    shutil.copy(MADE, made)
+    os.utime(made, ns=(begun, begun))  # later changes are not in it
+    made.replace(PROGRAM)
 
 
 @contextlib.contextmanager
 def alone():
     """Let one ./replay at a time do this; the others wait."""
-    folder = os.open(TOP, os.O_RDONLY)
+    LOCK.parent.mkdir(exist_ok=True)
+    file = os.open(LOCK, os.O_WRONLY | os.O_CREAT, 0o666)
     try:
         with contextlib.suppress(OSError):  # not all file systems have locks
             try:
-                fcntl.flock(folder, fcntl.LOCK_EX | fcntl.LOCK_NB)
+                fcntl.flock(file, fcntl.LOCK_EX | fcntl.LOCK_NB)
             except BlockingIOError:
                 say("waiting for another ./replay, which proves and builds "
                     "the program")
-                fcntl.flock(folder, fcntl.LOCK_EX)
+                fcntl.flock(file, fcntl.LOCK_EX)
         yield
     finally:
-        os.close(folder)
+        os.close(file)
 
 
 def build():

@@ -100,16 +100,22 @@ def read_report(data, schedule):
     return answers
 
 
+def sources():
+    """What the program is made of: of a crate all but out/, which is rt's."""
+    yield TOP / "crates.txt"
+    for part in (TOP / "crates").glob("*/*"):
+        if part.name != "out":
+            yield part
+            yield from part.rglob("*")
+
+
 def is_built():
     """Whether the proved program is there and no source is newer."""
     if not PROGRAM.exists():
         return False
-    # All that a crate has but out/, which rt makes there.
-    sources = (TOP / "crates.txt", *(TOP / "crates").glob("*/[!o]*"),
-               *(TOP / "crates").glob("*/[!o]*/**/*"))
     built = PROGRAM.stat().st_mtime
     # A link that leads nowhere, as some editors make, is a file, too.
-    return all(source.lstat().st_mtime <= built for source in sources)
+    return all(source.lstat().st_mtime <= built for source in sources())
 
 
 def proved_report(schedule):
