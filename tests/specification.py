@@ -11,7 +11,9 @@ these cites the clause. Whatever is cited, in any file, is there. The tables
 of stages and refusals have a row for each, in the words of tools/schedule,
 and a stage leads where it leads in the runs of the second program. The
 limits, the example and the names of the worked cases are the sources', and so
-are the numbers of claim 24, on whichever page they are written.
+are the numbers of claim 24, on whichever page they are written. What is
+exported to other languages promises, clause for clause, what the function
+promises that the claims are about.
 """
 
 import os
@@ -503,8 +505,36 @@ def bounds():
             % (count, len(table)))
 
 
+def functions(crate):
+    """The public functions of a crate's root file: parameters, the rest of
+    what stands before the body, and the body, each on one line."""
+    found = re.findall(r'^pub (?:extern "C" )?fn (\w+)([^(]*\(.*?\))( -> .*?)'
+                       r"\n\{\n(.*?)\n\}\n",
+                       read(TOP / "crates" / crate / "src" / "lib.rt"),
+                       re.M | re.S)
+    return {name: [re.sub(r"(?<=\() | (?=\))|,(?= ?\))", "", " ".join(
+        part.split())) for part in parts] for name, *parts in found}
+
+
+def exports():
+    """An export is the function of its name, and promises the same."""
+    count = 0
+    for crate, exporting in ("served", "served_c"), ("exported", "exported_c"):
+        inner, outer = functions(crate), functions(exporting)
+        need(inner, "crate %s has no function" % crate)
+        same(list(outer), list(inner), "what %s exports" % exporting)
+        for name, (parameters, promise, body) in outer.items():
+            same([parameters, promise], inner[name][:2],
+                 "parameters and promise of %s in %s" % (name, exporting))
+            handed = ", ".join(re.findall(r"(\w+): ", parameters))
+            same(body, "%s::%s(%s)" % (crate, name, handed),
+                 "what %s in %s does" % (name, exporting))
+            count += 1
+    return "%d exports: each promises what the function within does" % count
+
+
 TESTS = (numbering, definitions, cited_where_defined, citations, statements,
-         stages, refusals, limits, rules, example, cases, bounds)
+         stages, refusals, limits, rules, example, cases, bounds, exports)
 
 
 if __name__ == "__main__":

@@ -1,4 +1,4 @@
-// The run for Rust and C to call: slices and numbers only. Public: for programs in other languages.
+// The run for Rust and C to call: slices and numbers only. Public: for programs in other languages, to which crate `exported_c` exports it.
 #![tactic(auto)]
 
 ghost use Rattle.std.specs.Prelude.{◌≡◌};

@@ -1,7 +1,6 @@
 // The step over a lent tally (SPECIFICATION 7.2). Public, through crate `storeless`.
 //
-// The stages and all counting are by value, in crate `calls`. `step` only carries the tally there and back: what is proved of a lent tally is proved
-// by hand, and so is kept short.
+// The stages and all counting are by value, in crate `calls`. `step` only carries the tally there and back.
 #![tactic(auto)]
 
 ghost use Rattle.std.specs.Prelude.{◌≡◌};

@@ -1,5 +1,5 @@
 // What the test programs share: a pool with the one tally that is lent to every step, and a holdings list printed. It lends through
-// `storeless::step_of` and `holdings::on_first`, which own what they lend, so nothing here is walked by hand. Internal.
+// `storeless::step_of` and `holdings::on_first`, which own what they lend. Internal.
 #![tactic(auto)]
 
 ghost use Rattle.std.specs.Prelude.{◌≤◌};

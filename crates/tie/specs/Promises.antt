@@ -1,7 +1,7 @@
 -- What the contracts of the public calls say. They are named and not restated: of a contract that stands in the code the toolchain makes `Asked`,
 -- what a caller has to show, and `Learnt`, what it learns of the result. A contract that says less makes these say less, and the proofs of what
--- `Ties.antt` claims fail. A function over something lent is proved by hand, and the toolchain makes no such reading of it: it is written here, and
--- `Kept` claims that it is the contract's own clause. Statements only. Assumes nothing.
+-- `Ties.antt` claims fail. Of a function over something lent it is written here what its contract says, and `Kept` claims that it is the contract's
+-- own clause. Statements only. Assumes nothing.
 use Rattle.std.specs.Prelude.{◌≡◌, List, ℕ}
 use base.Logic.{emp}
 use contract.Lifetimes.{Lfts}
