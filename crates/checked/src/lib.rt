@@ -11,6 +11,9 @@ ghost use Rattle.checked.specs.Ways.{unmade_by, made_of};
 use copied::Made;
 use pool::{Answer, Call, Counted, Outcome, Pool, Write};
 
+// The one refusal that leaves what its client did (SPECIFICATION 3.9): the sweep met only busy slots.
+const ALL_BUSY: u8 = 15;
+
 // The pool as it was, and the number that the call is refused by.
 pub fn turned_down(n: u8, pool: Pool) -> Outcome
     ensures { result ≡ turned_down n pool }
@@ -55,7 +58,7 @@ pub fn call_made(pool: Pool, call: Call) -> Made
     let turned = copied::on_copy(pool, call);
     let answer = turned.answer;
     let refused = answers::refusal_of(answer);
-    if refused != 0 && refused != 15 {
+    if refused != 0 && refused != ALL_BUSY {
         return unmade(refused, pool);
     }
     let clients = turned.pool.clients;

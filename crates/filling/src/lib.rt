@@ -11,6 +11,7 @@ use memory::{BYTES, MAX_PAGES, PAGE};
 use pool::FRAMES;
 
 // SPECIFICATION 13.1: whether a store may have n bytes.
+#[tactic(auto, using(laws::specs::Choices::chosen, laws::specs::Choices::passed), unfolding(memory::specs::Requests::length_ok, pool::specs::Choose::both))]
 pub fn length_ok(n: usize) -> bool
     ensures { result ≡ length_ok n }
 {
@@ -45,7 +46,8 @@ pub fn fill(
 {
     let at = f as usize;
     if at < FRAMES {
-        if filled[at] == 0 {
+        let mark = filled[at];
+        if mark == 0 {
             if page < pages as u32 {
                 carrying::copy_page(bytes, PAGE * at, store, PAGE * page as usize);
                 filled[at] = 1;

@@ -9,12 +9,15 @@ ghost use Rattle.pool.specs.Schedule.{end_of, report_of};
 
 use pool::{Ended, Reading};
 
+// The bytes of the longest file that is played (refusal 1).
+const LONGEST: usize = 16384;
+
 // The run of a whole schedule, its report written at the start of the space that is lent.
 pub fn run(schedule: &[u8], report: &mut [u8]) -> Ended
     ensures { (result ≡ end_of schedule.now report.old)
         × (report.new ≡ report_of schedule.now report.old) }
 {
-    if schedule.len() > 16384 {
+    if schedule.len() > LONGEST {
         return lines::ends(0, 0, 1);
     }
     if report.len() < 24 {

@@ -212,7 +212,8 @@ pub fn stage14(client: Client, pins: u8, size: u8) -> Move
     requires { client.place < size }
     ensures { result ≡ stage14 client pins size }
 {
-    if pins == NO_PIN {
+    let unused = pins == NO_PIN;
+    if unused {
         return moves::works(client, 15, Write::PutPins(client.victim, EVICTED));
     }
     moves::next_slot(client, size, Write::Keep)

@@ -8,7 +8,6 @@
 use memory::Tallied;
 use pool::{Answer, Tally};
 use std::io;
-use std::io::Read;
 
 fn request(state: Tallied, client: u8, page: u32, n: u8, store: &mut [u8]) -> Tallied {
     let mut at = state;
@@ -51,8 +50,8 @@ fn sweeps(state: Tallied, n: usize, store: &mut [u8]) -> Tallied {
 }
 
 fn main(rt: HostRuntime) -> io::Result<()> {
-    let mut input = Vec::new(rt.alloc());
-    let n = rt.stdin().take(4096).read_to_end(&mut input)?;
+    let mut input = [0u8; 4096];
+    let n = input::read_full(&mut rt.stdin(), &mut input)?;
     let mut store = [0u8; 16384];
     let done = buffered::setup(64, 16, 100, 0, &store);
     let pool = done.pool;

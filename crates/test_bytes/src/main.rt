@@ -26,7 +26,7 @@ ghost use Rattle.std.specs.Prelude.{◌+◌, ◌≤◌, ◌<◌, length};
 use memory::{BufferPool, Reply, Tallied};
 use pool::{Answer, HELD, Listed, Row, Tally};
 use std::io;
-use std::io::{Read, Write};
+use std::io::Write;
 
 // ---- what is printed
 
@@ -457,9 +457,9 @@ fn put_first(space: &mut [u8]) {
 }
 
 fn main(rt: HostRuntime) -> io::Result<()> {
-    let mut script = Vec::new(rt.alloc());
-    rt.stdin().take(8192).read_to_end(&mut script)?;
+    let mut script = [0u8; 8192];
+    let n = input::read_full(&mut rt.stdin(), &mut script)?;
     let mut space = [0u8; 16512];
     put_first(&mut space);
-    play(&rt, script.as_slice(), &mut space)
+    play(&rt, &script[..n], &mut space)
 }

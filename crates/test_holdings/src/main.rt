@@ -9,7 +9,6 @@ ghost use Rattle.std.specs.Prelude.{◌≤◌, length};
 
 use pool::{Call, Reading};
 use std::io;
-use std::io::Read;
 use test_support::{State, begin, print_on_first, release, set_up, step};
 
 fn after(state: State, call: Call) -> State {
@@ -56,10 +55,10 @@ fn play(rt: &impl Print, schedule: &[u8]) -> io::Result<()>
 }
 
 fn main(rt: HostRuntime) -> io::Result<()> {
-    let mut schedule = Vec::new(rt.alloc());
-    let read = rt.stdin().take(16385).read_to_end(&mut schedule)?;
+    let mut schedule = [0u8; 16385];
+    let read = input::read_full(&mut rt.stdin(), &mut schedule)?;
     if read <= 16384 {
-        play(&rt, schedule.as_slice())?;
+        play(&rt, &schedule[..read])?;
     }
     Ok(())
 }

@@ -8,7 +8,6 @@
 ghost use Rattle.std.specs.Prelude.{◌≡◌, ◌≤◌, IfOk, length};
 
 use std::io;
-use std::io::Read;
 use storeless::Ended;
 
 // The space read as one number, its first byte highest, modulo 4,294,967,291. That is a prime, so any one byte that is not as it should be is seen.
@@ -66,9 +65,9 @@ fn play_each(rt: &impl Print, schedule: &[u8], first: usize, end: usize) -> io::
 }
 
 fn main(rt: HostRuntime) -> io::Result<()> {
-    let mut schedule = Vec::new(rt.alloc());
-    rt.stdin().take(16385).read_to_end(&mut schedule)?;
-    let bytes = play(&rt, schedule.as_slice(), 49152)?;
-    play_each(&rt, schedule.as_slice(), 0, 49)?;
-    play_each(&rt, schedule.as_slice(), bytes, bytes + 25)
+    let mut schedule = [0u8; 16385];
+    let read = input::read_full(&mut rt.stdin(), &mut schedule)?;
+    let bytes = play(&rt, &schedule[..read], 49152)?;
+    play_each(&rt, &schedule[..read], 0, 49)?;
+    play_each(&rt, &schedule[..read], bytes, bytes + 25)
 }

@@ -6,7 +6,6 @@
 #![tactic(auto)]
 
 use std::io;
-use std::io::Read;
 use test_support::{State, print_line, request};
 
 // Each of 64 pages into an empty slot, by stages 1, 4 to 9 and 18; every client keeps four of them.
@@ -28,8 +27,8 @@ fn sweeps(state: State, n: usize) -> State {
 }
 
 fn main(rt: HostRuntime) -> io::Result<()> {
-    let mut input = Vec::new(rt.alloc());
-    let n = rt.stdin().take(4096).read_to_end(&mut input)?;
+    let mut input = [0u8; 4096];
+    let n = input::read_full(&mut rt.stdin(), &mut input)?;
     // S 64, T 16, C 100.
     let mut state = test_support::set_up(64, 16, 100, 0);
     state = fill(state);

@@ -12,7 +12,7 @@ use Rattle.play.specs.Turn.{turn, played}
 use Rattle.copied.specs.declared.Made.{Made}
 use Rattle.checked.specs.Ways.{as_unmade, nothing_changes, breaks, as_made}
 use Rattle.checked.proofs.call_made.Goals as goal
-use Rattle.checked.proofs.call_made.Goals.{else-refused-ne0-via-then-refused-ne0+else-refused-ne15, else-refused-ne0-via-else-refused-ne0}
+use Rattle.checked.proofs.call_made.Goals.{else-refused-ne0-via-then-refused-ne0+else-refused-ne-ALL_BUSY, else-refused-ne0-via-else-refused-ne0}
 
 refused_is_3 : (c : goal.Else-not-still_sound) → let a = c.args in c.refusal_of-refused.result ≡ refusal_of (turn a.pool a.call).answer
 refused_is_3 c = c.refusal_of-refused.ensures ∙ ap (λ (o : Made). refusal_of o.answer) c.on_copy-turned.ensures
@@ -28,7 +28,7 @@ not_8_2 c e =
     let n = c.refusal_of-refused.result in
     let eight : n ≡ 8 = refused_is_3 c ∙ e in
     elim c.else-refused-ne0.branch [
-      | else-refused-ne0-via-then-refused-ne0+else-refused-ne15 w ↦ omega arith
+      | else-refused-ne0-via-then-refused-ne0+else-refused-ne-ALL_BUSY w ↦ omega arith
       | else-refused-ne0-via-else-refused-ne0 w ↦ omega arith
     ]
 
@@ -37,7 +37,7 @@ not_8 c e =
     let n = c.refusal_of-refused.result in
     let eight : n ≡ 8 = refused_is_2 c ∙ e in
     elim c.else-refused-ne0.branch [
-      | else-refused-ne0-via-then-refused-ne0+else-refused-ne15 w ↦ omega arith
+      | else-refused-ne0-via-then-refused-ne0+else-refused-ne-ALL_BUSY w ↦ omega arith
       | else-refused-ne0-via-else-refused-ne0 w ↦ omega arith
     ]
 
@@ -57,11 +57,11 @@ next_is c e =
     let o = c.on_copy-turned in
     ap (λ (o : Made). valid o.pool) (sym o.ensures) ∙ sym (of_parts o.result.pool) ∙ sym c.parts_ok-still_sound.ensures ∙ e
 
-pub returns-then-refused-ne15 : goal.returns-then-refused-ne15
-returns-then-refused-ne15 c =
+pub returns-then-refused-ne-ALL_BUSY : goal.returns-then-refused-ne-ALL_BUSY
+returns-then-refused-ne-ALL_BUSY c =
     c.unmade.ensures
     ∙ as_unmade c.args.pool c.args.call _ (nothing_changes c.args.pool c.args.call c.requires _ (refused_is c)
-    c.if-refused-ne0.true (eqb-false _ _ (not-true _ c.if-refused-ne15.true-raw)))
+    c.if-refused-ne0.true (eqb-false _ _ (not-true _ c.if-refused-ne-ALL_BUSY.true-raw)))
 
 pub returns-then-not-still_sound : goal.returns-then-not-still_sound
 returns-then-not-still_sound c =

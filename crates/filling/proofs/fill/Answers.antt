@@ -7,19 +7,19 @@ use Rattle.filling.proofs.fill.Goals as goal
 pub returns-then-page-pages : goal.returns-then-page-pages
 unfolding bytes_filled marks_filled
 returns-then-page-pages c =
-    let now = is_wanted _ _ _ _ c.if-at-lt-FRAMES.true c.if-filled-at-eq0.true c.if-page-pages.true in
+    let now = is_wanted _ _ _ _ c.if-at-lt-FRAMES.true c.if-mark-eq0.true c.if-page-pages.true in
     (c.copy_page.ensures ∙ sym (chosen _ _ _ now), sym (chosen _ _ _ now))
 
 pub returns-else-page-pages : goal.returns-else-page-pages
 unfolding bytes_filled marks_filled
 returns-else-page-pages c =
-    let not_now = no_page _ _ _ _ c.if-at-lt-FRAMES.true c.if-filled-at-eq0.true c.if-page-pages.false in
+    let not_now = no_page _ _ _ _ c.if-at-lt-FRAMES.true c.if-mark-eq0.true c.if-page-pages.false in
     (sym (passed _ _ _ not_now), sym (passed _ _ _ not_now))
 
-pub returns-else-filled-at-eq0 : goal.returns-else-filled-at-eq0
+pub returns-else-mark-eq0 : goal.returns-else-mark-eq0
 unfolding bytes_filled marks_filled
-returns-else-filled-at-eq0 c =
-    let not_now = is_full _ _ _ _ c.if-at-lt-FRAMES.true c.if-filled-at-eq0.false in
+returns-else-mark-eq0 c =
+    let not_now = is_full _ _ _ _ c.if-at-lt-FRAMES.true c.if-mark-eq0.false in
     (sym (passed _ _ _ not_now), sym (passed _ _ _ not_now))
 
 pub returns-else-at-lt-FRAMES : goal.returns-else-at-lt-FRAMES

@@ -23,20 +23,20 @@ use Rattle.schedule.proofs.run.Goals as goal
 
 -- ---- its line
 
-pub returns-then-schedule-gt16384 : goal.returns-then-schedule-gt16384
-returns-then-schedule-gt16384 c =
-    let w = whole_run _ _ _ (too_long _ _ c.if-schedule-gt16384.true) in
+pub returns-then-schedule-gt-LONGEST : goal.returns-then-schedule-gt-LONGEST
+returns-then-schedule-gt-LONGEST c =
+    let w = whole_run _ _ _ (too_long _ _ c.if-schedule-gt-LONGEST.true) in
     (c.ends.ensures ∙ w.0, sym (report_here 0 0 1 _) ∙ w.1)
 
 pub returns-then-report-lt24 : goal.returns-then-report-lt24
 returns-then-report-lt24 c =
-    let w = whole_run _ _ _ (no_room _ _ c.if-schedule-gt16384.false c.if-report-lt24.true) in
+    let w = whole_run _ _ _ (no_room _ _ c.if-schedule-gt-LONGEST.false c.if-report-lt24.true) in
     (c.ends-then-report-lt24.ensures ∙ w.0, sym (report_here 0 0 2 _) ∙ w.1)
 
 pub returns-in_default : goal.returns-in_default
 returns-in_default c =
     let e = first_unread _ c.read-reading.ensures.value (opened c.in_default.in_default-own.keys2) c.unread_of.ensures in
-    let w = whole_run _ _ _ (unread_first _ _ c.if-schedule-gt16384.false c.if-report-lt24.false _ e) in
+    let w = whole_run _ _ _ (unread_first _ _ c.if-schedule-gt-LONGEST.false c.if-report-lt24.false _ e) in
     (c.stop.ensures.0 ∙ w.0, c.stop.ensures.1 ∙ w.1)
 
 pub returns-then-refusal-ne0 : goal.returns-then-refusal-ne0
@@ -45,7 +45,7 @@ returns-then-refusal-ne0 c =
     let set : Outcome = setup_of c.in-Setup.size c.in-Setup.client_count c.in-Setup.cap c.in-Setup.hand in
     let made : c.setup-made.result ≡ set = c.setup-made.ensures.value in
     let refusal_is : c.refusal_of-refusal.result ≡ refusal_of set.answer = c.refusal_of-refusal.ensures ∙ ap (λ (o : Outcome). refusal_of o.answer) made in
-    let short : length c.args.schedule.now ≤ 16384 = c.if-schedule-gt16384.false in
+    let short : length c.args.schedule.now ≤ 16384 = c.if-schedule-gt-LONGEST.false in
     let room : 24 ≤ length c.args.report.now = c.if-report-lt24.false in
     let w = whole_run _ _ _ (refused_first _ _ short room _ _ _ _ is_setup _ refusal_is c.if-refusal-ne0.true) in
     (c.stop-then-refusal-ne0.ensures.0 ∙ w.0, c.stop-then-refusal-ne0.ensures.1 ∙ w.1)
@@ -56,7 +56,7 @@ run_calls-requires c =
     let set : Outcome = setup_of c.in-Setup.size c.in-Setup.client_count c.in-Setup.cap c.in-Setup.hand in
     let made : c.setup-made.result ≡ set = c.setup-made.ensures.value in
     let refusal_is : c.refusal_of-refusal.result ≡ refusal_of set.answer = c.refusal_of-refusal.ensures ∙ ap (λ (o : Outcome). refusal_of o.answer) made in
-    let short : length c.args.schedule.now ≤ 16384 = c.if-schedule-gt16384.false in
+    let short : length c.args.schedule.now ≤ 16384 = c.if-schedule-gt-LONGEST.false in
     let room : 24 ≤ length c.args.report.now = c.if-report-lt24.false in
     let made_of : c.setup-made.result ≡ set = made in
     let accepted : refusal_of set.answer ≡ 0 = sym refusal_is ∙ c.if-refusal-ne0.false in
@@ -80,7 +80,7 @@ returns c =
     let set : Outcome = setup_of c.in-Setup.size c.in-Setup.client_count c.in-Setup.cap c.in-Setup.hand in
     let made : c.setup-made.result ≡ set = c.setup-made.ensures.value in
     let refusal_is : c.refusal_of-refusal.result ≡ refusal_of set.answer = c.refusal_of-refusal.ensures ∙ ap (λ (o : Outcome). refusal_of o.answer) made in
-    let short : length c.args.schedule.now ≤ 16384 = c.if-schedule-gt16384.false in
+    let short : length c.args.schedule.now ≤ 16384 = c.if-schedule-gt-LONGEST.false in
     let room : 24 ≤ length c.args.report.now = c.if-report-lt24.false in
     let made_of : c.setup-made.result ≡ set = made in
     let accepted : refusal_of set.answer ≡ 0 = sym refusal_is ∙ c.if-refusal-ne0.false in

@@ -5,9 +5,9 @@ use Rattle.pool.specs.Stages.{stage14}
 use Rattle.laws.specs.Choices.{tests}
 use Rattle.stages.proofs.stage14.Goals as goal
 
-pub returns-then-pins-eq-NO_PIN : goal.returns-then-pins-eq-NO_PIN
+pub returns-then-unused : goal.returns-then-unused
 unfolding stage14 choose
-returns-then-pins-eq-NO_PIN c = c.works.ensures ∙ search tests
+returns-then-unused c = c.works.ensures ∙ search tests
 
 pub returns : goal.returns
 unfolding stage14 choose
