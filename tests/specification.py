@@ -516,6 +516,14 @@ def functions(crate):
         part.split())) for part in parts] for name, *parts in found}
 
 
+def imported(crate):
+    """What the clauses of a crate's root file name, and where that is from."""
+    return {name.strip(): place for place, names in re.findall(
+        r"^ghost use (\S+)\.\{([^}]*)\};",
+        read(TOP / "crates" / crate / "src" / "lib.rt"), re.M)
+        for name in names.split(",")}
+
+
 def exports():
     """An export is the function of its name, and promises the same."""
     count = 0
@@ -523,6 +531,8 @@ def exports():
         inner, outer = functions(crate), functions(exporting)
         need(inner, "crate %s has no function" % crate)
         same(list(outer), list(inner), "what %s exports" % exporting)
+        need(imported(exporting).items() <= imported(crate).items(),
+             "the clauses of %s mean other names" % exporting)
         for name, (parameters, promise, body) in outer.items():
             same([parameters, promise], inner[name][:2],
                  "parameters and promise of %s in %s" % (name, exporting))
