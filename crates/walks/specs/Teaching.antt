@@ -8,8 +8,9 @@ use borrow.Fn.World.{World}
 use borrow.Fn.Plain.{Known}
 use borrow.Fn.Run.{Over}
 
--- Wherever the code stands, whoever calls the function, by whatever name and in every model of the machine, and has shown what is asked, learns what is
--- said of the result. It has n lifetimes.
+-- In every model of the machine in whose environment the code stands, with that of all that it names (`Wired`), whoever calls the function, by whatever
+-- name, and has shown what is asked, learns what is said of the result. It has n lifetimes. That a static library's own environment is such a one the
+-- toolchain proves of each function that it exports.
 abbrev pub Teaches : (n : ℕ) (ps : List (ParamKind n)) (r : ResultKind n) → In n ps → Out n ps r → Code → Callee → Type 2
 Teaches n ps r asked learnt code name =
     (w : World) → Wired w.𝓡.env code → (names : Env) (k : Callee) → names k ≡ w.𝓡.env name
