@@ -73,6 +73,19 @@ def proofs():
     return "./replay, proving and building: 'n of m'"
 
 
+def proved_before():
+    """What rt says nothing of, as it was proved before, counts as well."""
+    last = BUILT.replace('echo "rt: chose --jobs 2 for pool"\n', "").replace(
+        'echo "logic=proved functions=1"\necho "rt: chose --jobs 2 for laws"\n'
+        'echo "logic=proved functions=0"\n', "")
+    with a_top(None, last) as top:
+        write_program(top / "player", PLAYER)
+        same(run(top, data=EXAMPLE),
+             (0, LISTING, PROVING + "replay: 3 of 3 proved: replay (0 s)\n"),
+             "what is said where all but one was proved before")
+    return "./replay, where most was proved before: 'n of n'"
+
+
 def failed_proofs():
     with a_top(None, FAILED) as top:
         status, output, said = run(top, data=EXAMPLE)
@@ -163,5 +176,5 @@ def interrupted():
     return "./replay, ended by Ctrl-C"
 
 
-TESTS = (proofs, failed_proofs, two_at_once, rt_locks_too, rt_waits,
-         interrupted)
+TESTS = (proofs, proved_before, failed_proofs, two_at_once, rt_locks_too,
+         rt_waits, interrupted)

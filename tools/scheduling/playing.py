@@ -64,7 +64,7 @@ def follow(output, log):
             elif "waiting for" in last:  # another rt, which works there
                 say(last)
         elif line.startswith(b"logic=proved") and crate in crates:
-            proved.add(crate)
+            proved |= needed(crate)  # those below were proved before it
             say("%d of %d proved: %s (%.0f s)"
                 % (len(proved), len(crates), crate, time.monotonic() - since))
         elif line.startswith(b"logic=not-proved"):
