@@ -22,7 +22,7 @@ use Rattle.invariant.proofs.Writes.{keeps_table}
 use Rattle.invariant.proofs.StageTests.{differ}
 use Rattle.invariant.proofs.Searches.{lookup_found, unused_found, free_found}
 use Rattle.invariant.proofs.NeverFails.{mover}
-use Rattle.invariant.proofs.Edges.{CountersOnly, keep, hand, counts, free, Edge, moves_on, grants, found1, found18, forgets2, forgets22, pins2, pins19}
+use Rattle.invariant.proofs.Edges.{CountersOnly, keep, hand, counts, free, Edge, moves_on, found1, found18, forgets2, forgets22, pins2, pins19}
 use Rattle.invariant.proofs.Edges.{gets3, gets21, takes, fills, replaces, refuses, evicts14, removes, admits, revives, evicts20, evicts23, begins, releases}
 use Rattle.invariant.proofs.Effects.{no_open, ends_no_open}
 use Rattle.memory.specs.Memory.{memory_after, store_after}

@@ -4,7 +4,6 @@ use Rattle.std.proofs.Math.Path.{refl}
 use mathlib.Core.List.{List, [], ◌∷◌}
 use native.Mathlib.Omega.{arith}
 use Rattle.pool.specs.Tallies.{up, tallied}
-use Rattle.pool.specs.declared.Tally.{Tally}
 use Rattle.pool.specs.declared.Counted.{Counted}
 use Rattle.pool.specs.declared.Counted.TheVariants.{Nothing, Hit, Join, Admitted, Revived, Drop, Refusal}
 use Rattle.counting.specs.Counts.{counts, tally_from, place_of}

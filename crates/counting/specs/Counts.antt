@@ -1,9 +1,6 @@
 -- A tally that lies in an array of six numbers (SPECIFICATION 14.3). Assumes nothing.
-use Rattle.std.specs.Prelude.{◌≡◌, ℕ, ◌≤◌, ◌<◌, length, get_or, set}
-use Rattle.std.proofs.Math.Path.{refl}
-use mathlib.Core.List.{List, [], ◌∷◌}
-use native.Mathlib.Omega.{arith}
-use Rattle.pool.specs.Tallies.{up, tallied}
+use Rattle.std.specs.Prelude.{ℕ, get_or}
+use mathlib.Core.List.{List}
 use Rattle.pool.specs.declared.Tally.{Tally}
 use Rattle.pool.specs.declared.Counted.{Counted}
 use Rattle.pool.specs.declared.Counted.TheVariants.{Nothing, Hit, Join, Admitted, Revived, Drop, Refusal}

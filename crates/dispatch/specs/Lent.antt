@@ -3,7 +3,7 @@ use Rattle.std.specs.Prelude.{◌≡◌, refl, ◌⊎◌, List, ℕ, zero, suc, 
 use Rattle.std.proofs.Common.{sym, ◌∙◌, inl, inr, ⊎_elim, arith, eq-zero-or-pos}
 use Rattle.std.proofs.Math.Path.{ap}
 use Rattle.std.proofs.Math.ListN.{get_or-eq_default}
-use Rattle.pool.specs.State.{none, evicted, total, within, slot, page, pins, count, entry_frame, of_client, grant_frame}
+use Rattle.pool.specs.State.{none, evicted, within, slot, page, pins, count, entry_frame, of_client, grant_frame}
 use Rattle.pool.specs.Table.{entry_of, unused_entry}
 use Rattle.pool.specs.Grants.{grant_of}
 use Rattle.pool.specs.Stages.{Stage, stages, no_stage, stage_move}

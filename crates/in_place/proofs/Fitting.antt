@@ -1,41 +1,16 @@
 -- A client that fits can act. Assumes nothing.
-use Rattle.std.specs.Prelude.{◌≡◌, ◌≢◌, Bool, true, false, not, List, ℕ, ◌+◌, ◌*◌, ◌<◌, ◌≤◌, eqb, leb}
-use Rattle.std.proofs.Math.Path.{refl, sym, ap}
-use Rattle.std.proofs.Common.{subst, ◌∙◌, true≢false}
-use Rattle.std.proofs.Math.Decide.{ℕ_discrete}
+use Rattle.std.specs.Prelude.{◌≡◌, true, List, ℕ, ◌+◌, ◌*◌, ◌<◌, ◌≤◌}
+use Rattle.std.proofs.Math.Path.{ap}
+use Rattle.std.proofs.Common.{subst, ◌∙◌}
 use native.Mathlib.Omega.{arith}
-use borrow.Author.Tests.{eq-eqb, ne_eqb, le-ltb, lt-ltb, le-leb, leb-true, ltb-true}
-use Rattle.pool.specs.Limits.{max_size, max_clients, max_held, max_pins}
-use Rattle.pool.specs.Choose.{choose, both, either, every}
-use Rattle.pool.specs.State.{none, evicted, pinned, number_of_clients, total, resting, pins, client, within}
-use Rattle.pool.specs.Frames.{free_frame}
-use Rattle.pool.specs.Valid.{numbers_ok}
-use Rattle.pool.specs.Apply.{apply}
-use Rattle.pool.specs.Calls.{caller, turned_by}
-use Rattle.pool.specs.Moves.{still}
-use Rattle.pool.specs.declared.Answer.TheVariants.{Refused}
-use Rattle.pool.specs.declared.Call.{Call}
-use Rattle.pool.specs.declared.Call.TheVariants.{Begin, Step, Release}
+use borrow.Author.Tests.{leb-true, ltb-true}
+use Rattle.pool.specs.Limits.{max_held, max_pins}
+use Rattle.pool.specs.State.{evicted, pinned, within}
 use Rattle.pool.specs.declared.Client.{Client}
-use Rattle.pool.specs.declared.Counted.TheVariants.{Nothing}
-use Rattle.pool.specs.declared.Move.{Move}
-use Rattle.pool.specs.declared.Pool.{Pool}
-use Rattle.pool.specs.declared.Write.TheVariants.{Keep}
-use Rattle.laws.specs.Choices.{chosen, passed}
-use Rattle.laws.specs.Elements.{client_in}
-use Rattle.laws.specs.Scans.{both_true, both_yes, every_at}
-use Rattle.ranges.specs.Ranges.{Numbers, numbers_in}
-use Rattle.frame_search.specs.Search.{Searchable, searched_in}
-use Rattle.memory.specs.Orders.{order_some, order_alone, order_none}
-use Rattle.memory.specs.Requests.{inside, in_order, outside_at}
-use Rattle.effects.specs.Parts.{replaced_in, replaced_of}
-use Rattle.play.specs.Turn.{turn, its_number, moves, stays}
-use Rattle.play.specs.Calls.{unchanged}
+use Rattle.laws.specs.Scans.{both_true}
+use Rattle.ranges.specs.Ranges.{Numbers}
 use Rattle.play.specs.Playable.{Decidable}
-use Rattle.client_arrays.specs.Arrays.{clients_from}
-use Rattle.in_place.specs.Held.{client_fits, search_fits, fits, held_refusal, held_of, turned_away, acted}
-use Rattle.in_place.specs.declared.Acted.{Acted}
-use Rattle.in_place.specs.declared.Found.{Found}
+use Rattle.in_place.specs.Held.{client_fits}
 
 module _ (size its_pins : ℕ) (k : Client) (fit : client_fits size its_pins k ≡ true) where
   record Fitting : Type 0 where

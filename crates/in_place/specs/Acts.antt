@@ -1,10 +1,10 @@
 -- What a call in place comes to, by what its code has tested. Assumes nothing.
-use Rattle.std.specs.Prelude.{◌≡◌, ◌≢◌, Bool, true, false, not, List, ℕ, ◌+◌, ◌*◌, ◌<◌, ◌≤◌, eqb, leb}
+use Rattle.std.specs.Prelude.{◌≡◌, ◌≢◌, Bool, true, false, not, List, ℕ, ◌<◌, ◌≤◌, eqb, leb}
 use Rattle.std.proofs.Math.Path.{refl, sym, ap}
 use Rattle.std.proofs.Common.{subst, ◌∙◌, true≢false}
 use Rattle.std.proofs.Math.Decide.{ℕ_discrete}
 use native.Mathlib.Omega.{arith}
-use borrow.Author.Tests.{eq-eqb, ne_eqb, le-ltb, lt-ltb, le-leb, leb-true, ltb-true}
+use borrow.Author.Tests.{eq-eqb, ne_eqb, le-ltb, lt-ltb, le-leb, leb-true}
 use Rattle.pool.specs.Limits.{max_size, max_clients, max_held, max_pins}
 use Rattle.pool.specs.Choose.{choose, both, either, every}
 use Rattle.pool.specs.State.{none, evicted, pinned, number_of_clients, total, resting, pins, client, within}
@@ -23,7 +23,7 @@ use Rattle.pool.specs.declared.Pool.{Pool}
 use Rattle.pool.specs.declared.Write.TheVariants.{Keep}
 use Rattle.laws.specs.Choices.{chosen, passed}
 use Rattle.laws.specs.Elements.{client_in}
-use Rattle.laws.specs.Scans.{both_true, both_yes, every_at}
+use Rattle.laws.specs.Scans.{both_yes, every_at}
 use Rattle.ranges.specs.Ranges.{Numbers, numbers_in}
 use Rattle.frame_search.specs.Search.{Searchable, searched_in}
 use Rattle.memory.specs.Orders.{order_some, order_alone, order_none}
@@ -31,7 +31,6 @@ use Rattle.memory.specs.Requests.{inside, in_order, outside_at}
 use Rattle.effects.specs.Parts.{replaced_in, replaced_of}
 use Rattle.play.specs.Turn.{turn, its_number, moves, stays}
 use Rattle.play.specs.Calls.{unchanged}
-use Rattle.play.specs.Playable.{Decidable}
 use Rattle.client_arrays.specs.Arrays.{clients_from}
 use Rattle.in_place.specs.Held.{client_fits, search_fits, fits, held_refusal, held_of, turned_away, acted}
 use Rattle.in_place.specs.declared.Acted.{Acted}

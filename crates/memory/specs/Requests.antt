@@ -1,6 +1,6 @@
 -- The calls of a pool that has bytes: begin, step and release as before, and a read and a write of one byte. What each is turned down by, in checking
 -- order, and what it does to pool, memory and store: SPECIFICATION, section 13. Assumes nothing.
-use Rattle.std.specs.Prelude.{Bool, true, false, not, List, [], ◌∷◌, ℕ, ◌*◌, ◌/◌, ◌%◌, eqb, ltb, leb, length}
+use Rattle.std.specs.Prelude.{Bool, true, false, not, List, ℕ, ◌*◌, ◌/◌, ◌%◌, eqb, ltb, leb, length}
 use Rattle.pool.specs.Choose.{choose, both, either, every}
 use Rattle.pool.specs.State.{none, number_of_clients, total, page, entry_page, entry_frame, client, grant_page, grant_frame}
 use Rattle.pool.specs.Grants.{grant_of}

@@ -22,7 +22,7 @@ use Rattle.guarantee.specs.Claims.{Listed, with_client}
 use Rattle.guarantee.proofs.TurnedDown.{same_answer, other_answer}
 use Rattle.guarantee.proofs.Listed.{not_8}
 use Rattle.guarantee.proofs.Guaranteed.{guarantee}
-use Rattle.memory.specs.Requests.{Request, Asks, ReadByte, WriteByte, State, Result, first_of, byte_refusal, turned_away_by, refusal_on, refused, action_on}
+use Rattle.memory.specs.Requests.{Request, Asks, ReadByte, WriteByte, State, Result, first_of, byte_refusal, turned_away_by, refusal_on, action_on}
 use Rattle.memory.specs.Requests.{call_on}
 use Rattle.contents.proofs.Kept.{Kept}
 use Rattle.contents.proofs.Passed.{call_turned}

@@ -24,7 +24,7 @@ use Rattle.ranges.specs.Ranges.{ClientRanged, ranged, total_in}
 use Rattle.invariant.proofs.StageTests.{differ}
 use Rattle.invariant.proofs.Allowed.{Allowed, allowed}
 use Rattle.guarantee.proofs.TurnedDown.{turned, one_move, turned_or_move}
-use Rattle.memory.specs.Memory.{is_changed, copied_page, unmarked, moved, memory_after, written_back, store_after}
+use Rattle.memory.specs.Memory.{is_changed, copied_page, moved, memory_after, written_back, store_after}
 use Rattle.memory.specs.Requests.{Asks, State, Result, refusal_on, refused, write_of, action_on, call_on}
 use Rattle.memory.specs.declared.Memory.{Memory}
 use Rattle.contents.proofs.Frames.{none_off, none_moves, moves_to_none}

@@ -1,7 +1,7 @@
 -- The claims are not empty: two lists of calls from accepted setups in which a read or write is refused by each number that is listed for it, a begin by
 -- 16, and others between them are done. Computed. With a store no read meets 16: a page outside is not held, and 13 comes first. Assumes nothing.
 use mathlib.Core.Path.{◌≡◌, refl}
-use mathlib.Core.List.{List, [], ◌∷◌, ◌++◌, map}
+use mathlib.Core.List.{List, [], ◌∷◌, map}
 use lib.ListN.{replicate}
 use Rattle.pool.specs.Cases.{admit}
 use Rattle.pool.specs.declared.Call.TheVariants.{Begin}

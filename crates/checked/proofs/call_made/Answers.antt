@@ -1,6 +1,6 @@
 -- Each return is the way of `call_of` that the tests before it leave: the turn's own number where it changes nothing, 8 where the copy breaks the
 -- ranges, and else the copy, with what its turn wrote. Assumes nothing.
-use borrow.Author.Tests.{eqb-true, eqb-false, not-true, not-false}
+use borrow.Author.Tests.{eqb-false, not-true, not-false}
 use native.Mathlib.Omega.{arith}
 use mathlib.Core.Path.{◌≡◌, sym, ap, ◌∙◌}
 use mathlib.Core.Logic.{◌≢◌}

@@ -3,7 +3,7 @@ use native.Mathlib.Omega.{arith}
 use mathlib.Core.Path.{◌≡◌, refl, sym, ap, ◌∙◌}
 use Prim.Native.Nat.{ℕ, ◌<◌}
 use Rattle.pool.specs.Limits.{max_clients}
-use Rattle.pool.specs.State.{number_of_clients, client}
+use Rattle.pool.specs.State.{number_of_clients}
 use Rattle.pool.specs.Calls.{caller}
 use Rattle.pool.specs.declared.Call.{Call}
 use Rattle.pool.specs.declared.Pool.{Pool}

@@ -1,5 +1,4 @@
 use mathlib.Core.Path.{refl, ◌∙◌}
-use mathlib.Core.Bool.{true, false}
 use Rattle.pool.specs.Choose.{choose, either}
 use Rattle.laws.specs.Choices.{tests}
 use Rattle.laws.specs.Elements.{grant_element, reads_as, reads_other}
