@@ -6,6 +6,7 @@
 #![tactic(auto)]
 
 ghost use Rattle.std.specs.Prelude.{◌≡◌, ◌≤◌, IfOk, length};
+ghost use Rattle.pool.specs.Schedule.{report_of};
 
 use std::io;
 use storeless::Ended;
@@ -28,9 +29,10 @@ fn print_line(rt: &impl Print, size: usize, ended: Ended, sum: u64) -> io::Resul
     println!(rt; "{size} {records} {bytes} {refusal} {sum}")
 }
 
-// How many bytes of the space the report takes.
+// How many bytes of the space the report takes; where it cannot be printed, the space has it all the same.
 fn play_in(rt: &impl Print, schedule: &[u8], space: &mut [u8]) -> io::Result<usize>
-    ensures { IfOk result (λ n. n ≤ length space.new) }
+    ensures count { IfOk result (λ n. n ≤ length space.new) }
+    ensures report { space.new ≡ report_of schedule.now space.old }
 {
     let ended = storeless::run(schedule, space);
     let bytes = ended.bytes;

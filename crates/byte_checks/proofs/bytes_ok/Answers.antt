@@ -11,10 +11,6 @@ use Rattle.memory.specs.declared.Memory.{Memory}
 use Rattle.byte_checks.specs.Parts.{books_of, marks_of, bytes_ok_in, from_clients, from_entries, from_frames, too_many, with_store, without_store}
 use Rattle.byte_checks.proofs.bytes_ok.Goals as goal
 
--- ---- the places of the walk, and a pool and a memory with the parts that were handed
-
--- ---- what is left of the check once the number of pages, the frames' pages, the entries' have passed
-
 -- ---- the returns
 
 pub overflow_mul-n : goal.overflow_mul-n

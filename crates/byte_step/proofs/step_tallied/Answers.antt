@@ -18,7 +18,7 @@ use Rattle.effects.specs.Parts.{replaced_in, replaced_of}
 use Rattle.byte_step.specs.Steps.{not_sound, not_long, steps}
 use Rattle.byte_step.proofs.step_tallied.Goals as goal
 
--- ---- the places of the walk
+-- ---- the ways out, and what the calls ask
 
 pub returns-then-not-sound : goal.returns-then-not-sound
 returns-then-not-sound c =

@@ -28,14 +28,12 @@ eight z = let y : ⊥ = omega arith in y
 nine : Some 9
 nine z = let y : ⊥ = omega arith in y
 
--- ---- what is known past each test, of a state that these parts are lent of
-
 -- ---- the ways out
 
 pub returns-then-lent-store_pages : goal.returns-then-lent-store_pages
 returns-then-lent-store_pages c =
     let e = c.turned.ensures in record {
-      held_by = (λ x k pages l. turned_down e eight (wrong_length x _ _ _ (λ w. c.if-lent-store_pages.true (sym l ∙ w ∙ ap (λ (n : ℕ). page_bytes * n) pages))));
+      held_by = (λ x k pages l. turned_down e eight (wrong_length x _ _ _ (λ w. let z : ⊥ = omega (arith, c.if-lent-store_pages.true, l, w, pages) in z)));
       lent_value = no_more e eight;
     }
 

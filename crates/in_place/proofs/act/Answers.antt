@@ -25,14 +25,6 @@ use Rattle.in_place.proofs.Fitting.{few_held, decidable}
 use Rattle.in_place.specs.Acts.{returned, no_search, outside, acts}
 use Rattle.in_place.proofs.act.Goals as goal
 
--- ---- the places of the walk
-
--- ---- what is known there
-
--- ---- the ways out before the action
-
--- ---- what the calls ask
-
 -- ---- the action
 
 pub returns-then-not-in_range : goal.returns-then-not-in_range

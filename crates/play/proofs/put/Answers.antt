@@ -5,7 +5,7 @@ use Rattle.pool.specs.Limits.{max_clients, max_frames}
 use Rattle.play.specs.Parts.{pool_of, applied}
 use Rattle.play.proofs.put.Goals as goal
 
--- ---- the places of the walk
+-- ---- what the calls ask, where they stand
 
 frames-few_5 : (c : goal.After-put_table_frames-arg-1) → c.total-total.result ≤ max_frames
 frames-few_5 c = omega (arith, c.total-total.ensures, c.requires.0, c.requires.1)

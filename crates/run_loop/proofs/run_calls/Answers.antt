@@ -28,12 +28,6 @@ use borrow.Enum.Refused.{opened}
 use Rattle.run_loop.proofs.run_calls.Goals as goal
 use Rattle.run_loop.proofs.run_calls.Goals.{then-client-eq4, else-client-eq4}
 
--- ---- the places of the walk: at the loop's head, past the let .. else, past `client_or_first`, past the search, past the turn
-
--- ---- what a turn knows
-
--- ---- the needs
-
 -- ---- a record's turn
 
 pub loop-place-init : goal.loop-place-init

@@ -19,8 +19,6 @@ use Rattle.schedule.proofs.First.{too_long, no_room, unread_first, setup_whole, 
 use borrow.Enum.Refused.{opened}
 use Rattle.schedule.proofs.run.Goals as goal
 
--- ---- the first record is a setup
-
 -- ---- its line
 
 pub returns-then-schedule-gt-LONGEST : goal.returns-then-schedule-gt-LONGEST

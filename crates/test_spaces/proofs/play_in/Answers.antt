@@ -2,5 +2,5 @@
 use Rattle.schedule.specs.Written.{within_report}
 use Rattle.test_spaces.proofs.play_in.Goals as goal
 
-pub returns : goal.returns
-returns g c = within_report _ _ c.run-ended.ensures.0 c.run-ended.ensures.1
+pub returns-clause-count : goal.returns-clause-count
+returns-clause-count g c = within_report _ _ c.run-ended.ensures.0 c.run-ended.ensures.1
