@@ -9,8 +9,8 @@ use borrow.Fn.Plain.{Known}
 use borrow.Fn.Run.{Over}
 
 -- In every model of the machine in whose environment the code stands, with that of all that it names (`Wired`), whoever calls the function, by whatever
--- name, and has shown what is asked, learns what is said of the result. It has n lifetimes. That a static library's own environment is such a one the
--- toolchain proves of each function that it exports.
+-- name, and has shown what is asked, learns what is said of the result. It has n lifetimes. That the environment of a program or a static library has
+-- the code of all that is linked in it, the toolchain proves when it makes one.
 abbrev pub Teaches : (n : ℕ) (ps : List (ParamKind n)) (r : ResultKind n) → In n ps → Out n ps r → Code → Callee → Type 2
 Teaches n ps r asked learnt code name =
     (w : World) → Wired w.𝓡.env code → (names : Env) (k : Callee) → names k ≡ w.𝓡.env name
