@@ -1,2 +1,3 @@
 pub mod Among
+pub mod Numbers
 pub mod Refusals
