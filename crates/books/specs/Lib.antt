@@ -1,0 +1,5 @@
+pub mod Books
+pub mod Lists
+pub mod Named
+pub mod Optional
+pub mod Puts

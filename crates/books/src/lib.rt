@@ -1,0 +1,14 @@
+// A pool's books where they lie: what the pool keeps of its slots, frames, table and grants, lent by whoever has it, an owned pool or a C program's
+// memory. `Books` are lent to be read, `BooksMut` to be written, too. The clients' records are no part of them, since the two owners keep those in
+// different forms. Internal.
+#![tactic(auto)]
+
+pub mod numbers;
+pub mod reading;
+pub mod search;
+pub mod searches;
+pub mod writing;
+
+pub use numbers::Numbers;
+pub use reading::Books;
+pub use writing::BooksMut;
