@@ -8,7 +8,7 @@ pub returns-in-Some : goal.returns-in-Some
 returns-in-Some c =
     λ clients taken.
     c.turn.ensures clients (λ e. taken (sym c.in-Some.ensures ∙ ap stage_number e))
-    ∙ sym (stage_move_is c.in-Some.stage (pool_in c.args.books.now clients) c.args.client (sym c.in-Some.ensures))
+    ∙ sym (stage_move_is (pool_in c.args.books.now clients) c.args.client c.in-Some.stage (sym c.in-Some.ensures))
 
 pub returns-in-None : goal.returns-in-None
 returns-in-None c = λ clients _. c.stuck.ensures ∙ sym (no_stage_move (pool_in c.args.books.now clients) c.args.client c.in-None.ensures)
