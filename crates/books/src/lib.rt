@@ -3,12 +3,14 @@
 // different forms. Internal.
 #![tactic(auto)]
 
+pub mod checked;
 pub mod numbers;
 pub mod reading;
 pub mod search;
 pub mod searches;
 pub mod writing;
 
+pub use checked::Checked;
 pub use numbers::Numbers;
 pub use reading::Books;
 pub use writing::BooksMut;
