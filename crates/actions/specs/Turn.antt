@@ -1,6 +1,6 @@
 -- The move of a client at a stage, by the stage's number in the definition's list: SPECIFICATION 3.3. Assumes nothing.
 use Rattle.std.specs.Prelude.{◌≡◌, get_or}
-use Rattle.std.proofs.Common.{ap, inl, inr, arith, length, ◌≤◌}
+use Rattle.std.proofs.Common.{ap, inl, inr, arith}
 use Rattle.std.proofs.lemmas.List.{get_or_past}
 use Rattle.pool.specs.Moves.{stuck}
 use Rattle.pool.specs.Stages.{stages, no_stage, stage_move}

@@ -19,7 +19,8 @@ pub struct Checked<'a> {
 impl<'a> Checked<'a> {
     /// Its books.
     pub fn books(&self) -> Books<'a>
-        ensures { pool_in result self.now.pool.now.clients ≡ self.now.pool.now }
+        ensures pool { pool_in result self.now.pool.now.clients ≡ self.now.pool.now }
+        ensures numbers { result.numbers ≡ self.now.numbers }
     {
         Books::of(self.numbers, self.pool)
     }

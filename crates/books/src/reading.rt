@@ -52,7 +52,8 @@ impl<'a> Books<'a> {
         requires size { numbers.size ≡ pool.now.size }
         requires client_count { numbers.client_count ≡ pool.now.client_count }
         requires cap { numbers.cap ≡ pool.now.cap }
-        ensures { pool_in result pool.now.clients ≡ pool.now }
+        ensures pool { pool_in result pool.now.clients ≡ pool.now }
+        ensures numbers { result.numbers ≡ numbers }
     {
         Books {
             numbers,

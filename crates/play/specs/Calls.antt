@@ -20,7 +20,7 @@ use Rattle.laws.specs.Choices.{chosen, passed}
 use Rattle.laws.specs.Checks.{by_turn, at_begin, at_step, at_release}
 use Rattle.laws.specs.Elements.{client_of_pool}
 use Rattle.laws.specs.Scans.{both_yes}
-use Rattle.dispatch.specs.Ready.{some_client}
+use Rattle.play.specs.Playable.{some_client}
 use Rattle.play.specs.Turn.{client_or_first, its_number, number_in, is_client, turn, moves, stays}
 
 -- ---- what turns a call down after check 8 is above 8
@@ -64,7 +64,7 @@ module _ (p : Pool) (call : Call) where
     unfolding call_of
     turned_down_by z = passed _ _ _ (ne_eqb _ _ (λ e. z (sym by_checks ∙ e))) ∙ ap (λ (n : ℕ). turned_down n p) by_checks
 
-    goes_on : turned_by p call ≡ 0 → call_of p call ≡ finished p (caller call) (move_of p call)
+    pub goes_on : turned_by p call ≡ 0 → call_of p call ≡ finished p (caller call) (move_of p call)
     unfolding call_of
     goes_on z = chosen _ _ _ (eq-eqb _ _ (by_checks ∙ z))
 

@@ -1,4 +1,5 @@
 pub mod Turn
 pub mod Parts
+pub mod Decides
 pub mod Playable
 pub mod Calls

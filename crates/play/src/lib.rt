@@ -1,187 +1,141 @@
-// One call's turn, played: decided over the pool's parts where they lie, and put into them. The run of a schedule and the public calls play
-// their calls here and nowhere else. Internal: no check 8 is made here.
+// One call's turn: by which refusal it is turned down, or its move, decided over the pool's books where they lie; and the move put into an owned pool.
+// The run of a schedule, the public calls and the calls in place decide here and nowhere else. Internal: check 8 is not made here.
 #![tactic(auto)]
 
-ghost use Rattle.std.specs.Prelude.{◌≡◌, List, set, ℕ, ◌≤◌, ◌<◌};
-ghost use Rattle.pool.specs.Limits.{max_size, max_clients};
+ghost use Rattle.std.specs.Prelude.{◌≡◌, ◌<◌, List, unwrap_or};
+ghost use Rattle.pool.specs.Limits.{max_clients};
+ghost use Rattle.pool.specs.State.{none};
+ghost use Rattle.pool.specs.Frames.{free_frame};
 ghost use Rattle.pool.specs.Apply.{apply};
-ghost use Rattle.play.specs.Turn.{client_or_first, turn, Turns};
-ghost use Rattle.play.specs.Parts.{pool_of};
-ghost use Rattle.play.specs.Playable.{Decidable, Playable};
+ghost use Rattle.pool.specs.Calls.{caller};
+ghost use Rattle.pool.specs.declared.Client.{Client};
+ghost use Rattle.pool.specs.declared.Call.TheVariants.{Begin, Step, Release};
+ghost use Rattle.books.specs.Books.{pool_in};
+ghost use Rattle.books.specs.Named.{FewGrants};
+ghost use Rattle.books.specs.Optional.{IsNumber};
+ghost use Rattle.actions.specs.Ready.{Ready};
+ghost use Rattle.play.specs.Decides.{Answers, Decides, IsClient, Lends};
 
-use dispatch::Numbers;
-use pool::{Call, Client, FRAMES, GRANTS, Move, SLOTS};
+use actions::{dispatch, moves};
+use answers::{Refusal, Stage};
+use books::{Books, BooksMut, Checked, Numbers};
+use pool::{CLIENTS, Call, Client, MAX_HELD, Move, Pool};
 
-// The client whose record is put back: the one with number c, the first where the pool has none such.
-pub fn client_or_first(client_count: u8, c: u8) -> usize
-    ensures { result ≡ client_or_first client_count c }
+/// SPECIFICATION 3.2.
+#[tactic(auto, unfolding(pool::specs::Calls::caller, pool::specs::Calls::refusal_at, pool::specs::Calls::move_of, pool::specs::Choose::choose))]
+fn begin(books: &Books, client: Client, c: u8, page: u32) -> Result<Move, Refusal>
+    requires ready { Ready books.now client }
+    requires number { c < books.now.numbers.client_count }
+    ensures { (clients : List Client) → IsClient (pool_in books.now clients) c client → Answers (pool_in books.now clients) (Begin c page) client result }
 {
-    if c < client_count { c as usize } else { 0 }
-}
-
-// The turn of a call, decided over the parts of a pool where they lie; of the clients it is handed the record of the one that acts. `fresh` is the
-// frame to take, looked at by stage 4 alone.
-pub fn decide<'a>(
-    call: Call,
-    client: Client,
-    fresh: u8,
-    size: u8,
-    client_count: u8,
-    cap: u8,
-    hand: u32,
-    free: u8,
-    slots: &'a [u8; SLOTS],
-    pages: &'a [u32; FRAMES],
-    pins: &'a [u8; FRAMES],
-    counts: &'a [u8; FRAMES],
-    table_pages: &'a [u32; FRAMES],
-    table_frames: &'a [u8; FRAMES],
-    grant_pages: &'a [u32; GRANTS],
-    grant_frames: &'a [u8; GRANTS],
-) -> Move
-    requires { Decidable client size client_count pins.now }
-    ensures { (number last : ℕ) (clients : List Client) →
-        let p =
-        pool_of size client_count cap hand free last slots.now pages.now pins.now counts.now
-        table_pages.now table_frames.now clients grant_pages.now grant_frames.now in
-        Turns p call number client fresh → result ≡ turn p call }
-{
-    let refused = refusals::turned_by(call, client_count, client, grant_pages);
-    if refused != 0 {
-        return moves::still(client, refused);
+    if client.stage != 0 {
+        return Err(Refusal::AtWork);
     }
-    let numbers = Numbers {
-        size,
-        total: reads::total(size, client_count),
-        cap,
-        hand,
-        free,
+    if client.held >= MAX_HELD {
+        return Err(Refusal::HasEight);
+    }
+    match books.grant_of(c as usize, client.held, page) {
+        Some(_) => Err(Refusal::HeldAlready),
+        None => Ok(moves::begin_move(client, page)),
+    }
+}
+
+/// SPECIFICATION 3.3. `fresh` is the frame to take, which stage 4 alone looks at.
+#[tactic(auto, unfolding(pool::specs::Calls::caller, pool::specs::Calls::refusal_at, pool::specs::Calls::move_of, pool::specs::Choose::choose))]
+fn step(books: &Books, client: Client, c: u8, fresh: Option<u8>) -> Result<Move, Refusal>
+    requires ready { Ready books.now client }
+    requires number { c < books.now.numbers.client_count }
+    requires fresh { IsNumber fresh }
+    ensures { (clients : List Client) → Lends (pool_in books.now clients) (Step c) client fresh → Answers (pool_in books.now clients) (Step c) client result }
+{
+    if client.stage == 0 {
+        return Err(Refusal::AtRest);
+    }
+    Ok(dispatch::stage_move(books, client, fresh))
+}
+
+/// SPECIFICATION 3.4.
+#[tactic(auto, unfolding(pool::specs::Calls::caller, pool::specs::Calls::refusal_at, pool::specs::Calls::move_of, pool::specs::Choose::choose))]
+fn release(books: &Books, client: Client, c: u8, page: u32) -> Result<Move, Refusal>
+    requires ready { Ready books.now client }
+    requires number { c < books.now.numbers.client_count }
+    ensures { (clients : List Client) → IsClient (pool_in books.now clients) c client → Answers (pool_in books.now clients) (Release c page) client result }
+{
+    if client.stage != 0 {
+        return Err(Refusal::AtWork);
+    }
+    let Some(i) = books.grant_of(c as usize, client.held, page) else {
+        return Err(Refusal::NotHeld);
     };
-    dispatch::call_move(
-        call,
-        client,
+    let f = books.grant_frame(c as usize, client.held, i);
+    Ok(moves::release_move(client, page, i, f, books.pins(f)))
+}
+
+/// The turn of a call of a client that there is: SPECIFICATION 3.7 without 8 and 9. Of the clients it is handed the record of the one that acts.
+#[tactic(auto, unfolding(pool::specs::Calls::caller))]
+pub fn decide(books: &Books, call: Call, client: Client, fresh: Option<u8>) -> Result<Move, Refusal>
+    requires ready { Ready books.now client }
+    requires number { caller call < books.now.numbers.client_count }
+    requires fresh { IsNumber fresh }
+    ensures { (clients : List Client) → Lends (pool_in books.now clients) call client fresh → Answers (pool_in books.now clients) call client result }
+{
+    match call {
+        Call::Begin(c, page) => begin(books, client, c, page),
+        Call::Step(c) => step(books, client, c, fresh),
+        Call::Release(c, page) => release(books, client, c, page),
+    }
+}
+
+/// The frame to take, where the client stands at stage 4; it is dear to find, and no other stage looks at it.
+pub fn fresh_frame(books: &Books, clients: &[Client; CLIENTS], client: Client) -> Option<u8>
+    requires { FewGrants books.now.numbers.client_count clients.now }
+    ensures frame { client.stage ≡ 4 → unwrap_or result none ≡ free_frame (pool_in books.now clients.now) }
+    ensures number { IsNumber result }
+{
+    if client.stage == Stage::TakeFrame.number() {
+        books.free_frame(clients)
+    } else {
+        None
+    }
+}
+
+/// The turn of a call on a pool that passes check 8: SPECIFICATION 3.7 without 8.
+pub fn turn(pool: &Checked, call: Call) -> Result<Move, Refusal>
+    ensures { Decides pool.now.pool.now call result }
+{
+    let caller = answers::caller(call);
+    if caller >= pool.numbers.client_count {
+        return Err(Refusal::NoSuchClient);
+    }
+    let clients = &pool.pool.clients;
+    let client = clients[caller as usize];
+    let books = pool.books();
+    let fresh = fresh_frame(&books, clients, client);
+    decide(&books, call, client, fresh)
+}
+
+/// A move of client c, put into an owned pool: SPECIFICATION 1.9.
+pub fn put(pool: &mut Pool, numbers: Numbers, c: usize, turn: &Move)
+    requires size { numbers.size ≡ pool.old.size }
+    requires client_count { numbers.client_count ≡ pool.old.client_count }
+    requires cap { numbers.cap ≡ pool.old.cap }
+    requires client { c < max_clients }
+    ensures { pool.new ≡ apply pool.old c turn.now }
+{
+    let mut books = BooksMut {
         numbers,
-        fresh,
-        slots,
-        pages,
-        pins,
-        counts,
-        table_pages,
-        table_frames,
-        grant_pages,
-        grant_frames,
-    )
-}
-
-// A move of the client with a number, put into the parts of a pool. The clients' records are the caller's, who puts the next one back.
-pub fn put(
-    turn: Move,
-    number: usize,
-    size: u8,
-    client_count: u8,
-    hand: &mut u32,
-    free: &mut u8,
-    last: &mut u8,
-    slots: &mut [u8; SLOTS],
-    pages: &mut [u32; FRAMES],
-    pins: &mut [u8; FRAMES],
-    counts: &mut [u8; FRAMES],
-    table_pages: &mut [u32; FRAMES],
-    table_frames: &mut [u8; FRAMES],
-    grant_pages: &mut [u32; GRANTS],
-    grant_frames: &mut [u8; GRANTS],
-)
-    requires { (size ≤ max_size) × (client_count ≤ max_clients) × (number < max_clients) }
-    ensures { (cap : ℕ) (clients : List Client) →
-        pool_of size client_count cap hand.new free.new last.new slots.new
-        pages.new pins.new counts.new table_pages.new table_frames.new
-        (set clients number turn.next) grant_pages.new grant_frames.new ≡ apply
-        (pool_of size client_count cap hand.old free.old last.old slots.old
-        pages.old pins.old counts.old table_pages.old table_frames.old
-        clients grant_pages.old grant_frames.old) number turn }
-{
-    let total = reads::total(size, client_count);
-    let write = turn.write;
-    let change = turn.grants;
-    *hand = writes::hand_after(*hand, write);
-    *free = writes::free_after(*free, write);
-    *last = writes::last_after(*last, write);
-    writes::put_slots(slots, size, write);
-    writes::put_pages(pages, total, write);
-    writes::put_pins(pins, total, write);
-    writes::put_counts(counts, total, write);
-    writes::put_table_pages(table_pages, total, write);
-    writes::put_table_frames(table_frames, total, write);
-    writes::put_grant_pages(grant_pages, client_count, number, change);
-    writes::put_grant_frames(grant_frames, client_count, number, change);
-}
-
-// The turn of a call, decided and put into the parts of a pool.
-pub fn play(
-    call: Call,
-    number: usize,
-    client: Client,
-    fresh: u8,
-    size: u8,
-    client_count: u8,
-    cap: u8,
-    hand: &mut u32,
-    free: &mut u8,
-    last: &mut u8,
-    slots: &mut [u8; SLOTS],
-    pages: &mut [u32; FRAMES],
-    pins: &mut [u8; FRAMES],
-    counts: &mut [u8; FRAMES],
-    table_pages: &mut [u32; FRAMES],
-    table_frames: &mut [u8; FRAMES],
-    grant_pages: &mut [u32; GRANTS],
-    grant_frames: &mut [u8; GRANTS],
-) -> Move
-    requires { Playable client number size client_count pins.old }
-    ensures { (clients : List Client) →
-        let p =
-        pool_of size client_count cap hand.old free.old last.old slots.old
-        pages.old pins.old counts.old table_pages.old table_frames.old
-        clients grant_pages.old grant_frames.old in
-        (Turns p call number client fresh → result ≡ turn p call)
-        × (pool_of size client_count cap hand.new free.new last.new slots.new
-        pages.new pins.new counts.new table_pages.new table_frames.new
-        (set clients number result.next) grant_pages.new grant_frames.new ≡ apply p number result) }
-{
-    let turn = decide(
-        call,
-        client,
-        fresh,
-        size,
-        client_count,
-        cap,
-        *hand,
-        *free,
-        slots,
-        pages,
-        pins,
-        counts,
-        table_pages,
-        table_frames,
-        grant_pages,
-        grant_frames,
-    );
-    put(
-        turn,
-        number,
-        size,
-        client_count,
-        hand,
-        free,
-        last,
-        slots,
-        pages,
-        pins,
-        counts,
-        table_pages,
-        table_frames,
-        grant_pages,
-        grant_frames,
-    );
-    turn
+        hand: &mut pool.hand,
+        free: &mut pool.free,
+        last: &mut pool.last,
+        slots: &mut pool.slots,
+        pages: &mut pool.pages,
+        pins: &mut pool.pins,
+        counts: &mut pool.counts,
+        table_pages: &mut pool.table_pages,
+        table_frames: &mut pool.table_frames,
+        grant_pages: &mut pool.grant_pages,
+        grant_frames: &mut pool.grant_frames,
+    };
+    books.put(c, turn);
+    pool.clients[c] = turn.next;
 }

@@ -1,0 +1,44 @@
+-- The pool is that of its books, so that what a valid pool gives is given of them. Assumes nothing.
+use Rattle.std.proofs.Common.{◌≡◌, ◌∙◌, sym, ap, subst, ◌<◌, arith, true, le-ltb}
+use Rattle.pool.specs.Valid.{valid}
+use Rattle.pool.specs.Calls.{caller}
+use Rattle.pool.specs.declared.Pool.{Pool}
+use Rattle.laws.specs.Choices.{passed}
+use Rattle.laws.specs.Elements.{client_of_pool}
+use Rattle.books.specs.declared.numbers.Numbers.{Numbers}
+use Rattle.books.specs.Books.{pool_in}
+use Rattle.play.specs.Decides.{Decides, IsClient, decided}
+use Rattle.play.specs.Playable.{few_grants, ready, record_at}
+use Rattle.play.proofs.turn.Goals as goal
+
+pub returns-then-caller-pool : goal.returns-then-caller-pool
+returns-then-caller-pool c = passed _ _ _ (le-ltb _ _ (omega arith))
+
+pub fresh_frame-fresh-requires : goal.fresh_frame-fresh-requires
+fresh_frame-fresh-requires c =
+    let p = c.args.pool.now.pool.now in
+    let v : valid (pool_in c.books-books.result p.clients) ≡ true = ap valid c.books-books.ensures.pool ∙ c.args.pool.now.valid in
+    few_grants c.books-books.result p.clients v
+
+pub decide-requires-clause-ready : goal.decide-requires-clause-ready
+decide-requires-clause-ready c =
+    let p = c.args.pool.now.pool.now in
+    let b = c.books-books.result in
+    let v : valid (pool_in b p.clients) ≡ true = ap valid c.books-books.ensures.pool ∙ c.args.pool.now.valid in
+    let count : b.numbers.client_count ≡ c.args.pool.now.numbers.client_count = ap (λ (n : Numbers). n.client_count) c.books-books.ensures.numbers in
+    let h : c.caller-caller.result < b.numbers.client_count = omega (arith, count) in
+    ready b p.clients v c.caller-caller.result h
+
+pub returns : goal.returns
+returns c =
+    let p = c.args.pool.now.pool.now in
+    let b = c.books-books.result in
+    let q = pool_in b p.clients in
+    let call = c.args.call in
+    let count : b.numbers.client_count ≡ c.args.pool.now.numbers.client_count = ap (λ (n : Numbers). n.client_count) c.books-books.ensures.numbers in
+    let h : caller call < b.numbers.client_count = omega (arith, count) in
+    let k = record_at q c.caller-caller.result in
+    let its : IsClient q (caller call) k = client_of_pool q (caller call) h ∙ ap (record_at q) (sym c.caller-caller.ensures) in
+    let P : Pool → Type 0 = λ q. Decides q call c.decide.result in
+    subst P c.books-books.ensures.pool
+    (decided q call k c.decide.result h its (c.decide.ensures p.clients (record { client = its; fresh = c.fresh_frame-fresh.ensures.frame })))
