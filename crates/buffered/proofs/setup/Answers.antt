@@ -9,7 +9,7 @@ use Rattle.pool.specs.Valid.{numbers_ok}
 use Rattle.laws.specs.Choices.{both_are}
 use Rattle.laws.specs.Scans.{both_true}
 use Rattle.memory.specs.Requests.{length_ok}
-use Rattle.filling.specs.Acting.{few_pages}
+use Rattle.content.specs.Acting.{few_pages}
 use Rattle.buffered.specs.Ways.{sets_up, sets_up_not}
 use Rattle.buffered.specs.Refusals.{sets}
 use Rattle.buffered.proofs.setup.Goals as goal

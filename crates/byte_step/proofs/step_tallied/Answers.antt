@@ -14,7 +14,7 @@ use Rattle.ranges.specs.Ranges.{Ranged, ranged, total_in}
 use Rattle.memory.specs.Memory.{page_bytes}
 use Rattle.memory.specs.Requests.{bytes_ok}
 use Rattle.byte_checks.specs.Parts.{of_sound}
-use Rattle.effects.specs.Parts.{replaced_in, replaced_of}
+use Rattle.content.specs.Effects.{replaced_in, replaced_of}
 use Rattle.byte_step.specs.Steps.{not_sound, not_long, steps}
 use Rattle.byte_step.proofs.step_tallied.Goals as goal
 
