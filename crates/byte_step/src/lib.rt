@@ -62,7 +62,7 @@ pub fn step_tallied(mut pool: BufferPool, client: u8, tally: Tally, store: &mut 
     let made = checked::call_made(books, Call::Step(client));
     let write = made.write;
     let total = reads::total(pool.pool.size, pool.pool.client_count);
-    let entry = effects::replaced(&pool.pool.table_frames, total, write);
+    let entry = content::replaced(&pool.pool.table_frames, total, write);
     effects::put_store(
         store,
         pages,
