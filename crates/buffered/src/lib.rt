@@ -6,7 +6,7 @@
 ghost use Rattle.std.specs.Prelude.{◌≡◌, true, List, ℕ};
 ghost use Rattle.pool.specs.Answers.{refusal_of};
 ghost use Rattle.pool.specs.Valid.{valid};
-ghost use Rattle.pool.specs.Calls.{turned_by};
+ghost use Rattle.pool.specs.Calls.{no_pool, turned_by};
 ghost use Rattle.pool.specs.declared.Call.TheVariants.{Begin, Release};
 ghost use Rattle.answers.specs.Among.{Among};
 ghost use Rattle.answers.specs.Refusals.{by_setup, by_begin_on, by_release};
@@ -14,7 +14,7 @@ ghost use Rattle.memory.specs.Memory.{blank};
 ghost use Rattle.memory.specs.Requests.{Asks, setup_on, in_order, call_on, state_of, reply};
 ghost use Rattle.buffered.specs.Ways.{turned_reply};
 
-use memory::{BYTES, BufferPool, Memory, PAGE, Reply};
+use memory::{BYTES, BufferPool, Memory, Reply};
 use pool::{Answer, Call, FRAMES, Pool};
 
 // The pool as it was, and the number that the call is refused by.
@@ -41,21 +41,28 @@ fn blank(pages: u16) -> Memory
     }
 }
 
+// Refusal 8 of a setup: there is no pool.
+fn not_set_up() -> Reply
+    ensures { result ≡ turned_reply 8 (record { pool = no_pool; memory = blank 0 }) }
+{
+    let pool = calls::fresh(0, 0, 0, 0);
+    let memory = blank(0);
+    turned_back(8, BufferPool { pool, memory })
+}
+
 // SPECIFICATION 13.3; refusal 8.
 pub fn setup(size: u8, client_count: u8, cap: u8, hand: u32, store: &[u8]) -> Reply
     ensures value { result ≡ reply (setup_on size client_count cap hand store.now) }
     ensures among { Among by_setup (refusal_of result.answer) }
 {
-    let length = store.len();
-    let numbers = range_tests::numbers_ok(size, client_count, cap);
-    let ok = range_tests::both(numbers, filling::length_ok(length));
-    if !ok {
-        let pool = calls::fresh(0, 0, 0, 0);
-        let memory = blank(0);
-        return turned_back(8, BufferPool { pool, memory });
+    if !range_tests::numbers_ok(size, client_count, cap) {
+        return not_set_up();
     }
+    let Some(pages) = content::pages_of(store.len()) else {
+        return not_set_up();
+    };
     let pool = calls::fresh(size, client_count, cap, hand);
-    let memory = blank((length / PAGE) as u16);
+    let memory = blank(pages);
     Reply {
         answer: Answer::Done(size as u32),
         pool: BufferPool { pool, memory },

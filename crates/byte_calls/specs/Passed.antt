@@ -24,8 +24,8 @@ use Rattle.memory.specs.declared.Reply.{Reply}
 use Rattle.pool.specs.Answers.{refusal_of}
 use Rattle.answers.specs.Among.{Among}
 use Rattle.answers.specs.Refusals.{by_byte}
-use Rattle.filling.specs.Parts.{bytes_filled, marks_filled, byte_in, bytes_written, marks_written}
-use Rattle.filling.specs.Acting.{low_offset, reads_as, writes_as}
+use Rattle.content.specs.Filling.{bytes_filled, marks_filled, byte_in, bytes_written, marks_written}
+use Rattle.content.specs.Acting.{low_offset, reads_as, writes_as}
 use Rattle.buffered.specs.Refusals.{read_refusals, write_refusals}
 use Rattle.buffered.specs.Ways.{turned_reply, turned, goes_on, by_store, by_checks, by_turn}
 

@@ -9,12 +9,23 @@ ghost use Rattle.pool.specs.State.{number_of_clients};
 ghost use Rattle.pool.specs.Valid.{valid};
 ghost use Rattle.answers.specs.Among.{Among};
 ghost use Rattle.answers.specs.Refusals.{by_byte};
-ghost use Rattle.memory.specs.Requests.{ReadByte, WriteByte, refusal_on, held_frame, call_on, state_of, reply};
+ghost use Rattle.memory.specs.Requests.{ReadByte, WriteByte, byte_refusal, refusal_on, held_frame, call_on, state_of, reply};
 ghost use Rattle.memory.specs.declared.Memory.{Memory as MemoryOf};
 ghost use Rattle.byte_calls.specs.Passed.{state_with};
 
+use content::{Content, Frames};
 use memory::{BufferPool, Memory, PAGE, Reply};
 use pool::{Answer, Call, FRAMES, Pool};
+
+// By which number a read is turned down for its page or its offset; 0: by none.
+fn outside(pages: u16, page: u32, offset: u32) -> u8
+    ensures { result ≡ byte_refusal pages page offset }
+{
+    match content::outside(pages, page, offset) {
+        Ok(()) => 0,
+        Err(refusal) => refusal.number(),
+    }
+}
 
 // By which number a read is turned down, and so a write: of a pool with these marks, lent a store of so many bytes.
 fn turned_by<'a>(
@@ -41,7 +52,7 @@ fn turned_by<'a>(
     if n != 0 {
         return n;
     }
-    filling::outside(pages, page, offset)
+    outside(pages, page, offset)
 }
 
 // The frame of the client's grant of a page.
@@ -81,8 +92,13 @@ pub fn read(pool: BufferPool, client: u8, page: u32, offset: u32, store: &[u8]) 
         return buffered::turned_back(n, pool);
     }
     let f = held_frame(books, client, page);
-    filling::fill(&mut bytes, &mut filled, store, pages, f, page);
-    let byte = filling::byte_of(&bytes, f, offset);
+    let mut frames = Frames {
+        pages,
+        bytes: &mut bytes,
+        filled: &mut filled,
+    };
+    frames.fill(store, f, page);
+    let byte = frames.byte(f, offset);
     Reply {
         answer: Answer::Done(byte as u32),
         pool: BufferPool {
@@ -122,8 +138,16 @@ pub fn write(pool: BufferPool, client: u8, page: u32, offset: u32, byte: u8, sto
         return buffered::turned_back(n, pool);
     }
     let frame = held_frame(books, client, page);
-    filling::fill(&mut bytes, &mut filled, store, pages, frame, page);
-    filling::put_byte(&mut bytes, &mut changed, frame, offset, byte);
+    let mut held = Content {
+        frames: Frames {
+            pages,
+            bytes: &mut bytes,
+            filled: &mut filled,
+        },
+        changed: &mut changed,
+    };
+    held.frames.fill(store, frame, page);
+    held.write(frame, offset, byte);
     Reply {
         answer: Answer::Done(page),
         pool: BufferPool {

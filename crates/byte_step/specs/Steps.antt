@@ -17,7 +17,7 @@ use Rattle.memory.specs.Requests.{Asks, State, Result, turned_back, bytes_ok, le
 use Rattle.memory.specs.declared.BufferPool.{BufferPool}
 use Rattle.memory.specs.declared.Memory.{Memory}
 use Rattle.memory.specs.declared.Tallied.{Tallied}
-use Rattle.effects.specs.Parts.{replaced_of, marks_after, bytes_after, store_in, memory_in_parts, store_in_parts}
+use Rattle.content.specs.Effects.{replaced_of, marks_after, bytes_after, store_in, memory_in_parts, store_in_parts}
 use Rattle.checked.specs.Ways.{made_of}
 use Rattle.copied.specs.declared.Made.{Made}
 use Rattle.buffered.specs.Ways.{unsound, wrong_store, asks}

@@ -11,6 +11,7 @@ ghost use Rattle.answers.specs.Refusals.{by_step};
 ghost use Rattle.memory.specs.Requests.{Asks, call_on, state_of, tallying};
 ghost use Rattle.byte_step.specs.Steps.{turned_tally};
 
+use content::{Content, Frames};
 use memory::{BufferPool, PAGE, Tallied};
 use pool::{Answer, Call, Tally};
 
@@ -62,18 +63,16 @@ pub fn step_tallied(mut pool: BufferPool, client: u8, tally: Tally, store: &mut 
     let made = checked::call_made(books, Call::Step(client));
     let write = made.write;
     let total = reads::total(pool.pool.size, pool.pool.client_count);
-    let entry = effects::replaced(&pool.pool.table_frames, total, write);
-    effects::put_store(
-        store,
-        pages,
-        &pool.memory.bytes,
-        &pool.memory.changed,
-        entry,
-        write,
-    );
-    effects::put_bytes(&mut pool.memory.bytes, entry, write);
-    effects::put_marks(&mut pool.memory.filled, entry, write);
-    effects::put_marks(&mut pool.memory.changed, entry, write);
+    let entry = content::replaced(&pool.pool.table_frames, total, write);
+    let mut held = Content {
+        frames: Frames {
+            pages,
+            bytes: &mut pool.memory.bytes,
+            filled: &mut pool.memory.filled,
+        },
+        changed: &mut pool.memory.changed,
+    };
+    held.follow(store, entry, write);
     let answer = made.answer;
     let counted = made.counted;
     let next = made.pool;

@@ -27,7 +27,7 @@ use Rattle.invariant.proofs.StageTests.{differ}
 use Rattle.memory.specs.Memory.{is_frame}
 use Rattle.memory.specs.Orders.{order_none}
 use Rattle.memory.specs.Requests.{Asks, State, Result, in_order, outside_at, refused, call_on}
-use Rattle.effects.specs.Parts.{replaced_in, replaced_of}
+use Rattle.content.specs.Effects.{replaced_in, replaced_of}
 use Rattle.contents.proofs.Ways.{apart}
 use Rattle.mixed.proofs.StageWrites.{Puts, refuses, keeps, takes, removes, admits, remaps, stage_does}
 use Rattle.play.specs.Turn.{is_client}

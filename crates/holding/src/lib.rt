@@ -3,7 +3,7 @@
 
 ghost use Rattle.std.specs.Prelude.{◌≡◌, ◌*◌, ◌<◌, length};
 ghost use Rattle.memory.specs.Memory.{page_bytes};
-ghost use Rattle.memory.specs.Requests.{State};
+ghost use Rattle.memory.specs.Requests.{State, byte_refusal};
 ghost use Rattle.holding.specs.Holds.{Keeps, HeldBy};
 
 use client_arrays::{ALL_BYTES, ALL_WORDS};
@@ -24,6 +24,16 @@ fn turned(n: u8) -> Holder
     Holder {
         refusal: n,
         frame: NONE,
+    }
+}
+
+// By which number a byte is turned down for its page or its offset; 0: by none.
+fn outside(pages: u16, page: u32, offset: u32) -> u8
+    ensures { result ≡ byte_refusal pages page offset }
+{
+    match content::outside(pages, page, offset) {
+        Ok(()) => 0,
+        Err(refusal) => refusal.number(),
     }
 }
 
@@ -65,7 +75,7 @@ pub fn holder_of<'a>(
     if n != 0 {
         return turned(n);
     }
-    let refusal = filling::outside(store_pages, page, offset);
+    let refusal = outside(store_pages, page, offset);
     let i = reads::grant_of(grant_pages, c, held, page);
     let frame = reads::grant_frame_at(grant_frames, c, held, i);
     Holder { refusal, frame }

@@ -28,7 +28,7 @@ use Rattle.ranges.specs.Ranges.{Numbers, numbers_in}
 use Rattle.frame_search.specs.Search.{Searchable, searched_in}
 use Rattle.memory.specs.Orders.{order_some, order_alone, order_none}
 use Rattle.memory.specs.Requests.{inside, in_order, outside_at}
-use Rattle.effects.specs.Parts.{replaced_in, replaced_of}
+use Rattle.content.specs.Effects.{replaced_in, replaced_of}
 use Rattle.play.specs.Turn.{turn, its_number, moves, stays}
 use Rattle.play.specs.Calls.{unchanged}
 use Rattle.client_arrays.specs.Arrays.{clients_from}

@@ -19,7 +19,7 @@ use Rattle.pool.specs.declared.Write.{Write}
 use Rattle.pool.specs.declared.Write.TheVariants.{Keep, PutSlot, PutPins, PutCount, TakeFrame, PutEntry, PutHand, PutFree}
 use Rattle.memory.specs.Memory.{page_bytes, is_frame, memory_after, store_after}
 use Rattle.memory.specs.Requests.{Request, Asks, ReadByte, WriteByte, State, Result, turned_back, store_ok, first_of, in_order, outside_at, byte_refusal, action_on}
-use Rattle.effects.specs.Parts.{replaced_of}
+use Rattle.content.specs.Effects.{replaced_of}
 use Rattle.play.specs.Parts.{pool_of}
 use Rattle.client_arrays.specs.Arrays.{clients_from}
 

@@ -211,7 +211,7 @@ pub fn act(
         grant_frames,
     );
     let write = turn.write;
-    let entry = effects::replaced(table_frames, total, write);
+    let entry = content::replaced(table_frames, total, write);
     play::put(
         turn,
         number,

@@ -21,9 +21,9 @@ use Rattle.laws.specs.Choices.{chosen, passed}
 use Rattle.memory.specs.Memory.{page_bytes, blank, memory_after, store_after}
 use Rattle.memory.specs.Requests.{Request, Asks, ReadByte, WriteByte, State, Result, turned_back, lent, store_ok, length_ok, setup_on, action_on}
 use Rattle.memory.specs.declared.Memory.{Memory}
-use Rattle.effects.specs.Parts.{marks_after, bytes_after, store_in, memory_in_parts, store_in_parts}
-use Rattle.filling.specs.Parts.{bytes_filled, marks_filled, byte_in, bytes_written, marks_written}
-use Rattle.filling.specs.Acting.{reads_as, writes_as}
+use Rattle.content.specs.Effects.{marks_after, bytes_after, store_in, memory_in_parts, store_in_parts}
+use Rattle.content.specs.Filling.{bytes_filled, marks_filled, byte_in, bytes_written, marks_written}
+use Rattle.content.specs.Acting.{reads_as, writes_as}
 use Rattle.holding.specs.Holds.{HeldBy}
 use Rattle.holding.specs.declared.Holder.{Holder}
 use Rattle.in_place.specs.Held.{Held, held_of, byte_held_refusal, byte_held, held_on, held_state, duty_of, duty_on, state_from}

@@ -31,7 +31,7 @@ use Rattle.memory.specs.Orders.{order_none}
 use Rattle.memory.specs.Requests.{Request, Asks, ReadByte, WriteByte, State, Result, length_ok, outside_at, held_frame}
 use Rattle.memory.specs.declared.Memory.{Memory}
 use Rattle.client_arrays.specs.Arrays.{client_bytes, client_words, client_from, clients_from, bytes_with, words_with, put_back, bytes_stay, words_stay}
-use Rattle.filling.specs.Parts.{bytes_filled, marks_filled, byte_in, bytes_written, marks_written}
+use Rattle.content.specs.Filling.{bytes_filled, marks_filled, byte_in, bytes_written, marks_written}
 use Rattle.holding.specs.Holds.{HeldBy}
 use Rattle.holding.specs.declared.Holder.{Holder}
 use Rattle.play.specs.Turn.{is_client}

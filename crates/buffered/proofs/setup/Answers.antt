@@ -1,43 +1,38 @@
--- The test is the one of the definition; each of its two ways makes the pool and the memory that the definition has there. Assumes nothing.
-use borrow.Author.Tests.{not-true, not-false}
-use native.Mathlib.Omega.{arith}
-use mathlib.Core.Path.{◌≡◌, sym, ◌∙◌}
-use mathlib.Core.Bool.{Bool}
+-- The tests are the ones of the definition; each way makes the pool and the memory that the definition has there. Assumes nothing.
+use mathlib.Core.Path.{◌≡◌, refl, sym, ap, ◌∙◌}
+use mathlib.Core.Bool.{false}
 use lib.ListN.{length}
-use Rattle.pool.specs.Choose.{both}
+use Rattle.pool.specs.Choose.{choose, both}
 use Rattle.pool.specs.Valid.{numbers_ok}
-use Rattle.laws.specs.Choices.{both_are}
-use Rattle.laws.specs.Scans.{both_true}
+use Rattle.laws.specs.Scans.{both_yes}
+use Rattle.memory.specs.Memory.{blank}
 use Rattle.memory.specs.Requests.{length_ok}
-use Rattle.filling.specs.Acting.{few_pages}
 use Rattle.buffered.specs.Ways.{sets_up, sets_up_not}
 use Rattle.buffered.specs.Refusals.{sets}
 use Rattle.buffered.proofs.setup.Goals as goal
 
-pub returns-then-not-ok : goal.returns-then-not-ok
-returns-then-not-ok c =
-    let tested : (b : Bool) → c.both-ok.result ≡ b → let a = c.args in both (numbers_ok a.size a.client_count a.cap) (length_ok (length a.store.now)) ≡ b = λ b e. sym (both_are c.both-ok.ensures c.numbers_ok-numbers.ensures c.length_ok.ensures) ∙ e in
+pub returns-then-not-numbers_ok : goal.returns-then-not-numbers_ok
+unfolding both choose
+returns-then-not-numbers_ok c =
     let a = c.args in
-    record {
-      value = (sets _ _ _ _ _ (sets_up_not a.size a.client_count a.cap a.hand a.store.now (tested _ (not-true _ c.if-not-ok.true-raw))
-          c.turned_back.ensures c.fresh-pool.ensures c.blank-memory.ensures)).0;
-      among = (sets _ _ _ _ _ (sets_up_not a.size a.client_count a.cap a.hand a.store.now (tested _ (not-true _ c.if-not-ok.true-raw))
-          c.turned_back.ensures c.fresh-pool.ensures c.blank-memory.ensures)).1;
-    }
+    let test = sym c.numbers_ok.ensures ∙ c.if-not-numbers_ok.true in
+    let not : both (numbers_ok a.size a.client_count a.cap) (length_ok (length a.store.now)) ≡ false = rw test refl in
+    let done = sets _ _ _ _ _ (sets_up_not a.size a.client_count a.cap a.hand a.store.now not c.not_set_up.ensures refl refl) in
+    record { value = done.0; among = done.1 }
 
-pub overflow_cast-length : goal.overflow_cast-length
-overflow_cast-length c =
-    let tested : (b : Bool) → c.both-ok.result ≡ b → let a = c.args in both (numbers_ok a.size a.client_count a.cap) (length_ok (length a.store.now)) ≡ b = λ b e. sym (both_are c.both-ok.ensures c.numbers_ok-numbers.ensures c.length_ok.ensures) ∙ e in
-    let few = few_pages _ (both_true _ _ (tested _ (not-false _ c.if-not-ok.false-raw))).1 in
-    omega (arith, few)
+pub returns-in_default : goal.returns-in_default
+unfolding both choose
+returns-in_default c =
+    let a = c.args in
+    let test = sym c.numbers_ok.ensures ∙ c.if-not-numbers_ok.false in
+    let not : both (numbers_ok a.size a.client_count a.cap) (length_ok (length a.store.now)) ≡ false = rw (test, c.in_default.ensures) refl in
+    let done = sets _ _ _ _ _ (sets_up_not a.size a.client_count a.cap a.hand a.store.now not c.not_set_up-in_default.ensures refl refl) in
+    record { value = done.0; among = done.1 }
 
 pub returns : goal.returns
 returns c =
-    let tested : (b : Bool) → c.both-ok.result ≡ b → let a = c.args in both (numbers_ok a.size a.client_count a.cap) (length_ok (length a.store.now)) ≡ b = λ b e. sym (both_are c.both-ok.ensures c.numbers_ok-numbers.ensures c.length_ok.ensures) ∙ e in
     let a = c.args in
-    record {
-      value = (sets _ _ _ _ _ (sets_up a.size a.client_count a.cap a.hand a.store.now (tested _ (not-false _ c.if-not-ok.false-raw))
-          c.fresh-pool-2.ensures c.blank-memory-2.ensures)).0;
-      among = (sets _ _ _ _ _ (sets_up a.size a.client_count a.cap a.hand a.store.now (tested _ (not-false _ c.if-not-ok.false-raw))
-          c.fresh-pool-2.ensures c.blank-memory-2.ensures)).1;
-    }
+    let test = sym c.numbers_ok.ensures ∙ c.if-not-numbers_ok.false in
+    let pages = c.blank-memory.ensures ∙ ap blank c.in-Some.ensures.1 in
+    let done = sets _ _ _ _ _ (sets_up a.size a.client_count a.cap a.hand a.store.now (both_yes _ _ test c.in-Some.ensures.0) c.fresh-pool.ensures pages) in
+    record { value = done.0; among = done.1 }

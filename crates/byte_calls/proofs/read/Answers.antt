@@ -26,8 +26,8 @@ fill-requires c =
     let has_passed : let a = c.args in Passed (state_of a.pool a.store.now) a.client a.offset = let a = c.args in passed _ a.client a.page a.offset (sym number_is ∙ c.if-n-ne0.false) in
     has_passed.long
 
-pub byte_of-byte-requires : goal.byte_of-byte-requires
-byte_of-byte-requires c =
+pub byte-byte-requires : goal.byte-byte-requires
+byte-byte-requires c =
     let number_is : let a = c.args in c.turned_by-n.result ≡ refusal_on (state_of a.pool a.store.now) (ReadByte a.client a.page a.offset) = let a = c.args in c.turned_by-n.ensures a.pool.memory a.store.now refl refl refl refl in
     let has_passed : let a = c.args in Passed (state_of a.pool a.store.now) a.client a.offset = let a = c.args in passed _ a.client a.page a.offset (sym number_is ∙ c.if-n-ne0.false) in
     has_passed.offset
@@ -38,7 +38,7 @@ returns c =
     let a = c.args in
     record {
       value = (read_few _ _ _ _ _ (reads a.pool a.store.now a.client a.page a.offset number_is c.if-n-ne0.false
-          c.held_frame-f.ensures c.fill.ensures.0 c.fill.ensures.1 c.byte_of-byte.ensures)).0;
+          c.held_frame-f.ensures c.fill.ensures.bytes c.fill.ensures.filled c.byte-byte.ensures)).0;
       among = (read_few _ _ _ _ _ (reads a.pool a.store.now a.client a.page a.offset number_is c.if-n-ne0.false
-          c.held_frame-f.ensures c.fill.ensures.0 c.fill.ensures.1 c.byte_of-byte.ensures)).1;
+          c.held_frame-f.ensures c.fill.ensures.bytes c.fill.ensures.filled c.byte-byte.ensures)).1;
     }

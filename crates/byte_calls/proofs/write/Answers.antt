@@ -34,7 +34,7 @@ returns c =
     let a = c.args in
     record {
       value = (write_few _ _ _ _ _ _ (writes a.pool a.store.now a.client a.page a.offset number_is c.if-n-ne0.false
-          c.held_frame-frame.ensures c.fill.ensures.0 c.fill.ensures.1 a.byte c.put_byte.ensures.0 c.put_byte.ensures.1)).0;
+          c.held_frame-frame.ensures c.fill.ensures.bytes c.fill.ensures.filled a.byte c.write.ensures.bytes c.write.ensures.changed)).0;
       among = (write_few _ _ _ _ _ _ (writes a.pool a.store.now a.client a.page a.offset number_is c.if-n-ne0.false
-          c.held_frame-frame.ensures c.fill.ensures.0 c.fill.ensures.1 a.byte c.put_byte.ensures.0 c.put_byte.ensures.1)).1;
+          c.held_frame-frame.ensures c.fill.ensures.bytes c.fill.ensures.filled a.byte c.write.ensures.bytes c.write.ensures.changed)).1;
     }

@@ -14,7 +14,7 @@ use Rattle.ranges.specs.Ranges.{Ranged, ranged, total_in}
 use Rattle.memory.specs.Memory.{page_bytes}
 use Rattle.memory.specs.Requests.{bytes_ok}
 use Rattle.byte_checks.specs.Parts.{of_sound}
-use Rattle.effects.specs.Parts.{replaced_in, replaced_of}
+use Rattle.content.specs.Effects.{replaced_in, replaced_of}
 use Rattle.byte_step.specs.Steps.{not_sound, not_long, steps}
 use Rattle.byte_step.proofs.step_tallied.Goals as goal
 
@@ -58,8 +58,8 @@ replaced-entry-requires c =
     let few_frames : c.total-total.result ≤ max_frames = omega (arith, c.total-total.ensures, total_in c.args.pool.pool in_range.numbers) in
     few_frames
 
-pub put_store-requires : goal.put_store-requires
-put_store-requires c =
+pub follow-requires : goal.follow-requires
+follow-requires c =
     let long : let a = c.args in length a.store.now ≡ page_bytes * a.pool.memory.pages = c.if-store-pages.false in
     long
 
@@ -71,9 +71,9 @@ returns c =
     let a = c.args in
     record {
       value = (steps a.pool a.client a.tally a.store.now passes c.if-store-pages.false c.call_made-made.ensures
-          entry_is c.put_bytes.ensures c.put_marks.ensures c.put_marks-2.ensures c.put_store.ensures
+          entry_is c.follow.ensures.bytes c.follow.ensures.filled c.follow.ensures.changed c.follow.ensures.store
           c.tallied.ensures).0;
       among = (steps a.pool a.client a.tally a.store.now passes c.if-store-pages.false c.call_made-made.ensures
-          entry_is c.put_bytes.ensures c.put_marks.ensures c.put_marks-2.ensures c.put_store.ensures
+          entry_is c.follow.ensures.bytes c.follow.ensures.filled c.follow.ensures.changed c.follow.ensures.store
           c.tallied.ensures).1;
     }

@@ -10,7 +10,7 @@ use Rattle.pool.specs.declared.Call.TheVariants.{Release}
 use Rattle.pool.specs.declared.Client.{Client}
 use Rattle.memory.specs.Memory.{page_bytes}
 use Rattle.memory.specs.Requests.{State, byte_refusal}
-use Rattle.filling.specs.Acting.{low_offset}
+use Rattle.content.specs.Acting.{low_offset}
 use Rattle.holding.specs.Holds.{Keeps, turned_down, wrong_length, many_clients, many_grants, by_release, by_byte, nobody, its_record, calls, held_frame_lem}
 use Rattle.holding.proofs.holder_of.Goals as goal
 

@@ -15,7 +15,7 @@ use Rattle.laws.specs.Elements.{client_of_pool}
 use Rattle.ranges.specs.Ranges.{Numbers, numbers_in}
 use Rattle.frame_search.specs.Search.{searched_in_lem}
 use Rattle.refusals.specs.Caller.{Caller}
-use Rattle.effects.specs.Parts.{replaced_in}
+use Rattle.content.specs.Effects.{replaced_in}
 use Rattle.play.specs.Turn.{turn, Turns, its_number}
 use Rattle.play.specs.Parts.{same_clients}
 use Rattle.client_arrays.specs.Arrays.{client_from, clients_from, client_from_lem, put_as}

@@ -8,7 +8,7 @@ use Rattle.laws.specs.Choices.{both_are}
 use Rattle.memory.specs.Requests.{State}
 use Rattle.in_place.specs.Held.{pool_from, state_from}
 use Rattle.laws.specs.Scans.{both_second}
-use Rattle.filling.specs.Acting.{few_pages}
+use Rattle.content.specs.Acting.{few_pages}
 use Rattle.served.specs.Served.{accepted, refuses, sets_up}
 use Rattle.served.proofs.foqheran_parts_setup.Goals as goal
 

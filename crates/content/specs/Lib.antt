@@ -1,0 +1,4 @@
+pub mod Effects
+pub mod Filling
+pub mod Acting
+pub mod Loans

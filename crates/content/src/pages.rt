@@ -1,0 +1,26 @@
+// A page's 64 bytes, copied where they lie: between a frame and the store, and from frame to frame.
+ghost use Rattle.std.specs.Prelude.{◌≡◌, ◌+◌, ◌≤◌, ◌<◌, length};
+ghost use Rattle.pool.specs.Limits.{max_frames};
+ghost use Rattle.memory.specs.Memory.{page_bytes, start, copied_page};
+
+use memory::{BYTES, PAGE};
+
+/// A page of one list laid over one of another.
+pub fn copy_page(to: &mut [u8], i: usize, from: &[u8], j: usize)
+    requires to { start i + page_bytes ≤ length to.old }
+    requires from { start j + page_bytes ≤ length from.now }
+    ensures { to.new ≡ copied_page to.old i from.now j }
+{
+    let page = &from[PAGE * j..PAGE * j + PAGE];
+    to[PAGE * i..PAGE * i + PAGE].copy_from_slice(page);
+}
+
+/// A frame's bytes, copied to another frame, or left where both are one.
+#[tactic(auto, using(crate::proofs::Copied::within_is))]
+pub fn shift(bytes: &mut [u8; BYTES], from: usize, to: usize)
+    requires from { from < max_frames }
+    requires to { to < max_frames }
+    ensures { bytes.new ≡ copied_page bytes.old to bytes.old from }
+{
+    bytes.copy_within(PAGE * from..PAGE * from + PAGE, PAGE * to);
+}
