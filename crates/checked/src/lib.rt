@@ -1,103 +1,100 @@
-// A call on any pool, by value: check 8 of the pool as handed, the call's turn on a copy of it, and check 8 of the copy. A call that is refused by
-// another number than 15 hands the pool back as it came. Internal: crate `calls` has the calls by name, and crates `buffered` and `byte_step` those of
-// a pool with bytes, which need what the call wrote.
+// A call on any pool: check 8 of the pool as handed, the call's turn on a copy of it, and check 8 of the copy. A call that is refused by another number
+// than 15 leaves the pool as it came. Internal: crate `calls` has the calls by name, and crates `buffered` and `byte_step` those of a pool with bytes,
+// which need what the call wrote.
 #![tactic(auto)]
 
-ghost use Rattle.std.specs.Prelude.{◌≡◌, true};
+ghost use Rattle.std.specs.Prelude.{◌≡◌, false, MatchResult};
 ghost use Rattle.pool.specs.Valid.{valid};
-ghost use Rattle.pool.specs.Calls.{turned_down, turned_by, call_of};
-ghost use Rattle.checked.specs.Ways.{unmade_by, made_of};
+ghost use Rattle.pool.specs.Calls.{turned_down, call_of};
+ghost use Rattle.answers.specs.Numbers.{refusal_number};
+ghost use Rattle.answers.specs.declared.refusal.Refusal.TheVariants.{OutOfRange};
+ghost use Rattle.checked.specs.Ways.{made_of};
 
-use copied::Made;
+use answers::Refusal;
+use books::{Checked, Numbers};
 use pool::{Answer, Call, Counted, Outcome, Pool, Write};
 
-// The one refusal that leaves what its client did (SPECIFICATION 3.9): the sweep met only busy slots.
-const ALL_BUSY: u8 = 15;
+/// What a call leaves, and what it wrote to the pool.
+#[derive(Clone, Copy)]
+pub struct Made {
+    pub answer: Answer,
+    pub counted: Counted,
+    pub write: Write,
+    pub pool: Pool,
+}
 
-// The pool as it was, and the number that the call is refused by.
-pub fn turned_down(n: u8, pool: Pool) -> Outcome
-    ensures { result ≡ turned_down n pool }
+/// Check 8 of a pool: SPECIFICATION, section 5.
+pub fn check(pool: &Pool) -> Result<Checked<'_>, Refusal>
+    ensures { MatchResult result (λ c. c.pool.now ≡ pool.now) (λ e. (e ≡ OutOfRange) × (valid pool.now ≡ false)) }
 {
-    Outcome {
-        answer: Answer::Refused(n),
-        counted: Counted::Nothing,
-        pool,
+    let Some(numbers) = Numbers::new(pool.size, pool.client_count, pool.cap) else {
+        return Err(Refusal::OutOfRange);
+    };
+    if validity::valid(*pool) {
+        Ok(Checked { pool, numbers })
+    } else {
+        Err(Refusal::OutOfRange)
     }
 }
 
-// The same, with nothing written.
-fn unmade(n: u8, pool: Pool) -> Made
-    ensures { result ≡ unmade_by n pool }
+/// The turn of a call, played on a copy of the pool, which is then checked. A move that is refused by another number than 15 changes nothing (SPECIFICATION
+/// 3.9), so that its copy is not made.
+fn attempt(pool: &Checked, call: Call) -> Result<Made, Refusal>
+    ensures { MatchResult result (λ m. m ≡ made_of pool.now.pool.now call)
+        (λ e. call_of pool.now.pool.now call ≡ turned_down (refusal_number e) pool.now.pool.now) }
 {
-    Made {
-        answer: Answer::Refused(n),
-        counted: Counted::Nothing,
-        write: Write::Keep,
-        pool,
+    let turn = play::turn(pool, call)?;
+    let refused = answers::refusal_of(turn.answer);
+    if refused != 0 && refused != Refusal::AllBusy.number() {
+        return Err(Refusal::OutOfRange);
+    }
+    let mut next = *pool.pool;
+    let c = answers::caller(call) as usize;
+    play::put(&mut next, pool.numbers, c, &turn);
+    if validity::valid(next) {
+        Ok(Made {
+            answer: turn.answer,
+            counted: turn.counted,
+            write: turn.write,
+            pool: next,
+        })
+    } else {
+        Err(Refusal::OutOfRange)
     }
 }
 
-// By which of 9 to 13 and 18 a call on a pool that passes check 8 is turned down; 0: by none of them.
-pub fn turned_by(pool: Pool, call: Call) -> u8
-    requires { valid pool ≡ true }
-    ensures { result ≡ turned_by pool call }
+/// A call on a pool that passes check 8.
+pub fn call_made(pool: &Checked, call: Call) -> Made
+    ensures { result ≡ made_of pool.now.pool.now call }
 {
-    let caller = answers::caller(call);
-    let number = play::client_or_first(pool.client_count, caller);
-    let clients = pool.clients;
-    let client = clients[number];
-    refusals::turned_by(call, pool.client_count, client, &pool.grant_pages)
+    match attempt(pool, call) {
+        Ok(made) => made,
+        Err(refusal) => Made {
+            answer: refusal.into(),
+            counted: Counted::Nothing,
+            write: Write::Keep,
+            pool: *pool.pool,
+        },
+    }
 }
 
-// A call on a pool that passes check 8. A turn that is refused by another number than 15 changes nothing, so that its copy needs no check. The copy is
-// lent to the check part by part, as another copy would cost more than the check.
-pub fn call_made(pool: Pool, call: Call) -> Made
-    requires { valid pool ≡ true }
-    ensures { result ≡ made_of pool call }
-{
-    let turned = copied::on_copy(pool, call);
-    let answer = turned.answer;
-    let refused = answers::refusal_of(answer);
-    if refused != 0 && refused != ALL_BUSY {
-        return unmade(refused, pool);
-    }
-    let clients = turned.pool.clients;
-    let still_sound = validity::parts_ok(
-        turned.pool.size,
-        turned.pool.client_count,
-        turned.pool.cap,
-        turned.pool.free,
-        turned.pool.last,
-        &turned.pool.slots,
-        &turned.pool.pins,
-        &turned.pool.counts,
-        &turned.pool.table_pages,
-        &turned.pool.table_frames,
-        clients,
-        &turned.pool.grant_pages,
-        &turned.pool.grant_frames,
-    );
-    if !still_sound {
-        return unmade(8, pool);
-    }
-    turned
-}
-
-// A call on any pool.
+/// A call on any pool.
 pub fn call_of(pool: Pool, call: Call) -> Outcome
     ensures { result ≡ call_of pool call }
 {
-    let sound = validity::valid(pool);
-    if !sound {
-        return turned_down(8, pool);
-    }
-    let made = call_made(pool, call);
-    let answer = made.answer;
-    let counted = made.counted;
-    let next = made.pool;
-    Outcome {
-        answer,
-        counted,
-        pool: next,
+    match check(&pool) {
+        Ok(checked) => {
+            let made = call_made(&checked, call);
+            Outcome {
+                answer: made.answer,
+                counted: made.counted,
+                pool: made.pool,
+            }
+        }
+        Err(refusal) => Outcome {
+            answer: refusal.into(),
+            counted: Counted::Nothing,
+            pool,
+        },
     }
 }
