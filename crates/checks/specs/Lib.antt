@@ -1,0 +1,4 @@
+pub mod Checked
+pub mod Lent
+pub mod Met
+pub mod Places
