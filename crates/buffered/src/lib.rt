@@ -14,6 +14,7 @@ ghost use Rattle.memory.specs.Memory.{blank};
 ghost use Rattle.memory.specs.Requests.{Asks, setup_on, in_order, call_on, state_of, reply};
 ghost use Rattle.buffered.specs.Ways.{turned_reply};
 
+use books::Numbers;
 use memory::{BYTES, BufferPool, Memory, PAGE, Reply};
 use pool::{Answer, Call, FRAMES, Pool};
 
@@ -47,8 +48,8 @@ pub fn setup(size: u8, client_count: u8, cap: u8, hand: u32, store: &[u8]) -> Re
     ensures among { Among by_setup (refusal_of result.answer) }
 {
     let length = store.len();
-    let numbers = range_tests::numbers_ok(size, client_count, cap);
-    let ok = range_tests::both(numbers, filling::length_ok(length));
+    let numbers = Numbers::new(size, client_count, cap).is_some();
+    let ok = numbers && filling::length_ok(length);
     if !ok {
         let pool = calls::fresh(0, 0, 0, 0);
         let memory = blank(0);
@@ -65,12 +66,15 @@ pub fn setup(size: u8, client_count: u8, cap: u8, hand: u32, store: &[u8]) -> Re
 // ---- begin, release
 
 // By which number a begin of a page outside the store is turned down.
+#[tactic(auto, using(memory::specs::Orders::order_zero, memory::specs::Orders::order_some), unfolding(memory::specs::Requests::in_order, memory::specs::Requests::first_of, pool::specs::Choose::choose))]
 fn outside(pool: Pool, call: Call) -> u8
     requires { valid pool ≡ true }
     ensures { result ≡ in_order (turned_by pool call) 16 }
 {
-    let n = checked::turned_by(pool, call);
-    byte_checks::outside(n)
+    match checked::turned_by(pool, call) {
+        0 | 18 => 16,
+        n => n,
+    }
 }
 
 // SPECIFICATION 13.5, 13.10: whatever the store has in it.
@@ -80,13 +84,11 @@ pub fn begin(pool: BufferPool, client: u8, page: u32) -> Reply
 {
     let books = pool.pool;
     let memory = pool.memory;
-    let filled = memory.filled;
-    let changed = memory.changed;
-    let sound = byte_checks::sound(books, memory.pages, &filled, &changed);
+    let sound = checks::sound(&pool);
     if !sound {
         return turned_back(8, pool);
     }
-    let inside = byte_checks::inside(memory.pages, page);
+    let inside = checks::inside(memory.pages, page);
     if !inside {
         return turned_back(outside(books, Call::Begin(client, page)), pool);
     }
@@ -106,9 +108,7 @@ pub fn release(pool: BufferPool, client: u8, page: u32) -> Reply
 {
     let books = pool.pool;
     let memory = pool.memory;
-    let filled = memory.filled;
-    let changed = memory.changed;
-    let ok = byte_checks::sound(books, memory.pages, &filled, &changed);
+    let ok = checks::sound(&pool);
     if !ok {
         return turned_back(8, pool);
     }

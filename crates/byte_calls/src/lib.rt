@@ -10,34 +10,23 @@ ghost use Rattle.pool.specs.Valid.{valid};
 ghost use Rattle.answers.specs.Among.{Among};
 ghost use Rattle.answers.specs.Refusals.{by_byte};
 ghost use Rattle.memory.specs.Requests.{ReadByte, WriteByte, refusal_on, held_frame, call_on, state_of, reply};
-ghost use Rattle.memory.specs.declared.Memory.{Memory as MemoryOf};
-ghost use Rattle.byte_calls.specs.Passed.{state_with};
 
 use memory::{BufferPool, Memory, PAGE, Reply};
-use pool::{Answer, Call, FRAMES, Pool};
+use pool::{Answer, Call, Pool};
 
-// By which number a read is turned down, and so a write: of a pool with these marks, lent a store of so many bytes.
-fn turned_by<'a>(
-    pool: Pool,
-    pages: u16,
-    filled: &'a [u8; FRAMES],
-    changed: &'a [u8; FRAMES],
-    lent: usize,
-    client: u8,
-    page: u32,
-    offset: u32,
-) -> u8
-    ensures { (m : MemoryOf) (store : List ℕ) → m.pages ≡ pages → m.filled ≡ filled.now → m.changed ≡ changed.now →
-        length store ≡ lent → result ≡ refusal_on (state_with pool m store) (ReadByte client page offset) }
+// By which number a read is turned down, and so a write: of a pool that is lent a store of so many bytes.
+fn turned_by(pool: &BufferPool, lent: usize, client: u8, page: u32, offset: u32) -> u8
+    ensures { (store : List ℕ) → length store ≡ lent → result ≡ refusal_on (state_of pool.now store) (ReadByte client page offset) }
 {
-    let sound = byte_checks::sound(pool, pages, filled, changed);
+    let pages = pool.memory.pages;
+    let sound = checks::sound(pool);
     if !sound {
         return 8;
     }
     if lent != PAGE * pages as usize {
         return 8;
     }
-    let n = checked::turned_by(pool, Call::Release(client, page));
+    let n = checked::turned_by(pool.pool, Call::Release(client, page));
     if n != 0 {
         return n;
     }
@@ -67,16 +56,7 @@ pub fn read(pool: BufferPool, client: u8, page: u32, offset: u32, store: &[u8]) 
     let mut bytes = memory.bytes;
     let mut filled = memory.filled;
     let changed = memory.changed;
-    let n = turned_by(
-        books,
-        pages,
-        &filled,
-        &changed,
-        store.len(),
-        client,
-        page,
-        offset,
-    );
+    let n = turned_by(&pool, store.len(), client, page, offset);
     if n != 0 {
         return buffered::turned_back(n, pool);
     }
@@ -108,16 +88,7 @@ pub fn write(pool: BufferPool, client: u8, page: u32, offset: u32, byte: u8, sto
     let mut bytes = memory.bytes;
     let mut filled = memory.filled;
     let mut changed = memory.changed;
-    let n = turned_by(
-        books,
-        pages,
-        &filled,
-        &changed,
-        store.len(),
-        client,
-        page,
-        offset,
-    );
+    let n = turned_by(&pool, store.len(), client, page, offset);
     if n != 0 {
         return buffered::turned_back(n, pool);
     }

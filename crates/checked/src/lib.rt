@@ -49,8 +49,7 @@ pub fn turned_by(pool: Pool, call: Call) -> u8
     refusals::turned_by(call, pool.client_count, client, &pool.grant_pages)
 }
 
-// A call on a pool that passes check 8. A turn that is refused by another number than 15 changes nothing, so that its copy needs no check. The copy is
-// lent to the check part by part, as another copy would cost more than the check.
+// A call on a pool that passes check 8. A turn that is refused by another number than 15 changes nothing, so that its copy needs no check.
 pub fn call_made(pool: Pool, call: Call) -> Made
     requires { valid pool ≡ true }
     ensures { result ≡ made_of pool call }
@@ -61,22 +60,7 @@ pub fn call_made(pool: Pool, call: Call) -> Made
     if refused != 0 && refused != ALL_BUSY {
         return unmade(refused, pool);
     }
-    let clients = turned.pool.clients;
-    let still_sound = validity::parts_ok(
-        turned.pool.size,
-        turned.pool.client_count,
-        turned.pool.cap,
-        turned.pool.free,
-        turned.pool.last,
-        &turned.pool.slots,
-        &turned.pool.pins,
-        &turned.pool.counts,
-        &turned.pool.table_pages,
-        &turned.pool.table_frames,
-        clients,
-        &turned.pool.grant_pages,
-        &turned.pool.grant_frames,
-    );
+    let still_sound = checks::valid(&turned.pool);
     if !still_sound {
         return unmade(8, pool);
     }
@@ -87,7 +71,7 @@ pub fn call_made(pool: Pool, call: Call) -> Made
 pub fn call_of(pool: Pool, call: Call) -> Outcome
     ensures { result ≡ call_of pool call }
 {
-    let sound = validity::valid(pool);
+    let sound = checks::valid(&pool);
     if !sound {
         return turned_down(8, pool);
     }

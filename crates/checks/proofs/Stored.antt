@@ -23,18 +23,17 @@ few_grants p v c h = rw (client_of_pool p c h) at (((ranged p v).client c h).cou
 
 -- ---- pool, bytes and store together
 
-module _ {a b : Bool} where
-  pub passed_both : a ≡ true → b ≡ true → 0 ≡ choose (both a b) 0 8
-  unfolding both choose
-  passed_both s t = rw (s, t) refl
+pub passed_both : {a b : Bool} → a ≡ true → b ≡ true → ◌≡◌ {A = ℕ} 0 (choose (both a b) 0 8)
+unfolding both choose
+passed_both s t = rw (s, t) refl
 
-  pub failed_first : a ≡ false → 8 ≡ choose (both a b) 0 8
-  unfolding both choose
-  failed_first s = rw s refl
+pub failed_first : {a : Bool} (b : Bool) → a ≡ false → ◌≡◌ {A = ℕ} 8 (choose (both a b) 0 8)
+unfolding both choose
+failed_first b s = rw s refl
 
-  pub failed_second : a ≡ true → b ≡ false → 8 ≡ choose (both a b) 0 8
-  unfolding both choose
-  failed_second s t = rw (s, t) refl
+pub failed_second : {a b : Bool} → a ≡ true → b ≡ false → ◌≡◌ {A = ℕ} 8 (choose (both a b) 0 8)
+unfolding both choose
+failed_second s t = rw (s, t) refl
 
 -- ---- marks
 

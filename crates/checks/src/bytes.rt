@@ -2,7 +2,7 @@
 // no marks.
 #![tactic(auto)]
 
-ghost use Rattle.std.specs.Prelude.{◌≡◌, ◌<◌, ◌≤◌, List, ℕ, ◌*◌, ◌&&◌, ◌==◌, not, true, fold, eqb, length};
+ghost use Rattle.std.specs.Prelude.{◌≡◌, ◌<◌, ◌≤◌, List, ℕ, ◌*◌, ◌&&◌, ◌==◌, not, true, fold, eqb, length, IfErr};
 ghost use Rattle.std.specs.List.{zip, list_all};
 ghost use Rattle.pool.specs.Limits.{max_clients, max_held, max_frames};
 ghost use Rattle.pool.specs.Choose.{choose, both, either, every};
@@ -11,6 +11,7 @@ ghost use Rattle.pool.specs.Valid.{valid};
 ghost use Rattle.memory.specs.Memory.{page_bytes, mark};
 ghost use Rattle.memory.specs.Requests.{inside, in_order, client_inside, pages_inside, bytes_ok};
 ghost use Rattle.answers.specs.Numbers.{refusal_number, refused_by};
+ghost use Rattle.answers.specs.declared.refusal.Refusal.TheVariants.{OutOfRange};
 ghost use Rattle.books.specs.Books.{pool_in};
 ghost use Rattle.books.specs.Named.{FewGrants};
 ghost use Rattle.checks.specs.Lent.{memory_in};
@@ -218,12 +219,14 @@ pub fn check(
     marks: &Marks,
     lent: usize,
 ) -> Result<(), Refusal>
-    ensures { (bytes store : List ℕ) → length store ≡ lent →
+    ensures number { (bytes store : List ℕ) → length store ≡ lent →
         let p = pool_in books.now clients.now in
         let m = memory_in marks.now bytes in
         refused_by result ≡ choose (both (both (valid p) (bytes_ok p m)) (eqb (length store) (page_bytes * m.pages))) 0 8 }
+    ensures refusal { IfErr result (λ r. r ≡ OutOfRange) }
 {
-    if parts_sound(books, clients, marks) && lent == PAGE * usize::from(marks.pages) {
+    let as_long = lent == PAGE * usize::from(marks.pages);
+    if parts_sound(books, clients, marks) && as_long {
         Ok(())
     } else {
         Err(Refusal::OutOfRange)

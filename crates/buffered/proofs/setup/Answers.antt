@@ -6,17 +6,25 @@ use mathlib.Core.Bool.{Bool}
 use lib.ListN.{length}
 use Rattle.pool.specs.Choose.{both}
 use Rattle.pool.specs.Valid.{numbers_ok}
-use Rattle.laws.specs.Choices.{both_are}
 use Rattle.laws.specs.Scans.{both_true}
 use Rattle.memory.specs.Requests.{length_ok}
 use Rattle.filling.specs.Acting.{few_pages}
 use Rattle.buffered.specs.Ways.{sets_up, sets_up_not}
 use Rattle.buffered.specs.Refusals.{sets}
+use Rattle.checks.specs.Numbered.{numbered}
+use Rattle.checks.proofs.Parts.{fails, holds}
 use Rattle.buffered.proofs.setup.Goals as goal
+use Rattle.buffered.proofs.setup.Goals.{then-numbers, else-numbers}
 
 pub returns-then-not-ok : goal.returns-then-not-ok
 returns-then-not-ok c =
-    let tested : (b : Bool) → c.both-ok.result ≡ b → let a = c.args in both (numbers_ok a.size a.client_count a.cap) (length_ok (length a.store.now)) ≡ b = λ b e. sym (both_are c.both-ok.ensures c.numbers_ok-numbers.ensures c.length_ok.ensures) ∙ e in
+    let range = numbered _ _ _ _ c.new.ensures c.is_some-numbers.ensures in
+    let test : let a = c.args in c.if-numbers.value ≡ both (numbers_ok a.size a.client_count a.cap) (length_ok (length a.store.now)) =
+    elim c.if-numbers.branch [
+      | then-numbers w ↦ w.value-is ∙ w.length_ok.ensures ∙ holds _ range w.if-numbers.true
+      | else-numbers w ↦ w.value-is ∙ fails _ range w.if-numbers.false
+    ] in
+    let tested : (b : Bool) → c.if-numbers.value ≡ b → let a = c.args in both (numbers_ok a.size a.client_count a.cap) (length_ok (length a.store.now)) ≡ b = λ b e. sym test ∙ e in
     let a = c.args in
     record {
       value = (sets _ _ _ _ _ (sets_up_not a.size a.client_count a.cap a.hand a.store.now (tested _ (not-true _ c.if-not-ok.true-raw))
@@ -27,13 +35,25 @@ returns-then-not-ok c =
 
 pub overflow_cast-length : goal.overflow_cast-length
 overflow_cast-length c =
-    let tested : (b : Bool) → c.both-ok.result ≡ b → let a = c.args in both (numbers_ok a.size a.client_count a.cap) (length_ok (length a.store.now)) ≡ b = λ b e. sym (both_are c.both-ok.ensures c.numbers_ok-numbers.ensures c.length_ok.ensures) ∙ e in
+    let range = numbered _ _ _ _ c.new.ensures c.is_some-numbers.ensures in
+    let test : let a = c.args in c.if-numbers.value ≡ both (numbers_ok a.size a.client_count a.cap) (length_ok (length a.store.now)) =
+    elim c.if-numbers.branch [
+      | then-numbers w ↦ w.value-is ∙ w.length_ok.ensures ∙ holds _ range w.if-numbers.true
+      | else-numbers w ↦ w.value-is ∙ fails _ range w.if-numbers.false
+    ] in
+    let tested : (b : Bool) → c.if-numbers.value ≡ b → let a = c.args in both (numbers_ok a.size a.client_count a.cap) (length_ok (length a.store.now)) ≡ b = λ b e. sym test ∙ e in
     let few = few_pages _ (both_true _ _ (tested _ (not-false _ c.if-not-ok.false-raw))).1 in
     omega (arith, few)
 
 pub returns : goal.returns
 returns c =
-    let tested : (b : Bool) → c.both-ok.result ≡ b → let a = c.args in both (numbers_ok a.size a.client_count a.cap) (length_ok (length a.store.now)) ≡ b = λ b e. sym (both_are c.both-ok.ensures c.numbers_ok-numbers.ensures c.length_ok.ensures) ∙ e in
+    let range = numbered _ _ _ _ c.new.ensures c.is_some-numbers.ensures in
+    let test : let a = c.args in c.if-numbers.value ≡ both (numbers_ok a.size a.client_count a.cap) (length_ok (length a.store.now)) =
+    elim c.if-numbers.branch [
+      | then-numbers w ↦ w.value-is ∙ w.length_ok.ensures ∙ holds _ range w.if-numbers.true
+      | else-numbers w ↦ w.value-is ∙ fails _ range w.if-numbers.false
+    ] in
+    let tested : (b : Bool) → c.if-numbers.value ≡ b → let a = c.args in both (numbers_ok a.size a.client_count a.cap) (length_ok (length a.store.now)) ≡ b = λ b e. sym test ∙ e in
     let a = c.args in
     record {
       value = (sets _ _ _ _ _ (sets_up a.size a.client_count a.cap a.hand a.store.now (tested _ (not-false _ c.if-not-ok.false-raw))

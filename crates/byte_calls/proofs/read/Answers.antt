@@ -7,7 +7,7 @@ use Rattle.byte_calls.proofs.read.Goals as goal
 
 pub returns-then-n-ne0 : goal.returns-then-n-ne0
 returns-then-n-ne0 c =
-    let number_is : let a = c.args in c.turned_by-n.result ≡ refusal_on (state_of a.pool a.store.now) (ReadByte a.client a.page a.offset) = let a = c.args in c.turned_by-n.ensures a.pool.memory a.store.now refl refl refl refl in
+    let number_is : let a = c.args in c.turned_by-n.result ≡ refusal_on (state_of a.pool a.store.now) (ReadByte a.client a.page a.offset) = let a = c.args in c.turned_by-n.ensures a.store.now refl in
     let a = c.args in
     record {
       value = (read_few _ _ _ _ _ (c.turned_back.ensures ∙ turns_read a.pool a.store.now a.client a.page a.offset number_is c.if-n-ne0.true)).0;
@@ -16,25 +16,25 @@ returns-then-n-ne0 c =
 
 pub held_frame-f-requires : goal.held_frame-f-requires
 held_frame-f-requires c =
-    let number_is : let a = c.args in c.turned_by-n.result ≡ refusal_on (state_of a.pool a.store.now) (ReadByte a.client a.page a.offset) = let a = c.args in c.turned_by-n.ensures a.pool.memory a.store.now refl refl refl refl in
+    let number_is : let a = c.args in c.turned_by-n.result ≡ refusal_on (state_of a.pool a.store.now) (ReadByte a.client a.page a.offset) = let a = c.args in c.turned_by-n.ensures a.store.now refl in
     let has_passed : let a = c.args in Passed (state_of a.pool a.store.now) a.client a.offset = let a = c.args in passed _ a.client a.page a.offset (sym number_is ∙ c.if-n-ne0.false) in
     (has_passed.valid, has_passed.client)
 
 pub fill-requires : goal.fill-requires
 fill-requires c =
-    let number_is : let a = c.args in c.turned_by-n.result ≡ refusal_on (state_of a.pool a.store.now) (ReadByte a.client a.page a.offset) = let a = c.args in c.turned_by-n.ensures a.pool.memory a.store.now refl refl refl refl in
+    let number_is : let a = c.args in c.turned_by-n.result ≡ refusal_on (state_of a.pool a.store.now) (ReadByte a.client a.page a.offset) = let a = c.args in c.turned_by-n.ensures a.store.now refl in
     let has_passed : let a = c.args in Passed (state_of a.pool a.store.now) a.client a.offset = let a = c.args in passed _ a.client a.page a.offset (sym number_is ∙ c.if-n-ne0.false) in
     has_passed.long
 
 pub byte_of-byte-requires : goal.byte_of-byte-requires
 byte_of-byte-requires c =
-    let number_is : let a = c.args in c.turned_by-n.result ≡ refusal_on (state_of a.pool a.store.now) (ReadByte a.client a.page a.offset) = let a = c.args in c.turned_by-n.ensures a.pool.memory a.store.now refl refl refl refl in
+    let number_is : let a = c.args in c.turned_by-n.result ≡ refusal_on (state_of a.pool a.store.now) (ReadByte a.client a.page a.offset) = let a = c.args in c.turned_by-n.ensures a.store.now refl in
     let has_passed : let a = c.args in Passed (state_of a.pool a.store.now) a.client a.offset = let a = c.args in passed _ a.client a.page a.offset (sym number_is ∙ c.if-n-ne0.false) in
     has_passed.offset
 
 pub returns : goal.returns
 returns c =
-    let number_is : let a = c.args in c.turned_by-n.result ≡ refusal_on (state_of a.pool a.store.now) (ReadByte a.client a.page a.offset) = let a = c.args in c.turned_by-n.ensures a.pool.memory a.store.now refl refl refl refl in
+    let number_is : let a = c.args in c.turned_by-n.result ≡ refusal_on (state_of a.pool a.store.now) (ReadByte a.client a.page a.offset) = let a = c.args in c.turned_by-n.ensures a.store.now refl in
     let a = c.args in
     record {
       value = (read_few _ _ _ _ _ (reads a.pool a.store.now a.client a.page a.offset number_is c.if-n-ne0.false

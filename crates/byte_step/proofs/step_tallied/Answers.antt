@@ -13,7 +13,6 @@ use Rattle.laws.specs.Scans.{both_first}
 use Rattle.ranges.specs.Ranges.{Ranged, ranged, total_in}
 use Rattle.memory.specs.Memory.{page_bytes}
 use Rattle.memory.specs.Requests.{bytes_ok}
-use Rattle.byte_checks.specs.Parts.{of_sound}
 use Rattle.effects.specs.Parts.{replaced_in, replaced_of}
 use Rattle.byte_step.specs.Steps.{not_sound, not_long, steps}
 use Rattle.byte_step.proofs.step_tallied.Goals as goal
@@ -22,7 +21,7 @@ use Rattle.byte_step.proofs.step_tallied.Goals as goal
 
 pub returns-then-not-sound : goal.returns-then-not-sound
 returns-then-not-sound c =
-    let tested : (b : Bool) → c.parts_sound-sound.result ≡ b → let p = c.args.pool in both (valid p.pool) (bytes_ok p.pool p.memory) ≡ b = λ b e. let p = c.args.pool in sym (of_sound p.pool p.memory) ∙ sym c.parts_sound-sound.ensures ∙ e in
+    let tested : (b : Bool) → c.sound-sound.result ≡ b → let p = c.args.pool in both (valid p.pool) (bytes_ok p.pool p.memory) ≡ b = λ b e. sym c.sound-sound.ensures ∙ e in
     let a = c.args in
     record {
       value = (not_sound a.pool a.client a.tally a.store.now (tested _ (not-true _ c.if-not-sound.true-raw)) c.refused.ensures).0;
@@ -39,20 +38,20 @@ returns-then-store-pages c =
 
 pub call_made-made-requires : goal.call_made-made-requires
 call_made-made-requires c =
-    let tested : (b : Bool) → c.parts_sound-sound.result ≡ b → let p = c.args.pool in both (valid p.pool) (bytes_ok p.pool p.memory) ≡ b = λ b e. let p = c.args.pool in sym (of_sound p.pool p.memory) ∙ sym c.parts_sound-sound.ensures ∙ e in
+    let tested : (b : Bool) → c.sound-sound.result ≡ b → let p = c.args.pool in both (valid p.pool) (bytes_ok p.pool p.memory) ≡ b = λ b e. sym c.sound-sound.ensures ∙ e in
     let passes : let p = c.args.pool in both (valid p.pool) (bytes_ok p.pool p.memory) ≡ true = tested _ (not-false _ c.if-not-sound.false-raw) in
     both_first _ _ passes
 
 pub total-total-requires : goal.total-total-requires
 total-total-requires c =
-    let tested : (b : Bool) → c.parts_sound-sound.result ≡ b → let p = c.args.pool in both (valid p.pool) (bytes_ok p.pool p.memory) ≡ b = λ b e. let p = c.args.pool in sym (of_sound p.pool p.memory) ∙ sym c.parts_sound-sound.ensures ∙ e in
+    let tested : (b : Bool) → c.sound-sound.result ≡ b → let p = c.args.pool in both (valid p.pool) (bytes_ok p.pool p.memory) ≡ b = λ b e. sym c.sound-sound.ensures ∙ e in
     let passes : let p = c.args.pool in both (valid p.pool) (bytes_ok p.pool p.memory) ≡ true = tested _ (not-false _ c.if-not-sound.false-raw) in
     let in_range : Ranged c.args.pool.pool = ranged _ (both_first _ _ passes) in
     let n = in_range.numbers in (n.slots, n.clients)
 
 pub replaced-entry-requires : goal.replaced-entry-requires
 replaced-entry-requires c =
-    let tested : (b : Bool) → c.parts_sound-sound.result ≡ b → let p = c.args.pool in both (valid p.pool) (bytes_ok p.pool p.memory) ≡ b = λ b e. let p = c.args.pool in sym (of_sound p.pool p.memory) ∙ sym c.parts_sound-sound.ensures ∙ e in
+    let tested : (b : Bool) → c.sound-sound.result ≡ b → let p = c.args.pool in both (valid p.pool) (bytes_ok p.pool p.memory) ≡ b = λ b e. sym c.sound-sound.ensures ∙ e in
     let passes : let p = c.args.pool in both (valid p.pool) (bytes_ok p.pool p.memory) ≡ true = tested _ (not-false _ c.if-not-sound.false-raw) in
     let in_range : Ranged c.args.pool.pool = ranged _ (both_first _ _ passes) in
     let few_frames : c.total-total.result ≤ max_frames = omega (arith, c.total-total.ensures, total_in c.args.pool.pool in_range.numbers) in
@@ -65,7 +64,7 @@ put_store-requires c =
 
 pub returns : goal.returns
 returns c =
-    let tested : (b : Bool) → c.parts_sound-sound.result ≡ b → let p = c.args.pool in both (valid p.pool) (bytes_ok p.pool p.memory) ≡ b = λ b e. let p = c.args.pool in sym (of_sound p.pool p.memory) ∙ sym c.parts_sound-sound.ensures ∙ e in
+    let tested : (b : Bool) → c.sound-sound.result ≡ b → let p = c.args.pool in both (valid p.pool) (bytes_ok p.pool p.memory) ≡ b = λ b e. sym c.sound-sound.ensures ∙ e in
     let passes : let p = c.args.pool in both (valid p.pool) (bytes_ok p.pool p.memory) ≡ true = tested _ (not-false _ c.if-not-sound.false-raw) in
     let entry_is : c.replaced-entry.result ≡ replaced_of c.args.pool.pool c.call_made-made.result.write = let p = c.args.pool.pool in c.replaced-entry.ensures ∙ ap (λ (n : ℕ). replaced_in p.table_frames n c.call_made-made.result.write) c.total-total.ensures in
     let a = c.args in

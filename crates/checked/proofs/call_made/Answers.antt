@@ -7,7 +7,6 @@ use mathlib.Core.Logic.{◌≢◌}
 use mathlib.Core.Bool.{Bool}
 use Rattle.pool.specs.Answers.{refusal_of}
 use Rattle.pool.specs.Valid.{valid}
-use Rattle.validity.specs.Parts.{of_parts}
 use Rattle.play.specs.Turn.{turn, played}
 use Rattle.copied.specs.declared.Made.{Made}
 use Rattle.checked.specs.Ways.{as_unmade, nothing_changes, breaks, as_made}
@@ -42,20 +41,20 @@ not_8 c e =
     ]
 
 -- whether the copy passes check 8
-next_is_2 : (c : goal.Else-not-still_sound) {b : Bool} → c.parts_ok-still_sound.result ≡ b →
+next_is_2 : (c : goal.Else-not-still_sound) {b : Bool} → c.valid-still_sound.result ≡ b →
     let a = c.args in
     valid (played a.pool a.call).pool ≡ b
 next_is_2 c e =
     let o = c.on_copy-turned in
-    ap (λ (o : Made). valid o.pool) (sym o.ensures) ∙ sym (of_parts o.result.pool) ∙ sym c.parts_ok-still_sound.ensures ∙ e
+    ap (λ (o : Made). valid o.pool) (sym o.ensures) ∙ sym c.valid-still_sound.ensures ∙ e
 
 -- whether the copy passes check 8
-next_is : (c : goal.After-unmade-then-not-still_sound) {b : Bool} → c.parts_ok-still_sound.result ≡ b →
+next_is : (c : goal.After-unmade-then-not-still_sound) {b : Bool} → c.valid-still_sound.result ≡ b →
     let a = c.args in
     valid (played a.pool a.call).pool ≡ b
 next_is c e =
     let o = c.on_copy-turned in
-    ap (λ (o : Made). valid o.pool) (sym o.ensures) ∙ sym (of_parts o.result.pool) ∙ sym c.parts_ok-still_sound.ensures ∙ e
+    ap (λ (o : Made). valid o.pool) (sym o.ensures) ∙ sym c.valid-still_sound.ensures ∙ e
 
 pub returns-then-refused-ne-ALL_BUSY : goal.returns-then-refused-ne-ALL_BUSY
 returns-then-refused-ne-ALL_BUSY c =

@@ -18,8 +18,8 @@ returns-else-entries_inside c =
     let entries : c.if-frames_inside.value ≡ both (every (λ f. inside a.store (page p f)) (total p)) (every (entry_inside p a.store) (total p)) =
     elim c.if-frames_inside.branch [
       | then-frames_inside w ↦ w.value-is ∙ w.entries_inside.ensures
-        ∙ ap (λ n. every (λ i. either (nat_eq (within p.table_frames n none i) none) (inside a.store (within p.table_pages n 0 i))) n) c.total-n.ensures.value
-        ∙ holds _ frames w.if-frames_inside.true
+          ∙ ap (λ n. every (λ i. either (nat_eq (within p.table_frames n none i) none) (inside a.store (within p.table_pages n 0 i))) n) c.total-n.ensures.value
+          ∙ holds _ frames w.if-frames_inside.true
       | else-frames_inside w ↦ w.value-is ∙ fails _ frames w.if-frames_inside.false
     ] in
     fails _ entries c.if-entries_inside.false ∙ regroup _ _ _
@@ -34,8 +34,8 @@ returns-then-entries_inside c =
     let entries : c.if-frames_inside.value ≡ both (every (λ f. inside a.store (page p f)) (total p)) (every (entry_inside p a.store) (total p)) =
     elim c.if-frames_inside.branch [
       | then-frames_inside w ↦ w.value-is ∙ w.entries_inside.ensures
-        ∙ ap (λ n. every (λ i. either (nat_eq (within p.table_frames n none i) none) (inside a.store (within p.table_pages n 0 i))) n) c.total-n.ensures.value
-        ∙ holds _ frames w.if-frames_inside.true
+          ∙ ap (λ n. every (λ i. either (nat_eq (within p.table_frames n none i) none) (inside a.store (within p.table_pages n 0 i))) n) c.total-n.ensures.value
+          ∙ holds _ frames w.if-frames_inside.true
       | else-frames_inside w ↦ w.value-is ∙ fails _ frames w.if-frames_inside.false
     ] in
     c.clients_inside.ensures ∙ holds _ entries c.if-entries_inside.true ∙ regroup _ _ _

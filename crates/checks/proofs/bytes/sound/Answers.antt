@@ -1,4 +1,4 @@
-use Rattle.std.proofs.Common.{◌≡◌, sym, ap, false}
+use Rattle.std.proofs.Common.{sym}
 use Rattle.pool.specs.Choose.{both}
 use Rattle.pool.specs.Valid.{valid}
 use Rattle.laws.specs.Choices.{passed}

@@ -1,6 +1,6 @@
 -- Each way out has one case of the definition's test at place i. A page that is new is found at place i itself, since no earlier place has it.
 -- Assumes nothing.
-use Rattle.std.proofs.Common.{◌≢◌, ◌∙◌, sym, ap, [], nat_lt, get_or, ◌+◌, ◌*◌, lt-ltb, ne_eqb, arith}
+use Rattle.std.proofs.Common.{◌≢◌, ◌∙◌, sym, ap, [], nat_lt, get_or, lt-ltb, ne_eqb, arith}
 use Rattle.pool.specs.Choose.{choose, both, either}
 use Rattle.pool.specs.State.{none}
 use Rattle.pool.specs.Valid.{entry_ok}

@@ -1,4 +1,4 @@
-use Rattle.std.proofs.Common.{◌∙◌, ap, not, sym, arith}
+use Rattle.std.proofs.Common.{ap, not, arith}
 use Rattle.laws.specs.Loops.{fails, passes, all_pass}
 use Rattle.checks.specs.Met.{mark}
 use Rattle.checks.specs.Places.{grants_ok_in}

@@ -1,5 +1,5 @@
 -- Counts, names and grants, one after the other; the counts that passed bound the grants held by 8. Assumes nothing.
-use Rattle.std.proofs.Common.{◌≡◌, ◌∙◌, sym, ap, true, true≢false, get_or}
+use Rattle.std.proofs.Common.{◌≡◌, ◌∙◌, sym, ap, true≢false, get_or}
 use Rattle.pool.specs.Choose.{both}
 use Rattle.pool.specs.State.{no_client, total}
 use Rattle.pool.specs.Valid.{counts_ok, names_ok}
