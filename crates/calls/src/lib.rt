@@ -10,6 +10,7 @@ ghost use Rattle.answers.specs.Among.{Among};
 ghost use Rattle.answers.specs.Refusals.{by_setup, by_begin, by_step, by_release};
 ghost use Rattle.calls.specs.Tallied.{stepped_of};
 
+use books::Numbers;
 use pool::{
     Answer, CLIENTS, Call, Counted, EVICTED, FRAMES, GRANTS, NONE, Outcome, Pool, SLOTS, Tally,
 };
@@ -45,7 +46,7 @@ pub fn setup(size: u8, client_count: u8, cap: u8, hand: u32) -> Outcome
     ensures value { result ≡ setup_of size client_count cap hand }
     ensures among { Among by_setup (refusal_of result.answer) }
 {
-    let ok = range_tests::numbers_ok(size, client_count, cap);
+    let ok = Numbers::new(size, client_count, cap).is_some();
     if ok {
         return Outcome {
             answer: Answer::Done(size as u32),
@@ -89,7 +90,7 @@ pub fn step_tallied(pool: Pool, client: u8, tally: Tally) -> Stepped
     ensures value { result ≡ stepped_of pool client tally }
     ensures among { Among by_step (refusal_of result.answer) }
 {
-    let sound = validity::valid(pool);
+    let sound = checks::valid(&pool);
     if !sound {
         return Stepped {
             answer: Answer::Refused(8),

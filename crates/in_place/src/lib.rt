@@ -5,9 +5,11 @@
 
 ghost use Rattle.std.specs.Prelude.{◌≡◌, true, ◌≤◌, ◌<◌};
 ghost use Rattle.pool.specs.Limits.{max_size, max_clients};
+ghost use Rattle.memory.specs.Requests.{in_order};
 ghost use Rattle.in_place.specs.Held.{pool_from, client_fits, duty_at, duty_of};
 ghost use Rattle.in_place.specs.Acts.{helds, Finds, inside_of, acted_away, ActsTo};
 
+use books::Numbers;
 use client_arrays::{ALL_BYTES, ALL_WORDS};
 use pool::{
     Answer, CLIENTS, Call, Client, Counted, EVICTED, FRAMES, GRANTS, MAX_HELD, MAX_PINS, NONE,
@@ -38,16 +40,14 @@ fn away(n: u8) -> Acted
 // ---- the tests
 
 // The acting client, and the pins of the frame that it found.
+#[tactic(auto, unfolding(crate::specs::Held::client_fits, pool::specs::Choose::both, pool::specs::Choose::choose))]
 fn client_fits(size: u8, its_pins: u8, client: Client) -> bool
     ensures { result ≡ client_fits size its_pins client }
 {
-    range_tests::both(
-        client.place < size,
-        range_tests::both(
-            client.busy < size,
-            range_tests::both(client.held <= MAX_HELD, its_pins <= MAX_PINS),
-        ),
-    )
+    client.place < size
+        && client.busy < size
+        && client.held <= MAX_HELD
+        && its_pins <= MAX_PINS
 }
 
 // No client of the first n has more than eight grants.
@@ -58,7 +58,7 @@ fn helds_fit(clients: [Client; CLIENTS], n: usize) -> bool
     let mut ok = true;
     for c in 0..n {
         let passes = clients[c].held <= MAX_HELD;
-        ok = range_tests::both(ok, passes);
+        ok = ok & passes;
     }
     ok
 }
@@ -117,9 +117,21 @@ fn inside(store_pages: u16, call: Call) -> bool
     ensures { result ≡ inside_of store_pages call }
 {
     match call {
-        Call::Begin(c, page) => byte_checks::inside(store_pages, page),
+        Call::Begin(c, page) => checks::inside(store_pages, page),
         Call::Step(c) => true,
         Call::Release(c, page) => true,
+    }
+}
+
+// SPECIFICATION 13.10: by which number a begin of a page outside the store is turned down, where the pool turns it down by n, or by none of its
+// numbers, 0.
+#[tactic(auto, using(memory::specs::Orders::order_zero, memory::specs::Orders::order_some), unfolding(memory::specs::Requests::in_order, memory::specs::Requests::first_of, pool::specs::Choose::choose))]
+fn outside(n: u8) -> u8
+    ensures { result ≡ in_order n 16 }
+{
+    match n {
+        0 | 18 => 16,
+        n => n,
     }
 }
 
@@ -155,7 +167,7 @@ pub fn act(
         pins.new counts.new table_pages.new table_frames.new client_bytes.new
         client_words.new grant_pages.new grant_frames.new) }
 {
-    let in_range = range_tests::numbers_ok(size, client_count, cap);
+    let in_range = Numbers::new(size, client_count, cap).is_some();
     if !in_range {
         return away(8);
     }
@@ -190,7 +202,7 @@ pub fn act(
     let is_inside = inside(store_pages, call);
     if !is_inside {
         let n = refusals::turned_by(call, client_count, client, grant_pages);
-        return away(byte_checks::outside(n));
+        return away(outside(n));
     }
     let turn = play::decide(
         call,

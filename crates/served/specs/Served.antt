@@ -30,7 +30,7 @@ use Rattle.in_place.specs.Held.{Held, held_of, byte_held_refusal, byte_held, hel
 use Rattle.in_place.specs.Acts.{ActsTo}
 use Rattle.in_place.specs.declared.Acted.{Acted}
 use Rattle.listing.specs.Listed.{HeldRows}
-use Rattle.whole_check.specs.Checked.{checked_of}
+use Rattle.checks.specs.Checked.{checked_of}
 use Rattle.play.specs.Parts.{pool_of}
 use Rattle.served.specs.Words.{word_of}
 

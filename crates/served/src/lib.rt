@@ -16,6 +16,9 @@ ghost use Rattle.in_place.specs.Held.{pool_from, held_of, state_from};
 ghost use Rattle.served.specs.Words.{word_of};
 ghost use Rattle.served.specs.Served.{SetsUp, CallsTo, StepsTo, BytesTo, ListsTo, checked_state};
 
+use answers::Refusal;
+use books::{Books, Numbers};
+use checks::Marks;
 use client_arrays::{ALL_BYTES, ALL_WORDS};
 use counting::COUNTS;
 use memory::{BYTES, PAGE};
@@ -69,8 +72,8 @@ pub fn foqheran_parts_setup(
         store_pages.new bytes.new filled.new changed.new store.now) }
 {
     let length = store.len();
-    let numbers = range_tests::numbers_ok(s, t, c);
-    let ok = range_tests::both(numbers, filling::length_ok(length));
+    let numbers = Numbers::new(s, t, c).is_some();
+    let ok = numbers && filling::length_ok(length);
     if !ok {
         return word(Answer::Refused(8));
     }
@@ -424,14 +427,12 @@ pub fn foqheran_parts_check<'a>(
         grant_pages.now grant_frames.now)
         store_pages bytes filled.now changed.now store.now)) }
 {
-    let answer = whole_check::check_in_place(
-        store.len(),
-        store_pages,
-        filled,
-        changed,
-        size,
-        client_count,
-        cap,
+    let Some(numbers) = Numbers::new(size, client_count, cap) else {
+        return word(Answer::from(Refusal::OutOfRange));
+    };
+    let books = Books {
+        numbers,
+        hand: 0,
         free,
         last,
         slots,
@@ -440,10 +441,17 @@ pub fn foqheran_parts_check<'a>(
         counts,
         table_pages,
         table_frames,
-        client_bytes,
-        client_words,
         grant_pages,
         grant_frames,
-    );
-    word(answer)
+    };
+    let marks = Marks {
+        pages: store_pages,
+        filled,
+        changed,
+    };
+    let clients = client_arrays::all_clients(client_bytes, client_words);
+    word(match checks::check(&books, &clients, &marks, store.len()) {
+        Ok(()) => Answer::Done(u32::from(size)),
+        Err(refusal) => refusal.into(),
+    })
 }

@@ -7,7 +7,7 @@ use Rattle.byte_calls.proofs.write.Goals as goal
 
 pub returns-then-n-ne0 : goal.returns-then-n-ne0
 returns-then-n-ne0 c =
-    let number_is : let a = c.args in c.turned_by-n.result ≡ refusal_on (state_of a.pool a.store.now) (ReadByte a.client a.page a.offset) = let a = c.args in c.turned_by-n.ensures a.pool.memory a.store.now refl refl refl refl in
+    let number_is : let a = c.args in c.turned_by-n.result ≡ refusal_on (state_of a.pool a.store.now) (ReadByte a.client a.page a.offset) = let a = c.args in c.turned_by-n.ensures a.store.now refl in
     let a = c.args in
     record {
       value = (write_few _ _ _ _ _ _
@@ -18,19 +18,19 @@ returns-then-n-ne0 c =
 
 pub held_frame-frame-requires : goal.held_frame-frame-requires
 held_frame-frame-requires c =
-    let number_is : let a = c.args in c.turned_by-n.result ≡ refusal_on (state_of a.pool a.store.now) (ReadByte a.client a.page a.offset) = let a = c.args in c.turned_by-n.ensures a.pool.memory a.store.now refl refl refl refl in
+    let number_is : let a = c.args in c.turned_by-n.result ≡ refusal_on (state_of a.pool a.store.now) (ReadByte a.client a.page a.offset) = let a = c.args in c.turned_by-n.ensures a.store.now refl in
     let has_passed : let a = c.args in Passed (state_of a.pool a.store.now) a.client a.offset = let a = c.args in passed _ a.client a.page a.offset (sym number_is ∙ c.if-n-ne0.false) in
     (has_passed.valid, has_passed.client)
 
 pub fill-requires : goal.fill-requires
 fill-requires c =
-    let number_is : let a = c.args in c.turned_by-n.result ≡ refusal_on (state_of a.pool a.store.now) (ReadByte a.client a.page a.offset) = let a = c.args in c.turned_by-n.ensures a.pool.memory a.store.now refl refl refl refl in
+    let number_is : let a = c.args in c.turned_by-n.result ≡ refusal_on (state_of a.pool a.store.now) (ReadByte a.client a.page a.offset) = let a = c.args in c.turned_by-n.ensures a.store.now refl in
     let has_passed : let a = c.args in Passed (state_of a.pool a.store.now) a.client a.offset = let a = c.args in passed _ a.client a.page a.offset (sym number_is ∙ c.if-n-ne0.false) in
     has_passed.long
 
 pub returns : goal.returns
 returns c =
-    let number_is : let a = c.args in c.turned_by-n.result ≡ refusal_on (state_of a.pool a.store.now) (ReadByte a.client a.page a.offset) = let a = c.args in c.turned_by-n.ensures a.pool.memory a.store.now refl refl refl refl in
+    let number_is : let a = c.args in c.turned_by-n.result ≡ refusal_on (state_of a.pool a.store.now) (ReadByte a.client a.page a.offset) = let a = c.args in c.turned_by-n.ensures a.store.now refl in
     let a = c.args in
     record {
       value = (write_few _ _ _ _ _ _ (writes a.pool a.store.now a.client a.page a.offset number_is c.if-n-ne0.false

@@ -8,6 +8,7 @@ use Rattle.pool.specs.declared.Outcome.{Outcome}
 use Rattle.pool.specs.declared.Answer.TheVariants.{Done}
 use Rattle.pool.specs.declared.Counted.TheVariants.{Nothing}
 use Rattle.laws.specs.Choices.{chosen, passed}
+use Rattle.checks.specs.Numbered.{numbered}
 use Rattle.calls.specs.Refusals.{setup_refusals}
 use Rattle.calls.proofs.setup.Goals as goal
 
@@ -19,7 +20,7 @@ pub returns-then-ok : goal.returns-then-ok
 unfolding setup_of refusal_of
 returns-then-ok c =
     record {
-      value = ap (laid c.args.size) c.fresh.ensures ∙ sym (chosen _ _ _ (sym c.numbers_ok-ok.ensures ∙ c.if-ok.true));
+      value = ap (laid c.args.size) c.fresh.ensures ∙ sym (chosen _ _ _ (sym numbered _ _ _ _ c.new.ensures c.is_some-ok.ensures ∙ c.if-ok.true));
       among = refl;
     }
 
@@ -29,7 +30,7 @@ returns c =
     let e =
     c.turned_down.ensures
     ∙ ap (turned_down 8) c.fresh-2.ensures
-    ∙ sym (passed _ _ _ (sym c.numbers_ok-ok.ensures ∙ c.if-ok.false)) in
+    ∙ sym (passed _ _ _ (sym numbered _ _ _ _ c.new.ensures c.is_some-ok.ensures ∙ c.if-ok.false)) in
     record {
       value = e;
       among = rw e (setup_refusals _ _ _ _);

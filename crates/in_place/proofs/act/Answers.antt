@@ -13,6 +13,7 @@ use Rattle.pool.specs.Calls.{caller}
 use Rattle.pool.specs.declared.Pool.{Pool}
 use Rattle.laws.specs.Elements.{client_of_pool}
 use Rattle.ranges.specs.Ranges.{Numbers, numbers_in}
+use Rattle.checks.specs.Numbered.{numbered}
 use Rattle.frame_search.specs.Search.{searched_in_lem}
 use Rattle.refusals.specs.Caller.{Caller}
 use Rattle.content.specs.Effects.{replaced_in}
@@ -31,12 +32,12 @@ pub returns-then-not-in_range : goal.returns-then-not-in_range
 returns-then-not-in_range c =
     let pool_of : Pool = let a = c.args in pool_from a.size a.client_count a.cap a.hand.now a.free.now a.last.now a.slots.now a.pages.now a.pins.now a.counts.now a.table_pages.now a.table_frames.now a.client_bytes.now a.client_words.now a.grant_pages.now a.grant_frames.now in
     let a = c.args in
-    returned c.away.ensures (no_numbers pool_of a.store_pages a.call (sym c.numbers_ok-in_range.ensures ∙ not-true _ c.if-not-in_range.true-raw))
+    returned c.away.ensures (no_numbers pool_of a.store_pages a.call (sym numbered _ _ _ _ c.new.ensures c.is_some-in_range.ensures ∙ not-true _ c.if-not-in_range.true-raw))
 
 pub returns-then-caller-client_count : goal.returns-then-caller-client_count
 returns-then-caller-client_count c =
     let pool_of : Pool = let a = c.args in pool_from a.size a.client_count a.cap a.hand.now a.free.now a.last.now a.slots.now a.pages.now a.pins.now a.counts.now a.table_pages.now a.table_frames.now a.client_bytes.now a.client_words.now a.grant_pages.now a.grant_frames.now in
-    let numbers : numbers_ok pool_of.size (number_of_clients pool_of) pool_of.cap ≡ true = sym c.numbers_ok-in_range.ensures ∙ not-false _ c.if-not-in_range.false-raw in
+    let numbers : numbers_ok pool_of.size (number_of_clients pool_of) pool_of.cap ≡ true = sym numbered _ _ _ _ c.new.ensures c.is_some-in_range.ensures ∙ not-false _ c.if-not-in_range.false-raw in
     let a = c.args in
     returned c.away-then-caller-client_count.ensures
     (no_such pool_of a.store_pages a.call numbers (omega (arith, c.if-caller-client_count.true, c.caller-caller.ensures)))
@@ -44,7 +45,7 @@ returns-then-caller-client_count c =
 pub client_at-client-requires : goal.client_at-client-requires
 client_at-client-requires c =
     let pool_of : Pool = let a = c.args in pool_from a.size a.client_count a.cap a.hand.now a.free.now a.last.now a.slots.now a.pages.now a.pins.now a.counts.now a.table_pages.now a.table_frames.now a.client_bytes.now a.client_words.now a.grant_pages.now a.grant_frames.now in
-    let numbers : numbers_ok pool_of.size (number_of_clients pool_of) pool_of.cap ≡ true = sym c.numbers_ok-in_range.ensures ∙ not-false _ c.if-not-in_range.false-raw in
+    let numbers : numbers_ok pool_of.size (number_of_clients pool_of) pool_of.cap ≡ true = sym numbered _ _ _ _ c.new.ensures c.is_some-in_range.ensures ∙ not-false _ c.if-not-in_range.false-raw in
     let in_range : Numbers pool_of.size (number_of_clients pool_of) pool_of.cap = numbers_in pool_of.size (number_of_clients pool_of) pool_of.cap numbers in
     let small : c.caller-caller.result < max_clients = omega (arith, c.if-caller-client_count.false, in_range.clients) in
     small
@@ -52,14 +53,14 @@ client_at-client-requires c =
 pub total-total-requires : goal.total-total-requires
 total-total-requires c =
     let pool_of : Pool = let a = c.args in pool_from a.size a.client_count a.cap a.hand.now a.free.now a.last.now a.slots.now a.pages.now a.pins.now a.counts.now a.table_pages.now a.table_frames.now a.client_bytes.now a.client_words.now a.grant_pages.now a.grant_frames.now in
-    let numbers : numbers_ok pool_of.size (number_of_clients pool_of) pool_of.cap ≡ true = sym c.numbers_ok-in_range.ensures ∙ not-false _ c.if-not-in_range.false-raw in
+    let numbers : numbers_ok pool_of.size (number_of_clients pool_of) pool_of.cap ≡ true = sym numbered _ _ _ _ c.new.ensures c.is_some-in_range.ensures ∙ not-false _ c.if-not-in_range.false-raw in
     let in_range : Numbers pool_of.size (number_of_clients pool_of) pool_of.cap = numbers_in pool_of.size (number_of_clients pool_of) pool_of.cap numbers in
     (in_range.slots, in_range.clients)
 
 pub byte_at-its_pins-requires : goal.byte_at-its_pins-requires
 byte_at-its_pins-requires c =
     let pool_of : Pool = let a = c.args in pool_from a.size a.client_count a.cap a.hand.now a.free.now a.last.now a.slots.now a.pages.now a.pins.now a.counts.now a.table_pages.now a.table_frames.now a.client_bytes.now a.client_words.now a.grant_pages.now a.grant_frames.now in
-    let numbers : numbers_ok pool_of.size (number_of_clients pool_of) pool_of.cap ≡ true = sym c.numbers_ok-in_range.ensures ∙ not-false _ c.if-not-in_range.false-raw in
+    let numbers : numbers_ok pool_of.size (number_of_clients pool_of) pool_of.cap ≡ true = sym numbered _ _ _ _ c.new.ensures c.is_some-in_range.ensures ∙ not-false _ c.if-not-in_range.false-raw in
     let in_range : Numbers pool_of.size (number_of_clients pool_of) pool_of.cap = numbers_in pool_of.size (number_of_clients pool_of) pool_of.cap numbers in
     let frames-few : c.total-total.result ≤ max_frames = omega (arith, c.total-total.ensures, in_range.slots, in_range.clients) in
     frames-few
@@ -67,7 +68,7 @@ byte_at-its_pins-requires c =
 pub returns-then-not-fits : goal.returns-then-not-fits
 returns-then-not-fits c =
     let pool_of : Pool = let a = c.args in pool_from a.size a.client_count a.cap a.hand.now a.free.now a.last.now a.slots.now a.pages.now a.pins.now a.counts.now a.table_pages.now a.table_frames.now a.client_bytes.now a.client_words.now a.grant_pages.now a.grant_frames.now in
-    let numbers : numbers_ok pool_of.size (number_of_clients pool_of) pool_of.cap ≡ true = sym c.numbers_ok-in_range.ensures ∙ not-false _ c.if-not-in_range.false-raw in
+    let numbers : numbers_ok pool_of.size (number_of_clients pool_of) pool_of.cap ≡ true = sym numbered _ _ _ _ c.new.ensures c.is_some-in_range.ensures ∙ not-false _ c.if-not-in_range.false-raw in
     let in_range : Numbers pool_of.size (number_of_clients pool_of) pool_of.cap = numbers_in pool_of.size (number_of_clients pool_of) pool_of.cap numbers in
     let below : caller c.args.call < c.args.client_count = omega (arith, c.if-caller-client_count.false, c.caller-caller.ensures) in
     let small : c.caller-caller.result < max_clients = omega (arith, c.if-caller-client_count.false, in_range.clients) in
@@ -81,14 +82,14 @@ returns-then-not-fits c =
 pub search-found-requires : goal.search-found-requires
 search-found-requires c =
     let pool_of : Pool = let a = c.args in pool_from a.size a.client_count a.cap a.hand.now a.free.now a.last.now a.slots.now a.pages.now a.pins.now a.counts.now a.table_pages.now a.table_frames.now a.client_bytes.now a.client_words.now a.grant_pages.now a.grant_frames.now in
-    let numbers : numbers_ok pool_of.size (number_of_clients pool_of) pool_of.cap ≡ true = sym c.numbers_ok-in_range.ensures ∙ not-false _ c.if-not-in_range.false-raw in
+    let numbers : numbers_ok pool_of.size (number_of_clients pool_of) pool_of.cap ≡ true = sym numbered _ _ _ _ c.new.ensures c.is_some-in_range.ensures ∙ not-false _ c.if-not-in_range.false-raw in
     let in_range : Numbers pool_of.size (number_of_clients pool_of) pool_of.cap = numbers_in pool_of.size (number_of_clients pool_of) pool_of.cap numbers in
     (in_range.some_slot, in_range.slots, in_range.clients)
 
 pub returns-then-not-searched : goal.returns-then-not-searched
 returns-then-not-searched c =
     let pool_of : Pool = let a = c.args in pool_from a.size a.client_count a.cap a.hand.now a.free.now a.last.now a.slots.now a.pages.now a.pins.now a.counts.now a.table_pages.now a.table_frames.now a.client_bytes.now a.client_words.now a.grant_pages.now a.grant_frames.now in
-    let numbers : numbers_ok pool_of.size (number_of_clients pool_of) pool_of.cap ≡ true = sym c.numbers_ok-in_range.ensures ∙ not-false _ c.if-not-in_range.false-raw in
+    let numbers : numbers_ok pool_of.size (number_of_clients pool_of) pool_of.cap ≡ true = sym numbered _ _ _ _ c.new.ensures c.is_some-in_range.ensures ∙ not-false _ c.if-not-in_range.false-raw in
     let in_range : Numbers pool_of.size (number_of_clients pool_of) pool_of.cap = numbers_in pool_of.size (number_of_clients pool_of) pool_of.cap numbers in
     let below : caller c.args.call < c.args.client_count = omega (arith, c.if-caller-client_count.false, c.caller-caller.ensures) in
     let small : c.caller-caller.result < max_clients = omega (arith, c.if-caller-client_count.false, in_range.clients) in
@@ -106,7 +107,7 @@ returns-then-not-searched c =
 pub turned_by-n-requires : goal.turned_by-n-requires
 turned_by-n-requires c =
     let pool_of : Pool = let a = c.args in pool_from a.size a.client_count a.cap a.hand.now a.free.now a.last.now a.slots.now a.pages.now a.pins.now a.counts.now a.table_pages.now a.table_frames.now a.client_bytes.now a.client_words.now a.grant_pages.now a.grant_frames.now in
-    let numbers : numbers_ok pool_of.size (number_of_clients pool_of) pool_of.cap ≡ true = sym c.numbers_ok-in_range.ensures ∙ not-false _ c.if-not-in_range.false-raw in
+    let numbers : numbers_ok pool_of.size (number_of_clients pool_of) pool_of.cap ≡ true = sym numbered _ _ _ _ c.new.ensures c.is_some-in_range.ensures ∙ not-false _ c.if-not-in_range.false-raw in
     let in_range : Numbers pool_of.size (number_of_clients pool_of) pool_of.cap = numbers_in pool_of.size (number_of_clients pool_of) pool_of.cap numbers in
     let client_fit : c.client_fits-fits.result ≡ true = not-false _ c.if-not-fits.false-raw in
     let read_fit : client_fits c.args.size c.byte_at-its_pins.result c.client_at-client.result ≡ true = sym c.client_fits-fits.ensures ∙ client_fit in
@@ -115,7 +116,7 @@ turned_by-n-requires c =
 pub returns-then-not-is_inside : goal.returns-then-not-is_inside
 returns-then-not-is_inside c =
     let pool_of : Pool = let a = c.args in pool_from a.size a.client_count a.cap a.hand.now a.free.now a.last.now a.slots.now a.pages.now a.pins.now a.counts.now a.table_pages.now a.table_frames.now a.client_bytes.now a.client_words.now a.grant_pages.now a.grant_frames.now in
-    let numbers : numbers_ok pool_of.size (number_of_clients pool_of) pool_of.cap ≡ true = sym c.numbers_ok-in_range.ensures ∙ not-false _ c.if-not-in_range.false-raw in
+    let numbers : numbers_ok pool_of.size (number_of_clients pool_of) pool_of.cap ≡ true = sym numbered _ _ _ _ c.new.ensures c.is_some-in_range.ensures ∙ not-false _ c.if-not-in_range.false-raw in
     let in_range : Numbers pool_of.size (number_of_clients pool_of) pool_of.cap = numbers_in pool_of.size (number_of_clients pool_of) pool_of.cap numbers in
     let below : caller c.args.call < c.args.client_count = omega (arith, c.if-caller-client_count.false, c.caller-caller.ensures) in
     let small : c.caller-caller.result < max_clients = omega (arith, c.if-caller-client_count.false, in_range.clients) in
@@ -136,7 +137,7 @@ returns-then-not-is_inside c =
 pub decide-turn-requires : goal.decide-turn-requires
 decide-turn-requires c =
     let pool_of : Pool = let a = c.args in pool_from a.size a.client_count a.cap a.hand.now a.free.now a.last.now a.slots.now a.pages.now a.pins.now a.counts.now a.table_pages.now a.table_frames.now a.client_bytes.now a.client_words.now a.grant_pages.now a.grant_frames.now in
-    let numbers : numbers_ok pool_of.size (number_of_clients pool_of) pool_of.cap ≡ true = sym c.numbers_ok-in_range.ensures ∙ not-false _ c.if-not-in_range.false-raw in
+    let numbers : numbers_ok pool_of.size (number_of_clients pool_of) pool_of.cap ≡ true = sym numbered _ _ _ _ c.new.ensures c.is_some-in_range.ensures ∙ not-false _ c.if-not-in_range.false-raw in
     let in_range : Numbers pool_of.size (number_of_clients pool_of) pool_of.cap = numbers_in pool_of.size (number_of_clients pool_of) pool_of.cap numbers in
     let client_fit : c.client_fits-fits.result ≡ true = not-false _ c.if-not-fits.false-raw in
     let read_fit : client_fits c.args.size c.byte_at-its_pins.result c.client_at-client.result ≡ true = sym c.client_fits-fits.ensures ∙ client_fit in
@@ -145,7 +146,7 @@ decide-turn-requires c =
 pub replaced-entry-requires : goal.replaced-entry-requires
 replaced-entry-requires c =
     let pool_of : Pool = let a = c.args in pool_from a.size a.client_count a.cap a.hand.now a.free.now a.last.now a.slots.now a.pages.now a.pins.now a.counts.now a.table_pages.now a.table_frames.now a.client_bytes.now a.client_words.now a.grant_pages.now a.grant_frames.now in
-    let numbers : numbers_ok pool_of.size (number_of_clients pool_of) pool_of.cap ≡ true = sym c.numbers_ok-in_range.ensures ∙ not-false _ c.if-not-in_range.false-raw in
+    let numbers : numbers_ok pool_of.size (number_of_clients pool_of) pool_of.cap ≡ true = sym numbered _ _ _ _ c.new.ensures c.is_some-in_range.ensures ∙ not-false _ c.if-not-in_range.false-raw in
     let in_range : Numbers pool_of.size (number_of_clients pool_of) pool_of.cap = numbers_in pool_of.size (number_of_clients pool_of) pool_of.cap numbers in
     let frames-few : c.total-total.result ≤ max_frames = omega (arith, c.total-total.ensures, in_range.slots, in_range.clients) in
     frames-few
@@ -153,7 +154,7 @@ replaced-entry-requires c =
 pub put-requires : goal.put-requires
 put-requires c =
     let pool_of : Pool = let a = c.args in pool_from a.size a.client_count a.cap a.hand.now a.free.now a.last.now a.slots.now a.pages.now a.pins.now a.counts.now a.table_pages.now a.table_frames.now a.client_bytes.now a.client_words.now a.grant_pages.now a.grant_frames.now in
-    let numbers : numbers_ok pool_of.size (number_of_clients pool_of) pool_of.cap ≡ true = sym c.numbers_ok-in_range.ensures ∙ not-false _ c.if-not-in_range.false-raw in
+    let numbers : numbers_ok pool_of.size (number_of_clients pool_of) pool_of.cap ≡ true = sym numbered _ _ _ _ c.new.ensures c.is_some-in_range.ensures ∙ not-false _ c.if-not-in_range.false-raw in
     let in_range : Numbers pool_of.size (number_of_clients pool_of) pool_of.cap = numbers_in pool_of.size (number_of_clients pool_of) pool_of.cap numbers in
     let small : c.caller-caller.result < max_clients = omega (arith, c.if-caller-client_count.false, in_range.clients) in
     (in_range.slots, in_range.clients, small)
@@ -161,7 +162,7 @@ put-requires c =
 pub put_client-requires : goal.put_client-requires
 put_client-requires c =
     let pool_of : Pool = let a = c.args in pool_from a.size a.client_count a.cap a.hand.now a.free.now a.last.now a.slots.now a.pages.now a.pins.now a.counts.now a.table_pages.now a.table_frames.now a.client_bytes.now a.client_words.now a.grant_pages.now a.grant_frames.now in
-    let numbers : numbers_ok pool_of.size (number_of_clients pool_of) pool_of.cap ≡ true = sym c.numbers_ok-in_range.ensures ∙ not-false _ c.if-not-in_range.false-raw in
+    let numbers : numbers_ok pool_of.size (number_of_clients pool_of) pool_of.cap ≡ true = sym numbered _ _ _ _ c.new.ensures c.is_some-in_range.ensures ∙ not-false _ c.if-not-in_range.false-raw in
     let in_range : Numbers pool_of.size (number_of_clients pool_of) pool_of.cap = numbers_in pool_of.size (number_of_clients pool_of) pool_of.cap numbers in
     let small : c.caller-caller.result < max_clients = omega (arith, c.if-caller-client_count.false, in_range.clients) in
     small
@@ -169,7 +170,7 @@ put_client-requires c =
 pub returns : goal.returns
 returns c =
     let pool_of : Pool = let a = c.args in pool_from a.size a.client_count a.cap a.hand.now a.free.now a.last.now a.slots.now a.pages.now a.pins.now a.counts.now a.table_pages.now a.table_frames.now a.client_bytes.now a.client_words.now a.grant_pages.now a.grant_frames.now in
-    let numbers : numbers_ok pool_of.size (number_of_clients pool_of) pool_of.cap ≡ true = sym c.numbers_ok-in_range.ensures ∙ not-false _ c.if-not-in_range.false-raw in
+    let numbers : numbers_ok pool_of.size (number_of_clients pool_of) pool_of.cap ≡ true = sym numbered _ _ _ _ c.new.ensures c.is_some-in_range.ensures ∙ not-false _ c.if-not-in_range.false-raw in
     let in_range : Numbers pool_of.size (number_of_clients pool_of) pool_of.cap = numbers_in pool_of.size (number_of_clients pool_of) pool_of.cap numbers in
     let below : caller c.args.call < c.args.client_count = omega (arith, c.if-caller-client_count.false, c.caller-caller.ensures) in
     let small : c.caller-caller.result < max_clients = omega (arith, c.if-caller-client_count.false, in_range.clients) in
