@@ -2,7 +2,7 @@
 // no marks.
 #![tactic(auto)]
 
-ghost use Rattle.std.specs.Prelude.{◌≡◌, ◌<◌, ◌≤◌, List, ℕ, ◌*◌, ◌&&◌, ◌==◌, not, true, fold, eqb, length, IfErr};
+ghost use Rattle.std.specs.Prelude.{◌≡◌, ◌<◌, ◌≤◌, List, ℕ, ◌*◌, ◌&&◌, ◌==◌, not, true, fold, eqb, length, true, false, IfErr, MatchResult};
 ghost use Rattle.std.specs.List.{zip, list_all};
 ghost use Rattle.pool.specs.Limits.{max_clients, max_held, max_frames};
 ghost use Rattle.pool.specs.Choose.{choose, both, either, every};
@@ -18,7 +18,7 @@ ghost use Rattle.checks.specs.Lent.{memory_in};
 
 use crate::whole;
 use answers::Refusal;
-use books::{Books, Numbers};
+use books::{Books, Checked, Numbers};
 use memory::{BufferPool, MAX_PAGES, Memory, PAGE};
 use pool::{CLIENTS, Client, FRAMES, GRANTS, HELD, NONE};
 
@@ -197,19 +197,22 @@ pub fn parts_sound(books: &Books, clients: &[Client; CLIENTS], marks: &Marks) ->
     whole::books_ok(books, clients) && bytes_ok(books, clients, marks)
 }
 
-/// The same of a pool with any numbers.
-pub fn sound(pool: &BufferPool) -> bool
-    ensures { result ≡ both (valid pool.now.pool) (bytes_ok pool.now.pool pool.now.memory) }
+/// The same of a pool with any numbers; by its type, one that passes is known to.
+pub fn sound(pool: &BufferPool) -> Result<Checked<'_>, Refusal>
+    ensures { MatchResult result
+        (λ c. (c.pool.now ≡ pool.now.pool) × (both (valid pool.now.pool) (bytes_ok pool.now.pool pool.now.memory) ≡ true))
+        (λ e. (e ≡ OutOfRange) × (both (valid pool.now.pool) (bytes_ok pool.now.pool pool.now.memory) ≡ false)) }
 {
-    let books = &pool.pool;
-    let Some(numbers) = Numbers::new(books.size, books.client_count, books.cap) else {
-        return false;
+    let memory = &pool.memory;
+    let pool = &pool.pool;
+    let Some(numbers) = Numbers::new(pool.size, pool.client_count, pool.cap) else {
+        return Err(Refusal::OutOfRange);
     };
-    parts_sound(
-        &Books::of(numbers, books),
-        &books.clients,
-        &Marks::of(&pool.memory),
-    )
+    if parts_sound(&Books::of(numbers, pool), &pool.clients, &Marks::of(memory)) {
+        Ok(Checked { pool, numbers })
+    } else {
+        Err(Refusal::OutOfRange)
+    }
 }
 
 /// The whole check 8, also of a store of so many bytes, which has to be as long as at setup: SPECIFICATION 13.4, 14.8.

@@ -10,4 +10,4 @@ pub mod single;
 pub mod whole;
 
 pub use bytes::{Marks, check, inside, outside, parts_sound, sound};
-pub use whole::{books_ok, valid};
+pub use whole::{books_ok, checked, valid};

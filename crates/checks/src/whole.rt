@@ -1,16 +1,18 @@
 // Check 8 of a pool without bytes: SPECIFICATION, section 5.
 #![tactic(auto)]
 
-ghost use Rattle.std.specs.Prelude.{◌≡◌, ◌<◌, ◌≤◌, ℕ, ◌&&◌, true, fold};
+ghost use Rattle.std.specs.Prelude.{◌≡◌, ◌<◌, ◌≤◌, ℕ, ◌&&◌, true, false, fold, MatchResult};
 ghost use Rattle.std.specs.List.{zip};
 ghost use Rattle.pool.specs.Limits.{max_size, max_frames};
 ghost use Rattle.pool.specs.State.{none, evicted, within};
 ghost use Rattle.pool.specs.Choose.{every};
 ghost use Rattle.pool.specs.Valid.{frame_ok, state_ok, client_ok, valid};
+ghost use Rattle.answers.specs.declared.refusal.Refusal.TheVariants.{OutOfRange};
 ghost use Rattle.books.specs.Books.{pool_in};
 
 use crate::{repeats, single};
-use books::{Books, Numbers};
+use answers::Refusal;
+use books::{Books, Checked, Numbers};
 use pool::{CLIENTS, Client, FRAMES, Pool, SLOTS};
 
 /// Whether each is no frame, or one of the pool's n. No `all`: a loop that leaves at the first that fails is ten times slower.
@@ -85,12 +87,23 @@ pub fn books_ok(books: &Books, clients: &[Client; CLIENTS]) -> bool
         && clients_ok(books, clients)
 }
 
-/// The same of a pool with any numbers.
+/// The same of a pool with any numbers; by its type, one that passes is known to.
+pub fn checked(pool: &Pool) -> Result<Checked<'_>, Refusal>
+    ensures { MatchResult result (λ c. c.pool.now ≡ pool.now) (λ e. (e ≡ OutOfRange) × (valid pool.now ≡ false)) }
+{
+    let Some(numbers) = Numbers::new(pool.size, pool.client_count, pool.cap) else {
+        return Err(Refusal::OutOfRange);
+    };
+    if books_ok(&Books::of(numbers, pool), &pool.clients) {
+        Ok(Checked { pool, numbers })
+    } else {
+        Err(Refusal::OutOfRange)
+    }
+}
+
+/// Whether a pool passes.
 pub fn valid(pool: &Pool) -> bool
     ensures { result ≡ valid pool.now }
 {
-    let Some(numbers) = Numbers::new(pool.size, pool.client_count, pool.cap) else {
-        return false;
-    };
-    books_ok(&Books::of(numbers, pool), &pool.clients)
+    checked(pool).is_ok()
 }
