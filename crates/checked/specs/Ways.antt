@@ -1,10 +1,10 @@
 -- The ways that a call of a valid pool goes, each by what the code has tested of its turn. Assumes nothing.
 use Rattle.std.specs.Prelude.{◌≡◌, refl, ◌≢◌, ◌⊎◌, Bool, true, false, ℕ, eqb}
-use Rattle.std.proofs.Common.{sym, ◌∙◌, inl, inr, eq-eqb, ne_eqb}
+use Rattle.std.proofs.Common.{sym, ◌∙◌, inl, inr, eq-eqb, ne_eqb, true≢false}
 use Rattle.std.proofs.Math.Path.{ap}
 use Rattle.std.proofs.Math.Bool.{not}
 use Rattle.std.proofs.Math.Decide.{ℕ_discrete}
-use Rattle.pool.specs.Choose.{choose, both}
+use Rattle.pool.specs.Choose.{choose, both, either}
 use Rattle.pool.specs.Answers.{refusal_of}
 use Rattle.pool.specs.State.{client}
 use Rattle.pool.specs.Apply.{apply}
@@ -18,6 +18,7 @@ use Rattle.pool.specs.declared.Outcome.{Outcome}
 use Rattle.pool.specs.declared.Pool.{Pool}
 use Rattle.pool.specs.declared.Write.{Write}
 use Rattle.pool.specs.declared.Write.TheVariants.{Keep}
+use Rattle.pool.specs.declared.Answer.{Answer}
 use Rattle.pool.specs.declared.Answer.TheVariants.{Refused}
 use Rattle.pool.specs.declared.Counted.TheVariants.{Nothing}
 use Rattle.laws.specs.Choices.{by_test, chosen, passed}
@@ -46,6 +47,13 @@ unfolding write_of refused choose
 as_unmade p call n e = rw e
 
 -- ---- by which numbers a move is refused
+
+-- SPECIFICATION 3.9: whether an action may have changed something: it is not refused, or by 15, which leaves what its client did
+abbrev pub with_refusal : ℕ → Bool
+with_refusal n = either (eqb n 0) (eqb n 15)
+
+unfoldable pub acts : Answer → Bool
+acts a = with_refusal (refusal_of a)
 
 abbrev MoveRefusal : ℕ → Type 0
 MoveRefusal n = (n ≡ 0) ⊎ (n ≡ 8) ⊎ (n ≡ 15)
@@ -116,16 +124,23 @@ module _ (p : Pool) (call : Call) (v : valid p ≡ true) where
     after = let m = move_of p call in record { answer = m.answer; counted = m.counted; pool = apply p (caller call) m }
 
     -- a move that is refused by another number than 15 is so by 8, and changes nothing
-    pub sticks : (n : ℕ) → n ≡ refusal_of (move_of p call).answer → n ≢ 0 → n ≢ 15 → call_of p call ≡ turned_down 8 p
-    unfolding finished both
-    sticks n e some not_15 = go (rw e (move_refusal p call))
+    pub stops : acts (move_of p call).answer ≡ false → call_of p call ≡ turned_down 8 p
+    unfolding acts either choose finished both
+    stops e = go (move_refusal p call)
       where
-        go : MoveRefusal n → call_of p call ≡ turned_down 8 p
-        go (inl z') = absurd (some z')
-        go (inr (inl e8)) = goes_on p call v z ∙ passed _ _ _ (passed _ _ _ (ap not (eq-eqb _ _ (sym e ∙ e8))))
-        go (inr (inr e15)) = absurd (not_15 e15)
+        n : ℕ
+        n = refusal_of (move_of p call).answer
 
-    module _ (not_8 : refusal_of (move_of p call).answer ≢ 8) where
+        go : MoveRefusal n → call_of p call ≡ turned_down 8 p
+        go (inl e0) = absurd (true≢false (ap with_refusal (sym e0) ∙ e))
+        go (inr (inl e8)) = goes_on p call v z ∙ passed _ _ _ (passed _ _ _ (ap not (eq-eqb _ _ e8)))
+        go (inr (inr e15)) = absurd (true≢false (ap with_refusal (sym e15) ∙ e))
+
+    module _ (a : acts (move_of p call).answer ≡ true) where
+      not_8 : refusal_of (move_of p call).answer ≢ 8
+      unfolding acts either choose
+      not_8 e = true≢false (sym a ∙ ap with_refusal e)
+
       tested : {b : Bool} → valid after.pool ≡ b → both (not (eqb (refusal_of (move_of p call).answer) 8)) (valid after.pool) ≡ b
       unfolding both
       tested w = chosen _ _ _ (ap not (ne_eqb _ _ not_8)) ∙ w

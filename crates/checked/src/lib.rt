@@ -3,15 +3,13 @@
 // which need what the call wrote.
 #![tactic(auto)]
 
-ghost use Rattle.std.specs.Prelude.{◌≡◌, false, MatchResult};
-ghost use Rattle.pool.specs.Valid.{valid};
+ghost use Rattle.std.specs.Prelude.{◌≡◌, MatchResult};
 ghost use Rattle.pool.specs.Calls.{turned_down, call_of};
 ghost use Rattle.answers.specs.Numbers.{refusal_number};
-ghost use Rattle.answers.specs.declared.refusal.Refusal.TheVariants.{OutOfRange};
-ghost use Rattle.checked.specs.Ways.{made_of};
+ghost use Rattle.checked.specs.Ways.{acts, unmade_by, made_of};
 
 use answers::Refusal;
-use books::{Checked, Numbers};
+use books::Checked;
 use pool::{Answer, Call, Counted, Outcome, Pool, Write};
 
 /// What a call leaves, and what it wrote to the pool.
@@ -23,35 +21,40 @@ pub struct Made {
     pub pool: Pool,
 }
 
-/// Check 8 of a pool: SPECIFICATION, section 5.
-pub fn check(pool: &Pool) -> Result<Checked<'_>, Refusal>
-    ensures { MatchResult result (λ c. c.pool.now ≡ pool.now) (λ e. (e ≡ OutOfRange) × (valid pool.now ≡ false)) }
+/// The pool as it was, and nothing written.
+fn unmade(refusal: Refusal, pool: &Pool) -> Made
+    ensures { result ≡ unmade_by (refusal_number refusal) pool.now }
 {
-    let Some(numbers) = Numbers::new(pool.size, pool.client_count, pool.cap) else {
-        return Err(Refusal::OutOfRange);
-    };
-    if validity::valid(*pool) {
-        Ok(Checked { pool, numbers })
-    } else {
-        Err(Refusal::OutOfRange)
+    Made {
+        answer: refusal.into(),
+        counted: Counted::Nothing,
+        write: Write::Keep,
+        pool: *pool,
     }
 }
 
-/// The turn of a call, played on a copy of the pool, which is then checked. A move that is refused by another number than 15 changes nothing (SPECIFICATION
-/// 3.9), so that its copy is not made.
+/// Whether an action may have changed something: one that is refused by another number than 15 has not (SPECIFICATION 3.9).
+#[tactic(auto, unfolding(crate::specs::Ways::acts, pool::specs::Choose::either, pool::specs::Choose::choose))]
+fn acts(answer: Answer) -> bool
+    ensures { result ≡ acts answer }
+{
+    let refused = answers::refusal_of(answer);
+    refused == 0 || refused == Refusal::AllBusy.number()
+}
+
+/// The turn of a call, played on a copy of the pool, which is then checked; one that changes nothing is not played.
 fn attempt(pool: &Checked, call: Call) -> Result<Made, Refusal>
     ensures { MatchResult result (λ m. m ≡ made_of pool.now.pool.now call)
         (λ e. call_of pool.now.pool.now call ≡ turned_down (refusal_number e) pool.now.pool.now) }
 {
     let turn = play::turn(pool, call)?;
-    let refused = answers::refusal_of(turn.answer);
-    if refused != 0 && refused != Refusal::AllBusy.number() {
+    if !acts(turn.answer) {
         return Err(Refusal::OutOfRange);
     }
     let mut next = *pool.pool;
     let c = answers::caller(call) as usize;
     play::put(&mut next, pool.numbers, c, &turn);
-    if validity::valid(next) {
+    if checks::valid(&next) {
         Ok(Made {
             answer: turn.answer,
             counted: turn.counted,
@@ -69,12 +72,17 @@ pub fn call_made(pool: &Checked, call: Call) -> Made
 {
     match attempt(pool, call) {
         Ok(made) => made,
-        Err(refusal) => Made {
-            answer: refusal.into(),
-            counted: Counted::Nothing,
-            write: Write::Keep,
-            pool: *pool.pool,
-        },
+        Err(refusal) => unmade(refusal, pool.pool),
+    }
+}
+
+/// A call on any pool, with what it wrote.
+pub fn call_on(pool: &Pool, call: Call) -> Made
+    ensures { result ≡ made_of pool.now call }
+{
+    match checks::checked(pool) {
+        Ok(checked) => call_made(&checked, call),
+        Err(refusal) => unmade(refusal, pool),
     }
 }
 
@@ -82,19 +90,10 @@ pub fn call_made(pool: &Checked, call: Call) -> Made
 pub fn call_of(pool: Pool, call: Call) -> Outcome
     ensures { result ≡ call_of pool call }
 {
-    match check(&pool) {
-        Ok(checked) => {
-            let made = call_made(&checked, call);
-            Outcome {
-                answer: made.answer,
-                counted: made.counted,
-                pool: made.pool,
-            }
-        }
-        Err(refusal) => Outcome {
-            answer: refusal.into(),
-            counted: Counted::Nothing,
-            pool,
-        },
+    let made = call_on(&pool, call);
+    Outcome {
+        answer: made.answer,
+        counted: made.counted,
+        pool: made.pool,
     }
 }
