@@ -17,6 +17,7 @@ ghost use Rattle.served.specs.Words.{word_of};
 ghost use Rattle.served.specs.Served.{SetsUp, CallsTo, StepsTo, BytesTo, ListsTo, checked_state};
 
 use client_arrays::{ALL_BYTES, ALL_WORDS};
+use content::{Content, Frames};
 use counting::COUNTS;
 use memory::{BYTES, PAGE};
 use pool::{Answer, Call, FRAMES, GRANTS, NONE, SLOTS};
@@ -68,16 +69,16 @@ pub fn foqheran_parts_setup(
         client_words.new grant_pages.new grant_frames.new)
         store_pages.new bytes.new filled.new changed.new store.now) }
 {
-    let length = store.len();
-    let numbers = range_tests::numbers_ok(s, t, c);
-    let ok = range_tests::both(numbers, filling::length_ok(length));
-    if !ok {
+    if !range_tests::numbers_ok(s, t, c) {
         return word(Answer::Refused(8));
     }
+    let Some(pages_there) = content::pages_of(store.len()) else {
+        return word(Answer::Refused(8));
+    };
     *size = s;
     *client_count = t;
     *cap = c;
-    *store_pages = (length / PAGE) as u16;
+    *store_pages = pages_there;
     *hand = h;
     *free = s;
     *last = NONE;
@@ -271,10 +272,15 @@ pub fn foqheran_parts_step(
     );
     let write = acted.write;
     let entry = acted.entry;
-    effects::put_store(store, store_pages, bytes, changed, entry, write);
-    effects::put_bytes(bytes, entry, write);
-    effects::put_marks(filled, entry, write);
-    effects::put_marks(changed, entry, write);
+    let mut held = Content {
+        frames: Frames {
+            pages: store_pages,
+            bytes,
+            filled,
+        },
+        changed,
+    };
+    held.follow(store, entry, write);
     let counted = acted.counted;
     counting::count(tally, counted);
     *duty = in_place::duty(entry, write);
@@ -320,8 +326,13 @@ pub fn foqheran_parts_read<'a>(
         return word(Answer::Refused(n));
     }
     let frame = holder.frame;
-    filling::fill(bytes, filled, store, store_pages, frame, page);
-    let byte = filling::byte_of(bytes, frame, offset);
+    let mut frames = Frames {
+        pages: store_pages,
+        bytes,
+        filled,
+    };
+    frames.fill(store, frame, page);
+    let byte = frames.byte(frame, offset);
     word(Answer::Done(byte as u32))
 }
 
@@ -365,8 +376,16 @@ pub fn foqheran_parts_write<'a>(
         return word(Answer::Refused(n));
     }
     let frame = holder.frame;
-    filling::fill(bytes, filled, store, store_pages, frame, page);
-    filling::put_byte(bytes, changed, frame, offset, byte);
+    let mut held = Content {
+        frames: Frames {
+            pages: store_pages,
+            bytes,
+            filled,
+        },
+        changed,
+    };
+    held.frames.fill(store, frame, page);
+    held.write(frame, offset, byte);
     word(Answer::Done(page))
 }
 
