@@ -16,10 +16,8 @@ ghost use Rattle.in_place.specs.Held.{pool_from, held_of, state_from};
 ghost use Rattle.served.specs.Words.{word_of};
 ghost use Rattle.served.specs.Served.{SetsUp, CallsTo, StepsTo, BytesTo, ListsTo, checked_state};
 
-use answers::Refusal;
-use books::{Books, Numbers};
-use checks::Marks;
 use client_arrays::{ALL_BYTES, ALL_WORDS};
+use content::{Content, Frames};
 use counting::COUNTS;
 use memory::{BYTES, PAGE};
 use pool::{Answer, Call, FRAMES, GRANTS, NONE, SLOTS};
@@ -71,16 +69,16 @@ pub fn foqheran_parts_setup(
         client_words.new grant_pages.new grant_frames.new)
         store_pages.new bytes.new filled.new changed.new store.now) }
 {
-    let length = store.len();
-    let numbers = Numbers::new(s, t, c).is_some();
-    let ok = numbers && filling::length_ok(length);
-    if !ok {
+    if !range_tests::numbers_ok(s, t, c) {
         return word(Answer::Refused(8));
     }
+    let Some(pages_there) = content::pages_of(store.len()) else {
+        return word(Answer::Refused(8));
+    };
     *size = s;
     *client_count = t;
     *cap = c;
-    *store_pages = (length / PAGE) as u16;
+    *store_pages = pages_there;
     *hand = h;
     *free = s;
     *last = NONE;
@@ -274,10 +272,15 @@ pub fn foqheran_parts_step(
     );
     let write = acted.write;
     let entry = acted.entry;
-    effects::put_store(store, store_pages, bytes, changed, entry, write);
-    effects::put_bytes(bytes, entry, write);
-    effects::put_marks(filled, entry, write);
-    effects::put_marks(changed, entry, write);
+    let mut held = Content {
+        frames: Frames {
+            pages: store_pages,
+            bytes,
+            filled,
+        },
+        changed,
+    };
+    held.follow(store, entry, write);
     let counted = acted.counted;
     counting::count(tally, counted);
     *duty = in_place::duty(entry, write);
@@ -323,8 +326,13 @@ pub fn foqheran_parts_read<'a>(
         return word(Answer::Refused(n));
     }
     let frame = holder.frame;
-    filling::fill(bytes, filled, store, store_pages, frame, page);
-    let byte = filling::byte_of(bytes, frame, offset);
+    let mut frames = Frames {
+        pages: store_pages,
+        bytes,
+        filled,
+    };
+    frames.fill(store, frame, page);
+    let byte = frames.byte(frame, offset);
     word(Answer::Done(byte as u32))
 }
 
@@ -368,8 +376,16 @@ pub fn foqheran_parts_write<'a>(
         return word(Answer::Refused(n));
     }
     let frame = holder.frame;
-    filling::fill(bytes, filled, store, store_pages, frame, page);
-    filling::put_byte(bytes, changed, frame, offset, byte);
+    let mut held = Content {
+        frames: Frames {
+            pages: store_pages,
+            bytes,
+            filled,
+        },
+        changed,
+    };
+    held.frames.fill(store, frame, page);
+    held.write(frame, offset, byte);
     word(Answer::Done(page))
 }
 
@@ -427,12 +443,14 @@ pub fn foqheran_parts_check<'a>(
         grant_pages.now grant_frames.now)
         store_pages bytes filled.now changed.now store.now)) }
 {
-    let Some(numbers) = Numbers::new(size, client_count, cap) else {
-        return word(Answer::from(Refusal::OutOfRange));
-    };
-    let books = Books {
-        numbers,
-        hand: 0,
+    let answer = whole_check::check_in_place(
+        store.len(),
+        store_pages,
+        filled,
+        changed,
+        size,
+        client_count,
+        cap,
         free,
         last,
         slots,
@@ -441,17 +459,10 @@ pub fn foqheran_parts_check<'a>(
         counts,
         table_pages,
         table_frames,
+        client_bytes,
+        client_words,
         grant_pages,
         grant_frames,
-    };
-    let marks = Marks {
-        pages: store_pages,
-        filled,
-        changed,
-    };
-    let clients = client_arrays::all_clients(client_bytes, client_words);
-    word(match checks::check(&books, &clients, &marks, store.len()) {
-        Ok(()) => Answer::Done(u32::from(size)),
-        Err(refusal) => refusal.into(),
-    })
+    );
+    word(answer)
 }

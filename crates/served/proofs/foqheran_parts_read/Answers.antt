@@ -1,5 +1,6 @@
 -- What turns the call down is told first; a call that is not turned down fills the frame of the client's grant. Assumes nothing.
 use mathlib.Core.Path.{refl}
+use Rattle.std.proofs.Common.{rules}
 use mathlib.Core.List.{List}
 use Prim.Native.Nat.{ℕ}
 use Rattle.pool.specs.declared.Pool.{Pool}
@@ -19,8 +20,8 @@ returns-then-n-ne0 c =
 pub fill-requires : goal.fill-requires
 fill-requires c = (c.holder_of-holder.ensures.lent_value c.if-n-ne0.false).0
 
-pub byte_of-byte-requires : goal.byte_of-byte-requires
-byte_of-byte-requires c = (c.holder_of-holder.ensures.lent_value c.if-n-ne0.false).1
+pub byte-byte-requires : goal.byte-byte-requires
+byte-byte-requires c = (c.holder_of-holder.ensures.lent_value c.if-n-ne0.false).1
 
 pub returns : goal.returns
 returns c =
@@ -28,5 +29,6 @@ returns c =
     let a = c.args in
     λ p changed k.
     let x = state_of p changed in
-    reads x a.client a.page a.offset (c.holder_of-holder.ensures.held_by x k refl refl) c.if-n-ne0.false c.fill.ensures.0 c.fill.ensures.1
-    c.byte_of-byte.ensures c.word-2.ensures
+    let done = reads x a.client a.page a.offset (c.holder_of-holder.ensures.held_by x k refl refl) c.if-n-ne0.false c.fill.ensures.bytes c.fill.ensures.filled
+    c.byte-byte.ensures c.word-2.ensures in
+    search (rules, done)

@@ -1,50 +1,30 @@
 -- Refused, nothing is stored; accepted, every part is. Assumes nothing.
-use borrow.Author.Tests.{not-true, not-false}
-use native.Mathlib.Omega.{arith}
 use mathlib.Core.Path.{◌≡◌, refl, sym, ◌∙◌}
-use mathlib.Core.Bool.{true}
-use lib.ListN.{length}
+use mathlib.Core.Bool.{true, false}
+use Rattle.pool.specs.Choose.{choose, both}
+use Rattle.laws.specs.Scans.{both_yes}
 use Rattle.memory.specs.Requests.{State}
 use Rattle.in_place.specs.Held.{pool_from, state_from}
-use Rattle.laws.specs.Scans.{both_second}
-use Rattle.content.specs.Acting.{few_pages}
 use Rattle.served.specs.Served.{accepted, refuses, sets_up}
-use Rattle.checks.specs.Numbered.{numbered}
-use Rattle.checks.proofs.Parts.{fails, holds}
 use Rattle.served.proofs.foqheran_parts_setup.Goals as goal
-use Rattle.served.proofs.foqheran_parts_setup.Goals.{then-numbers, else-numbers}
 
-pub returns-then-not-ok : goal.returns-then-not-ok
-returns-then-not-ok c =
-    let range = numbered _ _ _ _ c.new.ensures c.is_some-numbers.ensures in
-    let tested : let a = c.args in c.if-numbers.value ≡ accepted a.s a.t a.c a.h a.store.now =
-    elim c.if-numbers.branch [
-      | then-numbers w ↦ w.value-is ∙ w.length_ok.ensures ∙ holds _ range w.if-numbers.true
-      | else-numbers w ↦ w.value-is ∙ fails _ range w.if-numbers.false
-    ] in
+pub returns-then-not-numbers_ok : goal.returns-then-not-numbers_ok
+unfolding both choose
+returns-then-not-numbers_ok c =
     let a = c.args in
-    refuses a.s a.t a.c a.h a.store.now (sym tested ∙ not-true _ c.if-not-ok.true-raw) c.word.ensures
+    let not : accepted a.s a.t a.c a.h a.store.now ≡ false = rw (sym c.numbers_ok.ensures ∙ c.if-not-numbers_ok.true) refl in
+    refuses a.s a.t a.c a.h a.store.now not c.word.ensures
 
-pub overflow_cast-store_pages : goal.overflow_cast-store_pages
-overflow_cast-store_pages c =
-    let range = numbered _ _ _ _ c.new.ensures c.is_some-numbers.ensures in
-    let tested : let a = c.args in c.if-numbers.value ≡ accepted a.s a.t a.c a.h a.store.now =
-    elim c.if-numbers.branch [
-      | then-numbers w ↦ w.value-is ∙ w.length_ok.ensures ∙ holds _ range w.if-numbers.true
-      | else-numbers w ↦ w.value-is ∙ fails _ range w.if-numbers.false
-    ] in
-    let accepts : let a = c.args in accepted a.s a.t a.c a.h a.store.now ≡ true = sym tested ∙ not-false _ c.if-not-ok.false-raw in
-    omega (arith, few_pages (length c.args.store.now) (both_second _ _ accepts))
+pub returns-in_default : goal.returns-in_default
+unfolding both choose
+returns-in_default c =
+    let a = c.args in
+    let not : accepted a.s a.t a.c a.h a.store.now ≡ false = rw (sym c.numbers_ok.ensures ∙ c.if-not-numbers_ok.false, c.in_default.ensures) refl in
+    refuses a.s a.t a.c a.h a.store.now not c.word-in_default.ensures
 
 pub returns : goal.returns
 returns c =
-    let state_of : State = let a = c.args in state_from (pool_from a.size.now a.client_count.now a.cap.now a.hand.now a.free.now a.last.now a.slots.now a.pages.now a.pins.now a.counts.now a.table_pages.now a.table_frames.now a.client_bytes.now a.client_words.now a.grant_pages.now a.grant_frames.now) a.store_pages.now a.bytes.now a.filled.now a.changed.now a.store.now in
-    let range = numbered _ _ _ _ c.new.ensures c.is_some-numbers.ensures in
-    let tested : let a = c.args in c.if-numbers.value ≡ accepted a.s a.t a.c a.h a.store.now =
-    elim c.if-numbers.branch [
-      | then-numbers w ↦ w.value-is ∙ w.length_ok.ensures ∙ holds _ range w.if-numbers.true
-      | else-numbers w ↦ w.value-is ∙ fails _ range w.if-numbers.false
-    ] in
-    let accepts : let a = c.args in accepted a.s a.t a.c a.h a.store.now ≡ true = sym tested ∙ not-false _ c.if-not-ok.false-raw in
     let a = c.args in
-    sets_up a.s a.t a.c a.h a.store.now state_of accepts c.word-2.ensures refl c.rest_all.ensures
+    let state_of : State = state_from (pool_from a.size.now a.client_count.now a.cap.now a.hand.now a.free.now a.last.now a.slots.now a.pages.now a.pins.now a.counts.now a.table_pages.now a.table_frames.now a.client_bytes.now a.client_words.now a.grant_pages.now a.grant_frames.now) a.store_pages.now a.bytes.now a.filled.now a.changed.now a.store.now in
+    let accepts : accepted a.s a.t a.c a.h a.store.now ≡ true = both_yes _ _ (sym c.numbers_ok.ensures ∙ c.if-not-numbers_ok.false) c.in-Some.ensures.0 in
+    sets_up a.s a.t a.c a.h a.store.now state_of accepts c.word-2.ensures c.in-Some.ensures.1 c.rest_all.ensures

@@ -1,5 +1,6 @@
 -- What turns the call down is told first; a call that is not turned down fills the frame of the client's grant. Assumes nothing.
 use mathlib.Core.Path.{refl}
+use Rattle.std.proofs.Common.{rules}
 use Rattle.pool.specs.declared.Pool.{Pool}
 use Rattle.memory.specs.Requests.{State}
 use Rattle.in_place.specs.Held.{state_from}
@@ -23,5 +24,6 @@ returns c =
     let a = c.args in
     λ p k.
     let x = state_of p in
-    writes x a.client a.page a.offset (c.holder_of-holder.ensures.held_by x k refl refl) c.if-n-ne0.false c.fill.ensures.0 c.fill.ensures.1
-    a.byte c.put_byte.ensures.0 c.put_byte.ensures.1 c.word-2.ensures
+    let done = writes x a.client a.page a.offset (c.holder_of-holder.ensures.held_by x k refl refl) c.if-n-ne0.false c.fill.ensures.bytes c.fill.ensures.filled
+    a.byte c.write.ensures.bytes c.write.ensures.changed c.word-2.ensures in
+    search (rules, done)

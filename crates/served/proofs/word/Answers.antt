@@ -5,4 +5,4 @@ use Rattle.served.proofs.word.Goals as goal
 
 pub returns : goal.returns
 unfolding word_of
-returns c = omega (arith, c.code_of-code.ensures.0, c.value_of-value.ensures)
+returns c = omega (arith, c.code_of-code.ensures.code, c.value_of-value.ensures)
