@@ -41,7 +41,10 @@ pub fn run_calls(schedule: &[u8], report: &mut [u8], first: Pool, start: usize) 
         records: 1,
         bytes: start,
     };
-    while place < schedule.len() {
+    loop {
+        if place >= schedule.len() {
+            return report.end(Ok(()));
+        }
         if report.left() < LINE {
             return report.end(Err(Refusal::ReportFull));
         }
@@ -90,5 +93,4 @@ pub fn run_calls(schedule: &[u8], report: &mut [u8], first: Pool, start: usize) 
         clients[number] = next;
         report.answer(caller, answer);
     }
-    report.end(Ok(()))
 }

@@ -37,8 +37,8 @@ loop-place-init c =
 pub returns-then-left-lt-LINE : goal.returns-then-left-lt-LINE
 returns-then-left-lt-LINE c =
     let l = c.loop-place in
-    let r = comes_to l.invariant _ (full l.invariant c.loop-place-test.true (omega arith)) in
-    (c.end.ensures ∙ r.0, ? ∙ sym (report_here l.report.bytes l.report.records 2 l.report.space.now) ∙ r.1)
+    let r = comes_to l.invariant _ (full l.invariant (omega arith) (omega arith)) in
+    (c.end-then-left-lt-LINE.ensures ∙ r.0, (search rules) ∙ sym (report_here l.report.bytes l.report.records 2 l.report.space.now) ∙ r.1)
 
 pub stop-requires : goal.stop-requires
 stop-requires c = record { room = omega arith; few = few c.loop-place.invariant }
@@ -47,7 +47,7 @@ pub returns-in_default : goal.returns-in_default
 returns-in_default c =
     let g = c.loop-place.invariant in
     let e = later_unread _ c.read-reading.ensures.value c.in_default.not-Asked c.unread_of.ensures in
-    let rest = comes_to g _ (unread g c.loop-place-test.true (omega arith) _ e) in
+    let rest = comes_to g _ (unread g (omega arith) (omega arith) _ e) in
     (c.stop.ensures.ended ∙ rest.0, (search rules) ∙ c.stop.ensures.report ∙ rest.1)
 
 pub overflow_add-place : goal.overflow_add-place
@@ -107,7 +107,7 @@ pub answer-requires : goal.answer-requires
 answer-requires c = record { room = omega arith; few = few c.loop-place.invariant }
 
 pub loop-place-smaller : goal.loop-place-smaller
-loop-place-smaller c = falls c.loop-place.invariant c.loop-place-test.true
+loop-place-smaller c = falls c.loop-place.invariant (omega arith)
 
 pub loop-place-preserved : goal.loop-place-preserved
 loop-place-preserved c =
@@ -122,12 +122,12 @@ loop-place-preserved c =
     let is_turn = done.0 (turns pool_at call_of valid number_is frame_is) in
     let wrote = c.answer.ensures in
     let its_line : ℕ → Type 0 = λ client. Wrote (answer_line l.report.records client c.play-turn.result.answer) l.report c.answer.new.self in
-    next l.invariant c.loop-place-test.true (omega arith) call_of is_call _
+    next l.invariant (omega arith) (omega arith) call_of is_call _
     (as_played pool_at call_of number_is is_turn done.1)
     (subst its_line c.caller-caller.ensures wrote.written) wrote.records
 
-pub returns : goal.returns
-returns c =
+pub returns-then-place-schedule : goal.returns-then-place-schedule
+returns-then-place-schedule c =
     let l = c.loop-place in
-    let r = comes_to l.invariant _ (all_read l.invariant c.loop-place-test.false) in
-    (c.end-2.ensures ∙ r.0, ? ∙ sym (report_here l.report.bytes l.report.records 0 l.report.space.now) ∙ r.1)
+    let r = comes_to l.invariant _ (all_read l.invariant (omega arith)) in
+    (c.end.ensures ∙ r.0, (search rules) ∙ sym (report_here l.report.bytes l.report.records 0 l.report.space.now) ∙ r.1)
