@@ -3,7 +3,6 @@ use mathlib.Core.Path.{◌≡◌, refl, sym, ap, subst, ◌∙◌}
 use mathlib.Core.Bool.{true, false, true≢false}
 use mathlib.Core.List.{List}
 use Prim.Native.Nat.{ℕ}
-use native.Mathlib.Omega.{arith}
 use Rattle.pool.specs.Answers.{unread_of}
 use Rattle.pool.specs.Schedule.{content, read}
 use Rattle.pool.specs.declared.Call.{Call}

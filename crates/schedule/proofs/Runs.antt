@@ -1,14 +1,14 @@
 -- One record of a run at a time: what ends a run and what a record that does not end it leaves of the run, of the report space and of what
 -- the run returns. Assumes nothing.
-use mathlib.Core.Path.{◌≡◌, sym, ap, ◌∙◌}
+use mathlib.Core.Path.{◌≡◌, ◌∙◌}
 use mathlib.Core.Bool.{true, false}
-use mathlib.Core.List.{List, ◌++◌, append_assoc, append-nil}
+use mathlib.Core.List.{List, ◌++◌, append-nil}
 use Prim.Native.Nat.{ℕ, suc, ◌+◌, ◌-◌, ◌≤◌, ◌<◌}
 use native.Mathlib.Omega.{arith}
 use borrow.Author.Tests.{lt-ltb, le-ltb}
 use lib.Dec.{eqb, ltb}
 use lib.ListN.{length, take, drop, length-append, length-drop, take-append-drop}
-use lib.Seq.{take-append_seam, drop-append-add, drop-drop, length-take-le, take_all}
+use lib.Seq.{take_all}
 use Rattle.pool.specs.Choose.{choose, both}
 use Rattle.pool.specs.Answers.{refusal_of, code_of, value_of}
 use Rattle.pool.specs.Schedule.{Ran, ends, read, length_of, performed, ends_run, line_for, run_from, ran, end_of, report_of}

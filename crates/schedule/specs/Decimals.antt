@@ -1,7 +1,7 @@
 -- Decimal digits: the definition's are std's, and so is what is known of them. Assumes nothing.
-use Rattle.std.specs.Prelude.{◌≡◌, refl, List, [], ◌∷◌, ◌++◌, ℕ, zero, suc, ◌+◌, ◌/◌, ◌%◌, ◌^◌, ◌≤◌, ◌<◌, length}
+use Rattle.std.specs.Prelude.{◌≡◌, [], ◌∷◌, ◌++◌, ℕ, zero, suc, ◌+◌, ◌/◌, ◌%◌, ◌^◌, ◌≤◌, ◌<◌, length}
 use Rattle.std.specs.Fmt as Std
-use Rattle.std.proofs.Common.{sym, ◌∙◌, arith, mod-eq_of_lt, lt-ltb, le-ltb, length-append}
+use Rattle.std.proofs.Common.{sym, ◌∙◌, arith, lt-ltb, le-ltb, length-append}
 use Rattle.std.proofs.Math.Nat.{div-div-eq-div-mul}
 use Rattle.std.proofs.lemmas.Fmt.{AppendsLastDigit, decimal_from_appends, decimal_by_steps, decimal_digit, decimal_step, length-decimal-le}
 use Rattle.pool.specs.Choose.{choose}

@@ -1,6 +1,6 @@
 -- The fields of a report line, and how many digits there are at most. Assumes nothing.
-use Rattle.std.specs.Prelude.{◌≡◌, List, [], ◌∷◌, ◌++◌, ℕ, ◌+◌, ◌^◌, ◌≤◌, ◌<◌, length}
-use Rattle.std.proofs.Common.{append_assoc, arith, length-append}
+use Rattle.std.specs.Prelude.{◌≡◌, List, [], ◌∷◌, ◌++◌, ℕ, ◌^◌, ◌≤◌, ◌<◌, length}
+use Rattle.std.proofs.Common.{append_assoc, arith}
 use Rattle.pool.specs.Schedule.{decimal, line}
 use Rattle.schedule.specs.Decimals.{decimal_fits}
 

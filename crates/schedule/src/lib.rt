@@ -1,5 +1,5 @@
 // The run of a schedule (SPECIFICATION, section 10): its first record sets the pool up, each later one is a call of it, and each writes one line of
-// the report. Public, through crate `foqheran`.
+// the report. Public, through crates `foqheran` and `storeless`; the modules are internal.
 //
 // Here are the two checks before the first record, and that record; the calls after it are `run_loop`'s. Check 8 is made of the setup alone.
 #![tactic(auto)]

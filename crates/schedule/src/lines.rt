@@ -10,7 +10,7 @@ use answers::Refusal;
 use pool::{Answer, Ended};
 
 /// The bytes of the longest line: a record's number has at most 4 digits, a client and a code at most 3 each, a value at most 10, and a byte follows
-/// each of them (`line_fits`).
+/// each of them.
 pub const LINE: usize = 24;
 
 /// The report of a run under way.
@@ -100,7 +100,7 @@ impl Report<'_> {
     pub fn answer(&mut self, client: u8, answer: Answer)
         requires room { self.old.bytes + 24 ≤ length self.old.space.now }
         requires few { self.old.records ≤ 9999 }
-        ensures written { Wrote (answer_line self.old.records client answer) self.old self.new }
+        ensures answered { Wrote (answer_line self.old.records client answer) self.old self.new }
         ensures records { self.new.records ≡ self.old.records + 1 }
     {
         self.line(client, answer);

@@ -3,8 +3,8 @@
 // The pool's parts lie in one place for the whole run, and every record changes them where they lie. Check 8 is not made here: no pool of a run
 // meets it (SPECIFICATION 3.8), so a record's turn is `call_of`, which makes check 8 before and after the action, without the test.
 //
-// Three numbers go along with the run: `place`, the byte of the schedule at which the next record starts; `records`, how many records are done,
-// which is the next one's number; `bytes`, how many bytes of the report space are written.
+// `place` is the byte of the schedule at which the next record starts. Each end of the run is a `return` inside the loop: after a loop the proof no
+// longer has that `report` lends the space that the run was lent. (Tried: the proof did not close with `while` and the ordinary end after it.)
 
 ghost use Rattle.std.specs.Prelude.{◌≡◌, ◌-◌, ◌≤◌, length};
 ghost use Rattle.pool.specs.Calls.{SetUp};
@@ -15,7 +15,7 @@ use crate::records;
 use answers::Refusal;
 use pool::{Ended, NONE, Pool, Reading};
 
-// The calls after the setup, which left the pool `first` and whose line takes the first `start` bytes of the report space.
+/// The calls after the setup, which left the pool `first` and whose line takes the first `start` bytes of the report space.
 pub fn run_calls(schedule: &[u8], report: &mut [u8], first: Pool, start: usize) -> Ended
     requires set_up { SetUp first }
     requires in_bounds { (10 ≤ length schedule.now) × (length schedule.now ≤ 16384) × (start ≤ length report.old) }

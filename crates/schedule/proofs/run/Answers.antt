@@ -45,7 +45,7 @@ run_calls-requires c =
 pub returns : goal.returns
 returns c =
     let read = sym c.read-reading.ensures.value ∙ c.in-Setup.is in
-    let wrote = c.answer.ensures.written in
+    let wrote = c.answer.ensures.answered in
     let new = c.answer.new.self in
     let left : length new.space.now - new.bytes ≡ length c.args.report.now - length (answer_line 0 0 c.setup-made.result.answer) = omega (arith, wrote.bytes, wrote.size) in
     let rest = from_first c.args.schedule.now c.setup-made.result.pool left in

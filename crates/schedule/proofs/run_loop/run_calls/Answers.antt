@@ -2,9 +2,7 @@ use borrow.Author.Rules.{rules}
 use native.Mathlib.Omega.{arith}
 use mathlib.Core.Path.{◌≡◌, refl, sym, ap, subst, ◌∙◌}
 use mathlib.Core.Bool.{true, false}
-use mathlib.Core.List.{List}
-use Prim.Native.Nat.{ℕ, ◌-◌, ◌≤◌, ◌<◌}
-use lib.ListN.{length}
+use Prim.Native.Nat.{ℕ, ◌<◌}
 use Rattle.pool.specs.Limits.{max_clients}
 use Rattle.pool.specs.State.{number_of_clients}
 use Rattle.pool.specs.Valid as Valid
@@ -23,7 +21,7 @@ use Rattle.invariant.proofs.Valid.{valid_reached}
 use Rattle.schedule.specs.Rest.{answer_line}
 use Rattle.schedule.proofs.Readings.{later_unread}
 use Rattle.schedule.proofs.Runs.{from, report_here}
-use Rattle.schedule.proofs.Going.{at_start, few, record_fits, place_fits, falls, comes_to, all_read, full, unread, next}
+use Rattle.schedule.proofs.Going.{at_start, few, place_fits, falls, comes_to, all_read, full, unread, next}
 use Rattle.schedule.proofs.run_loop.run_calls.Goals as goal
 use Rattle.schedule.proofs.run_loop.run_calls.Goals.{then-client-eq4, else-client-eq4}
 
@@ -124,7 +122,7 @@ loop-place-preserved c =
     let its_line : ℕ → Type 0 = λ client. Wrote (answer_line l.report.records client c.play-turn.result.answer) l.report c.answer.new.self in
     next l.invariant (omega arith) (omega arith) call_of is_call _
     (as_played pool_at call_of number_is is_turn done.1)
-    (subst its_line c.caller-caller.ensures wrote.written) wrote.records
+    (subst its_line c.caller-caller.ensures wrote.answered) wrote.records
 
 pub returns-then-place-schedule : goal.returns-then-place-schedule
 returns-then-place-schedule c =

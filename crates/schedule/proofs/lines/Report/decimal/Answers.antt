@@ -1,11 +1,9 @@
 -- A number of one to four digits is stored digit by digit (`decimal_one` to `decimal_four` say which), and a longer one is `itoa`'s text. There is room
 -- for the digits, since the contract asks for it. Assumes nothing.
 use native.Mathlib.Omega.{arith}
-use mathlib.Core.Path.{ap}
-use Rattle.std.proofs.Common.{◌≡◌, ◌∙◌, sym, List, ℕ, length, subst}
+use Rattle.std.proofs.Common.{◌≡◌, ◌∙◌, sym}
 use Rattle.pool.specs.Schedule.{decimal}
 use Rattle.schedule.specs.Decimals.{as_std, decimal_one, decimal_two, decimal_three, decimal_four}
-use Rattle.schedule.specs.Reports.{Wrote}
 use Rattle.schedule.proofs.lines.Report.decimal.Goals as goal
 
 pub put-requires : goal.put-requires
