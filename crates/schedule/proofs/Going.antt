@@ -9,7 +9,7 @@ use lib.Dec.{eqb, ltb}
 use lib.ListN.{length, drop, length-drop}
 use lib.Seq.{drop-drop}
 use mir.Val.{Fits}
-use mir.Syntax.{w32, w64}
+use mir.Syntax.{w64}
 use Rattle.pool.specs.Choose.{choose, both}
 use Rattle.pool.specs.Calls.{SetUp, turned_down, caller, call_of}
 use Rattle.pool.specs.Schedule.{Ran, ends, read, length_of, performed, ends_run, named_by, line_for, run_from}
@@ -85,9 +85,6 @@ module _ {s : List ℕ} {first p : Pool} {began r : Report} {place : ℕ} (g : G
 
   pub few : records ≤ 9999
   few = let a = g.at in let b = g.inside in let c = g.short in omega arith
-
-  pub record_fits : Fits w32 (records + 1)
-  record_fits = let a = few in omega arith
 
   pub place_fits : Fits w64 (place + 8)
   place_fits = let a = g.inside in let b = g.short in omega arith

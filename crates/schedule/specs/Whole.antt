@@ -1,17 +1,14 @@
 -- What a record that is read has: the bytes that its kind needs, and where it cannot be read, a refusal that ends the run. Assumes nothing.
-use Rattle.std.specs.Prelude.{◌≡◌, refl, Bool, true, false, List, ℕ, ◌≤◌, length}
+use Rattle.std.specs.Prelude.{◌≡◌, Bool, true, false, List, ℕ, ◌≤◌, length}
 use Rattle.std.proofs.Common.{sym, ◌∙◌, true≢false, arith, ltb-false, eqb-true, eq-eqb, lt-ltb, le-leb}
-use Rattle.std.proofs.Math.Decide.{ℕ_discrete}
 use Rattle.pool.specs.Choose.{choose, both, either}
-use Rattle.pool.specs.Answers.{refusal_of, unread_of}
+use Rattle.pool.specs.Answers.{refusal_of}
 use Rattle.pool.specs.Schedule.{byte, cut, content, read, length_of, ends_run}
 use Rattle.pool.specs.declared.Answer.TheVariants.{Refused}
 use Rattle.pool.specs.declared.Call.{Call}
 use Rattle.pool.specs.declared.Reading.{Reading}
 use Rattle.pool.specs.declared.Reading.TheVariants.{Setup, Asked, Unreadable}
 use Rattle.laws.specs.Choices.{by_test}
-use Rattle.answers.specs.Among.{Among}
-use Rattle.answers.specs.Refusals.{by_record}
 
 pub whole : (s : List ℕ) → cut s ≡ false → 8 ≤ length s
 unfolding cut either
@@ -65,19 +62,3 @@ unread_ends first s n =
     (λ _ call no. let never : ◌≡◌ {A = ℕ} 0 1 = cc in absurd (omega arith))
     (λ m low high e. let same : m ≡ n = cc in refused_ends n (omega arith) (omega arith))
     first
-
--- what a record that cannot be read is refused by is one of the list
-among : (n : ℕ) → 3 ≤ n → n ≤ 7 → Among by_record n
-among n low high = go n (ℕ_discrete n 3) (ℕ_discrete n 4) (ℕ_discrete n 5) (ℕ_discrete n 6) low high
-  where
-    go : (n : ℕ) → Dec (n ≡ 3) → Dec (n ≡ 4) → Dec (n ≡ 5) → Dec (n ≡ 6) → 3 ≤ n → n ≤ 7 → Among by_record n
-    go n (yes e) _ _ _ a b = rw e refl
-    go n (no _) (yes e) _ _ a b = rw e refl
-    go n (no _) (no _) (yes e) _ a b = rw e refl
-    go n (no _) (no _) (no _) (yes e) a b = rw e refl
-    go n (no x) (no y) (no z) (no w) a b = let e : n ≡ 7 = omega arith in rw e refl
-
-pub read_refusals : (first : Bool) (s : List ℕ) → Among by_record (unread_of (read first s))
-unfolding unread_of
-read_refusals first s =
-    read_any (λ (r : Reading). Among by_record (unread_of r)) s (λ _ a b c h. refl) (λ _ call. refl) (λ n low high. among n low high) first
