@@ -4,13 +4,16 @@
 use std::io;
 use std::io::Write;
 
+/// One byte more than the longest schedule is enough to know that a file is too long.
+const READ: usize = 16385;
+
+/// 2,048 lines of at most 24 bytes, so that the report space never ends a run.
+const SPACE: usize = 49152;
+
 fn main(rt: HostRuntime) -> io::Result<()> {
-    // One byte more than the longest schedule is enough to know that a file is too long.
-    let mut schedule = [0u8; 16385];
+    let mut schedule = [0u8; READ];
     let read = input::read_full(&mut rt.stdin(), &mut schedule)?;
-    // 2,048 lines of at most 24 bytes, so that the report space never ends a run.
-    let mut report = [0u8; 49152];
+    let mut report = [0u8; SPACE];
     let ended = schedule::run(&schedule[..read], &mut report);
-    let bytes = ended.bytes;
-    rt.stdout().write_all(&report[..bytes])
+    rt.stdout().write_all(&report[..ended.bytes])
 }

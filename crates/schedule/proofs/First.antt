@@ -20,9 +20,9 @@ use Rattle.pool.specs.declared.Pool.{Pool}
 use Rattle.pool.specs.declared.Reading.TheVariants.{Setup, Unreadable}
 use Rattle.laws.specs.Choices.{by_test, chosen, passed}
 use Rattle.laws.specs.Setups.{set_up}
-use Rattle.records.specs.Whole.{read_fits, refused_ends, unread_ends}
-use Rattle.lines.specs.Rest.{stopped, rest}
-use Rattle.lines.proofs.Runs.{before, stop_line, no_space, stops, goes_on}
+use Rattle.schedule.specs.Whole.{read_fits, refused_ends, unread_ends}
+use Rattle.schedule.specs.Rest.{answer_line, stopped, rest}
+use Rattle.schedule.proofs.Runs.{before, stop_line, no_space, stops, goes_on}
 
 -- ---- a setup's answer
 
@@ -33,7 +33,7 @@ module _ (size clients cap hand : ℕ) where
       by_test (λ (o : Outcome). refusal ≡ refusal_of o.answer → refusal ≢ 0 → (o.answer ≡ Refused refusal) × (ends_run (Refused refusal) ≡ true))
       (λ _ u z. absurd (z u)) (λ _ u _. (ap Refused (sym u), refused_ends refusal (omega arith) (omega arith)))
 
-  pub not_refused : refusal_of (setup_of size clients cap hand).answer ≡ 0 → SetUp (setup_of size clients cap hand).pool
+  not_refused : refusal_of (setup_of size clients cap hand).answer ≡ 0 → SetUp (setup_of size clients cap hand).pool
   unfolding setup_of refusal_of
   not_refused e = set_up size clients cap hand (done e)
     where
@@ -82,26 +82,33 @@ module _ (s : List ℕ) (space : ℕ) where
         unfolding length_of
         setup_whole = rw e at (read_fits true s)
 
-        pub refused_first : (refusal : ℕ) → refusal ≡ refusal_of (setup_of size clients cap hand).answer → refusal ≢ 0 → ran s space ≡ stopped 0 refusal
-        unfolding performed
-        refused_first refusal u z =
-            let r = refuses size clients cap hand refusal u z in
-            started
-            ∙ stops (length s) no_pool 0 s space begins (Setup size clients cap hand) (setup_of size clients cap hand) room e refl (ap ends_run r.0 ∙ r.1)
-            ∙ ap (λ (x : Answer). record { records = 0; refusal = refusal_of x; lines = line_for 0 (Setup size clients cap hand) x }) r.0
-            ∙ stop_line 0 refusal (Setup size clients cap hand) r.1
+        -- what a setup made
+        module _ {made : Outcome} (is_made : made ≡ setup_of size clients cap hand) {refusal : ℕ} (is_refusal : refusal ≡ refusal_of made.answer) where
+          told : refusal ≡ refusal_of (setup_of size clients cap hand).answer
+          told = rw is_made at is_refusal
 
-        pub accepted_first : refusal_of (setup_of size clients cap hand).answer ≡ 0 →
-            let x = (setup_of size clients cap hand).answer in
-            let w = line 0 0 (code_of x) (value_of x) in
-            ran s space ≡ before w (run_from (length s) (setup_of size clients cap hand).pool 1 (drop 10 s) (space - length w))
-        unfolding performed length_of
-        accepted_first u =
-            let goes = no_refusal (setup_of size clients cap hand).answer u in
-            started
-            ∙ goes_on (length s) no_pool 0 s space begins (Setup size clients cap hand) (setup_of size clients cap hand) room e refl goes
-            ∙ rw (setup_line size clients cap hand (setup_of size clients cap hand).answer goes)
+          pub refused_first : refusal ≢ 0 → ran s space ≡ stopped 0 refusal
+          unfolding performed
+          refused_first z =
+              let r = refuses size clients cap hand refusal told z in
+              started
+              ∙ stops (length s) no_pool 0 s space begins (Setup size clients cap hand) (setup_of size clients cap hand) room e refl (ap ends_run r.0 ∙ r.1)
+              ∙ ap (λ (x : Answer). record { records = 0; refusal = refusal_of x; lines = line_for 0 (Setup size clients cap hand) x }) r.0
+              ∙ stop_line 0 refusal (Setup size clients cap hand) r.1
+
+          pub set_up_first : refusal ≡ 0 → SetUp made.pool
+          set_up_first z = rw is_made (not_refused size clients cap hand (sym told ∙ z))
+
+          pub accepted_first : refusal ≡ 0 → let w = answer_line 0 0 made.answer in
+              ran s space ≡ before w (run_from (length s) made.pool 1 (drop 10 s) (space - length w))
+          unfolding performed length_of
+          accepted_first z =
+              let goes = no_refusal (setup_of size clients cap hand).answer (sym told ∙ z) in
+              rw is_made
+              (started
+              ∙ goes_on (length s) no_pool 0 s space begins (Setup size clients cap hand) (setup_of size clients cap hand) room e refl goes
+              ∙ rw (setup_line size clients cap hand (setup_of size clients cap hand).answer goes))
 
 -- the rest of the run, as it is told from the first call on
-pub from_first : (s : List ℕ) {p q : Pool} {left space : ℕ} → p ≡ q → left ≡ space → rest s p 1 10 left ≡ run_from (length s) q 1 (drop 10 s) space
-from_first s e f = let fuel : length s + 1 - 1 ≡ length s = omega arith in rw (fuel, e, f)
+pub from_first : (s : List ℕ) (p : Pool) {left space : ℕ} → left ≡ space → rest s p 1 10 left ≡ run_from (length s) p 1 (drop 10 s) space
+from_first s p e = let fuel : length s + 1 - 1 ≡ length s = omega arith in rw (fuel, e)

@@ -11,8 +11,8 @@ use Rattle.pool.specs.Choose.{choose, both}
 use Rattle.pool.specs.Schedule.{ends, read, length_of, performed, ends_run, line_for, run_from}
 use Rattle.pool.specs.declared.Pool.{Pool}
 use Rattle.pool.specs.declared.Reading.{Reading}
-use Rattle.records.specs.Whole.{read_any, refused_ends}
-use Rattle.lines.proofs.Runs.{before}
+use Rattle.schedule.specs.Whole.{read_any, refused_ends}
+use Rattle.schedule.proofs.Runs.{before}
 
 -- a record that does not end the run has bytes of its own
 takes_some : (p : Pool) (first : Bool) (s : List ℕ) → ends_run (performed p (read first s)).answer ≡ false →

@@ -1,2 +1,6 @@
+pub mod Readings
+pub mod Runs
+pub mod Turned
+pub mod Going
 pub mod Fuel
 pub mod First

@@ -1,5 +1,5 @@
 // The run of a schedule (SPECIFICATION, section 10): its first record sets the pool up, each later one is a call of it, and each writes one line of
-// the report. Public, through crate `foqheran`.
+// the report. Public, through crates `foqheran` and `storeless`; the modules are internal.
 //
 // Here are the two checks before the first record, and that record; the calls after it are `run_loop`'s. Check 8 is made of the setup alone.
 #![tactic(auto)]
@@ -7,34 +7,43 @@
 ghost use Rattle.std.specs.Prelude.{◌≡◌};
 ghost use Rattle.pool.specs.Schedule.{end_of, report_of};
 
+mod lines;
+pub mod records;
+mod run_loop;
+
+use answers::Refusal;
+use lines::{LINE, Report};
 use pool::{Ended, Reading};
 
-// The bytes of the longest file that is played (refusal 1).
+/// The bytes of the longest file that is played (refusal 1).
 const LONGEST: usize = 16384;
 
-// The run of a whole schedule, its report written at the start of the space that is lent.
+/// The run of a whole schedule, its report written at the start of the space that is lent.
 pub fn run(schedule: &[u8], report: &mut [u8]) -> Ended
     ensures { (result ≡ end_of schedule.now report.old)
         × (report.new ≡ report_of schedule.now report.old) }
 {
+    let mut report = Report {
+        space: report,
+        records: 0,
+        bytes: 0,
+    };
     if schedule.len() > LONGEST {
-        return lines::ends(0, 0, 1);
+        return report.end(Err(Refusal::TooLong));
     }
-    if report.len() < 24 {
-        return lines::ends(0, 0, 2);
+    if report.left() < LINE {
+        return report.end(Err(Refusal::ReportFull));
     }
     let reading = records::read(schedule, true);
     let Reading::Setup(size, client_count, cap, hand) = reading else {
-        return lines::stop(report, 0, 0, answers::unread_of(reading));
+        return report.stop(answers::unread_of(reading));
     };
     let made = calls::setup(size, client_count, cap, hand);
-    let answer = made.answer;
-    let refusal = answers::refusal_of(answer);
+    let refusal = answers::refusal_of(made.answer);
     if refusal != 0 {
-        return lines::stop(report, 0, 0, refusal);
+        return report.stop(refusal);
     }
-    let bytes = 0;
-    let start = lines::write_answer(&mut report[bytes..], 0, 0, answer);
-    let first = made.pool;
-    run_loop::run_calls(schedule, report, first, start)
+    report.answer(0, made.answer);
+    let Report { space, bytes, .. } = report;
+    run_loop::run_calls(schedule, space, made.pool, bytes)
 }

@@ -8,6 +8,7 @@
 ghost use Rattle.std.specs.Prelude.{◌≤◌, length};
 
 use pool::{Call, Reading};
+use schedule::records;
 use std::io;
 use test_support::{State, begin, print_on_first, release, set_up, step};
 

@@ -1,16 +1,11 @@
 -- What a read gives is put behind what was read before, and the reader has lost both. Assumes nothing.
-use Rattle.std.proofs.Common.{◌≡◌, ◌∙◌, ◌≤◌, ◌+◌, ◌-◌, ◌++◌, rules, ℕ, List, Option, Some, None, ap, sym, subst, append_assoc, length, take, drop, drop_at, length-take-le, le_refl}
+use Rattle.std.proofs.Common.{◌≡◌, ◌∙◌, ◌≤◌, ◌+◌, ◌-◌, ◌++◌, rules, ℕ, List, ap, sym, subst, length, take, drop, drop_at, length-take-le, le_refl}
 use Rattle.std.proofs.lemmas.Slice.{take-put_mid_below}
 use Rattle.std.specs.Io.KnownBytes.{Consumes}
+use Rattle.std.proofs.KnownBytes.{Consumes-trans}
 use borrow.Rule.Slice.PartMut.{put_mid, post_of}
 use lib.Seq.{take-add, take-append-le}
 use Rattle.input.proofs.read_full.Goals as goal
-
-both_lost : (a b c : Option (List ℕ)) (first then : List ℕ) → Consumes a b first → Consumes b c then → Consumes a c (first ++ then)
-both_lost None b c first then p q = tt
-both_lost (Some x) None c first then p q = absurd p
-both_lost (Some x) (Some y) None first then p q = absurd q
-both_lost (Some x) (Some y) (Some z) first then p q = p ∙ ap (λ l. first ++ l) q ∙ sym (append_assoc first then z)
 
 put_behind : (a k n : ℕ) (xs ys : List ℕ) → a ≤ length xs → n ≤ length ys → take a xs ++ take n ys ≡ take (a + n) (put_mid a k xs ys)
 put_behind a k n xs ys within fits =
@@ -28,4 +23,4 @@ loop-done-preserved g c =
     let room = length l.buffer - l.done in
     let within : l.done ≤ length l.buffer = l.invariant.0 in
     let placed = put_behind l.done room n l.buffer c.read.new.buf within fits in
-    (search rules, subst (Consumes _ _) placed (both_lost _ _ _ _ _ l.invariant.1 c.in_ok-n.ensures.bytes.0))
+    (search rules, subst (Consumes _ _) placed (Consumes-trans _ _ _ _ _ l.invariant.1 c.in_ok-n.ensures.bytes.0))

@@ -1,2 +1,0 @@
-pub mod Decimals
-pub mod Lines

@@ -1,0 +1,68 @@
+use borrow.Author.Rules.{rules}
+use native.Mathlib.Omega.{arith}
+use mathlib.Core.Path.{◌≡◌, refl, sym, ap, subst, ◌∙◌}
+use mathlib.Core.Bool.{true, false}
+use Prim.Native.Nat.{ℕ, ◌<◌}
+use Rattle.pool.specs.Valid as Valid
+use Rattle.pool.specs.Calls.{caller}
+use Rattle.pool.specs.Schedule.{read}
+use Rattle.pool.specs.declared.Call.{Call}
+use Rattle.pool.specs.declared.Pool.{Pool}
+use Rattle.pool.specs.declared.Reading.TheVariants.{Asked}
+use Rattle.schedule.specs.Reports.{Wrote}
+use Rattle.invariant.proofs.Valid.{valid_reached}
+use Rattle.schedule.specs.Rest.{answer_line}
+use Rattle.schedule.proofs.Readings.{later_unread}
+use Rattle.schedule.proofs.Runs.{from, report_here}
+use Rattle.schedule.proofs.Turned.{is_call}
+use Rattle.schedule.proofs.Going.{at_start, few, place_fits, falls, comes_to, all_read, full, unread, next}
+use Rattle.schedule.proofs.run_loop.run_calls.Goals as goal
+
+-- ---- a record's turn
+
+pub loop-place-init : goal.loop-place-init
+loop-place-init c =
+    let p = c.requires in
+    at_start p.set_up refl p.in_bounds.0 p.in_bounds.1
+
+pub returns-then-left-lt-LINE : goal.returns-then-left-lt-LINE
+returns-then-left-lt-LINE c =
+    let l = c.loop-place in
+    let r = comes_to l.invariant _ (full l.invariant (omega arith) (omega arith)) in
+    (c.end-then-left-lt-LINE.ensures ∙ r.0, (search rules) ∙ sym (report_here l.report.bytes l.report.records 2 l.report.space.now) ∙ r.1)
+
+pub stop-requires : goal.stop-requires
+stop-requires c = record { room = omega arith; few = few c.loop-place.invariant }
+
+pub returns-in_default : goal.returns-in_default
+returns-in_default c =
+    let g = c.loop-place.invariant in
+    let e = later_unread _ c.read-reading.ensures.value c.in_default.not-Asked c.unread_of.ensures in
+    let rest = comes_to g _ (unread g (omega arith) (omega arith) _ e) in
+    (c.stop.ensures.ended ∙ rest.0, (search rules) ∙ c.stop.ensures.report ∙ rest.1)
+
+pub overflow_add-place : goal.overflow_add-place
+overflow_add-place c = place_fits c.loop-place.invariant
+
+pub answer-requires : goal.answer-requires
+answer-requires c = record { room = omega arith; few = few c.loop-place.invariant }
+
+pub loop-place-smaller : goal.loop-place-smaller
+loop-place-smaller c = falls c.loop-place.invariant (omega arith)
+
+pub loop-place-preserved : goal.loop-place-preserved
+loop-place-preserved c =
+    let l = c.loop-place in
+    let call = c.in-Asked.call in
+    let is_call_read : read false (from l.place c.args.schedule.now) ≡ Asked call = sym c.read-reading.ensures.value ∙ c.in-Asked.is in
+    let done = c.perform-answer.ensures in
+    let wrote = c.answer.ensures in
+    let its_line : ℕ → Type 0 = λ client. Wrote (answer_line l.report.records client c.perform-answer.result) l.report c.answer.new.self in
+    next l.invariant (omega arith) (omega arith) call is_call_read (is_call l.pool call l.invariant.reached done.moved done.turned) done.numbers
+    (subst its_line c.caller-caller.ensures wrote.answered) wrote.records
+
+pub returns-then-place-schedule : goal.returns-then-place-schedule
+returns-then-place-schedule c =
+    let l = c.loop-place in
+    let r = comes_to l.invariant _ (all_read l.invariant (omega arith)) in
+    (c.end.ensures ∙ r.0, (search rules) ∙ sym (report_here l.report.bytes l.report.records 0 l.report.space.now) ∙ r.1)
