@@ -15,7 +15,6 @@ use Rattle.pool.specs.Calls.{SetUp, turned_down, caller, call_of}
 use Rattle.pool.specs.Schedule.{Ran, ends, read, length_of, performed, ends_run, named_by, line_for, run_from}
 use Rattle.pool.specs.declared.Answer.{Answer}
 use Rattle.pool.specs.declared.Call.{Call}
-use Rattle.pool.specs.declared.Outcome.{Outcome}
 use Rattle.pool.specs.declared.Pool.{Pool}
 use Rattle.pool.specs.declared.Reading.{Reading}
 use Rattle.pool.specs.declared.Reading.TheVariants.{Asked, Unreadable}

@@ -1,13 +1,9 @@
 use borrow.Author.Rules.{rules}
 use native.Mathlib.Omega.{arith}
-use mathlib.Core.Path.{◌≡◌, refl, sym, ap, subst, ◌∙◌}
-use mathlib.Core.Bool.{true, false}
-use Prim.Native.Nat.{ℕ, ◌<◌}
-use Rattle.pool.specs.Valid as Valid
-use Rattle.pool.specs.Calls.{caller}
+use mathlib.Core.Path.{◌≡◌, refl, sym, subst, ◌∙◌}
+use mathlib.Core.Bool.{false}
+use Prim.Native.Nat.{ℕ}
 use Rattle.pool.specs.Schedule.{read}
-use Rattle.pool.specs.declared.Call.{Call}
-use Rattle.pool.specs.declared.Pool.{Pool}
 use Rattle.pool.specs.declared.Reading.TheVariants.{Asked}
 use Rattle.schedule.specs.Reports.{Wrote}
 use Rattle.invariant.proofs.Valid.{valid_reached}
@@ -43,6 +39,9 @@ returns-in_default c =
 
 pub overflow_add-place : goal.overflow_add-place
 overflow_add-place c = place_fits c.loop-place.invariant
+
+pub perform-answer-requires-clause-valid : goal.perform-answer-requires-clause-valid
+perform-answer-requires-clause-valid c = valid_reached c.loop-place.pool c.loop-place.invariant.reached
 
 pub answer-requires : goal.answer-requires
 answer-requires c = record { room = omega arith; few = few c.loop-place.invariant }

@@ -7,7 +7,7 @@ use Rattle.schedule.proofs.Going.{Going}
 use Rattle.schedule.proofs.run_loop.run_calls.Given as goal
 
 abbrev pub invariant-loop-place : goal.invariant-loop-place
-invariant-loop-place l = Going l.schedule l.first l.initial.report l.pool l.place l.report
+invariant-loop-place l = Going l.schedule l.fn.first l.initial.report l.pool l.place l.report
 
 abbrev pub decreases-loop-place : goal.decreases-loop-place
 decreases-loop-place l = length l.schedule - l.place
