@@ -9,7 +9,6 @@ ghost use Rattle.std.specs.Prelude.{◌≡◌, ◌≤◌, IfOk, length};
 ghost use Rattle.pool.specs.Schedule.{report_of};
 
 use std::io;
-use std::ops::Range;
 use storeless::Ended;
 
 /// The largest prime below 2^32.
@@ -50,21 +49,16 @@ fn play(rt: &impl Print, schedule: &[u8], size: usize) -> io::Result<usize>
     play_in(rt, schedule, &mut space[..size])
 }
 
-/// Into a new space of each of these sizes.
-fn play_each(rt: &impl Print, schedule: &[u8], sizes: Range<usize>) -> io::Result<()>
-    requires { sizes.end ≤ 49177 }
-{
-    for size in sizes {
-        play(rt, schedule, size)?;
-    }
-    Ok(())
-}
-
 fn main(rt: HostRuntime) -> io::Result<()> {
     let mut schedule = [0u8; 16385];
     let read = input::read_full(&mut rt.stdin(), &mut schedule)?;
     let schedule = &schedule[..read];
     let bytes = play(&rt, schedule, 49152)?;
-    play_each(&rt, schedule, 0..49)?;
-    play_each(&rt, schedule, bytes..bytes + 25)
+    for size in 0..49 {
+        play(&rt, schedule, size)?;
+    }
+    for size in bytes..bytes + 25 {
+        play(&rt, schedule, size)?;
+    }
+    Ok(())
 }

@@ -72,7 +72,7 @@ impl State {
 }
 
 /// An answer as it is printed: its code and value (SPECIFICATION 3.6).
-#[derive(Clone, Copy, Debug, PartialEq, Eq)]
+#[derive(Clone, Copy)]
 pub struct Shown(pub Answer);
 
 impl fmt::Display for Shown {
@@ -84,7 +84,7 @@ impl fmt::Display for Shown {
 }
 
 /// A list as it is printed: its answer, and its rows, a page and its times each.
-#[derive(Clone, Copy, Debug, PartialEq, Eq)]
+#[derive(Clone, Copy)]
 pub struct ShownList(pub Listed);
 
 impl fmt::Display for ShownList {
@@ -98,7 +98,9 @@ impl fmt::Display for ShownList {
 }
 
 /// Has each of 64 pages requested, as many as the largest pool has slots, by the 16 clients in turn: each keeps four of them.
-pub fn fill(mut request: impl FnMut(u8, u32)) {
+pub fn fill<F: FnMut(u8, u32)>(mut request: F)
+    requires { F.IsAlwaysCallable request }
+{
     for page in 0..64u8 {
         request(page % 16, u32::from(page));
     }
