@@ -27,7 +27,7 @@ struct Run {
     changed: u32,
 }
 
-/// SPECIFICATION 3.10: refusal 15 alone changes the pool.
+/// Whether a refusal that leaves everything as it was (SPECIFICATION 3.10) changed the pool. Refusal 15 is none of these (3.9).
 fn breaks(answer: Answer, before: &Pool, after: &Pool) -> bool {
     let turned_down = matches!(answer, Answer::Refused(n) if n != Refusal::AllBusy.number());
     turned_down && before != after
