@@ -5,72 +5,50 @@
 // number of bytes.
 #![tactic(auto)]
 
-use memory::Tallied;
-use pool::{Answer, Tally};
+use memory::BufferPool;
+use pool::Tally;
 use std::io;
 
-fn request(state: Tallied, client: u8, page: u32, n: u8, store: &mut [u8]) -> Tallied {
-    let mut at = state;
-    let pool = at.pool;
-    let begun = buffered::begin(pool, client, page);
-    let next = begun.pool;
-    at.pool = next;
-    for _ in 0..n {
-        let pool = at.pool;
-        let tally = at.tally;
-        at = byte_step::step_tallied(pool, client, tally, store);
-    }
-    at
+/// The pool, and what is lent to its calls: the one tally, and the store.
+#[derive(Drop)]
+struct State<'a> {
+    pool: BufferPool,
+    tally: Tally,
+    store: &'a mut [u8],
 }
 
-fn write(state: Tallied, client: u8, page: u32, store: &[u8]) -> Tallied {
-    let mut at = state;
-    let pool = at.pool;
-    let done = byte_calls::write(pool, client, page, 0, 7, store);
-    let next = done.pool;
-    at.pool = next;
-    at
-}
-
-fn fill(state: Tallied, store: &mut [u8]) -> Tallied {
-    let mut at = state;
-    for page in 0..64u8 {
-        at = request(at, page % 16, page as u32, 8, store);
-        at = write(at, page % 16, page as u32, store);
+impl State<'_> {
+    /// A begin, and so many steps.
+    fn request(&mut self, client: u8, page: u32, n: u8) {
+        self.pool = buffered::begin(self.pool, client, page).pool;
+        for _ in 0..n {
+            let stepped = byte_step::step_tallied(self.pool, client, self.tally, self.store);
+            self.pool = stepped.pool;
+            self.tally = stepped.tally;
+        }
     }
-    at
-}
 
-fn sweeps(state: Tallied, n: usize, store: &mut [u8]) -> Tallied {
-    let mut at = state;
-    for _ in 0..n {
-        at = request(at, 0, 64, 132, store);
+    /// Writes a page's first byte.
+    fn write(&mut self, client: u8, page: u32) {
+        self.pool = byte_calls::write(self.pool, client, page, 0, 7, self.store).pool;
     }
-    at
 }
 
 fn main(rt: HostRuntime) -> io::Result<()> {
     let mut input = [0u8; 4096];
     let n = input::read_full(&mut rt.stdin(), &mut input)?;
     let mut store = [0u8; 16384];
-    let done = buffered::setup(64, 16, 100, 0, &store);
-    let pool = done.pool;
-    let tally = Tally {
-        hits: 0,
-        joins: 0,
-        admitted: 0,
-        revived: 0,
-        drops: 0,
-        refused: 0,
+    let mut state = State {
+        pool: buffered::setup(64, 16, 100, 0, &store).pool,
+        tally: Tally::default(),
+        store: &mut store,
     };
-    let mut state = Tallied {
-        answer: Answer::Done(64),
-        tally,
-        pool,
-    };
-    state = fill(state, &mut store);
-    state = sweeps(state, n, &mut store);
-    let counts = state.tally;
-    let refused = counts.refused;
-    println!(rt; "{refused}")
+    test_support::fill(|client, page| {
+        state.request(client, page, 8);
+        state.write(client, page);
+    });
+    for _ in 0..n {
+        state.request(0, 64, 132);
+    }
+    println!(rt; "{}", state.tally.refused)
 }

@@ -5,60 +5,53 @@
 // is too long or has no setup that is done.
 #![tactic(auto)]
 
-ghost use Rattle.std.specs.Prelude.{◌≤◌, length};
-
-use pool::{Call, Reading};
-use schedule::records;
+use pool::{Answer, Call, HELD, Reading};
 use std::io;
-use test_support::{State, begin, print_on_first, release, set_up, step};
+use test_support::{ShownList, State};
 
-fn after(state: State, call: Call) -> State {
+/// The longest schedule, in bytes; what a setup takes of them, and each call.
+const LONGEST: usize = 16384;
+
+const SETUP: usize = 10;
+
+const CALL: usize = 8;
+
+fn play_call(state: &mut State, call: Call) {
     match call {
-        Call::Begin(client, page) => begin(state, client, page),
-        Call::Step(client) => step(state, client),
-        Call::Release(client, page) => release(state, client, page),
+        Call::Begin(client, page) => state.begin(client, page),
+        Call::Step(client) => state.step(client),
+        Call::Release(client, page) => state.release(client, page),
     }
 }
 
-// The calls after the setup, up to a record that cannot be read.
-fn play_calls(rt: &impl Print, schedule: &[u8], first: State) -> io::Result<()>
-    requires { length schedule.now ≤ 16384 }
-{
-    let mut state = first;
-    let mut place = 10;
-    let mut room = 0;
-    while place < schedule.len() {
-        let reading = records::read(&schedule[place..], false);
-        let Reading::Asked(call) = reading else {
-            return Ok(());
+/// The calls after the setup, up to a record that cannot be read.
+fn play_calls(rt: &impl Print, calls: &[u8], mut state: State) -> io::Result<()> {
+    for (i, record) in calls.chunks(CALL).enumerate() {
+        let Reading::Asked(call) = records::read(record, false) else {
+            break;
         };
-        place += 8;
-        state = after(state, call);
-        print_on_first(rt, state, answers::caller(call), room)?;
-        room = (room + 1) % 9;
+        play_call(&mut state, call);
+        let listed = state.holdings_on_first(answers::caller(call), i % (HELD + 1));
+        println!(rt; "{}", ShownList(listed))?;
     }
     Ok(())
 }
 
-fn play(rt: &impl Print, schedule: &[u8]) -> io::Result<()>
-    requires { length schedule.now ≤ 16384 }
-{
-    let reading = records::read(schedule, true);
-    let Reading::Setup(size, client_count, cap, hand) = reading else {
+fn play(rt: &impl Print, schedule: &[u8]) -> io::Result<()> {
+    let Reading::Setup(size, client_count, cap, hand) = records::read(schedule, true) else {
         return Ok(());
     };
     let done = storeless::setup(size, client_count, cap, hand);
-    let answer = done.answer;
-    if storeless::refusal_of(answer) == 0 {
-        play_calls(rt, schedule, set_up(size, client_count, cap, hand))?;
+    match (done.answer, schedule.get(SETUP..)) {
+        (Answer::Done(_), Some(calls)) => play_calls(rt, calls, State::new(done.pool)),
+        _ => Ok(()),
     }
-    Ok(())
 }
 
 fn main(rt: HostRuntime) -> io::Result<()> {
-    let mut schedule = [0u8; 16385];
+    let mut schedule = [0u8; LONGEST + 1];
     let read = input::read_full(&mut rt.stdin(), &mut schedule)?;
-    if read <= 16384 {
+    if read <= LONGEST {
         play(&rt, &schedule[..read])?;
     }
     Ok(())

@@ -1,116 +1,107 @@
-// What the test programs share: a pool with the one tally that is lent to every step, and a holdings list printed. It lends through
-// `storeless::step_of` and `holdings::on_first`, which own what they lend. Internal.
+// What the test programs share: a pool with the one tally that is lent to every step, how answers and lists are printed, and how the largest pool is
+// filled. It lends through `storeless::step_of` and `holdings::on_first`, which own what they lend. Internal.
 #![tactic(auto)]
 
 ghost use Rattle.std.specs.Prelude.{◌≤◌};
 ghost use Rattle.pool.specs.Limits.{max_held};
 
-use std::io;
-use storeless::{Listed, Pool, Row, Tally};
+use std::fmt;
+use storeless::{Answer, HELD, Listed, Pool, Row, Tally};
 
-// The pool, and the one tally that is lent to every step.
-#[derive(Clone, Copy)]
+/// A row that says nothing: page 77, seven times. Lists are asked for on such rows, so that it is seen which are filled (SPECIFICATION 8.2).
+const FILLER: Row = Row { page: 77, times: 7 };
+
+/// The pool, and the one tally that is lent to every step.
+#[derive(Clone, Copy, Debug, PartialEq, Eq)]
 pub struct State {
     pub pool: Pool,
     pub tally: Tally,
 }
 
-pub fn set_up(size: u8, client_count: u8, cap: u8, hand: u32) -> State {
-    let done = storeless::setup(size, client_count, cap, hand);
-    let pool = done.pool;
-    let tally = Tally {
-        hits: 0,
-        joins: 0,
-        admitted: 0,
-        revived: 0,
-        drops: 0,
-        refused: 0,
-    };
-    State { pool, tally }
-}
+impl State {
+    /// A pool, and a tally that has counted nothing.
+    pub fn new(pool: Pool) -> State {
+        State {
+            pool,
+            tally: Tally::default(),
+        }
+    }
 
-pub fn begin(state: State, client: u8, page: u32) -> State {
-    let pool = state.pool;
-    let tally = state.tally;
-    let done = storeless::begin(pool, client, page);
-    let next = done.pool;
-    State { pool: next, tally }
-}
+    /// The pool that a setup with these numbers leaves.
+    pub fn set_up(size: u8, client_count: u8, cap: u8, hand: u32) -> State {
+        State::new(storeless::setup(size, client_count, cap, hand).pool)
+    }
 
-pub fn release(state: State, client: u8, page: u32) -> State {
-    let pool = state.pool;
-    let tally = state.tally;
-    let done = storeless::release(pool, client, page);
-    let next = done.pool;
-    State { pool: next, tally }
-}
+    pub fn begin(&mut self, client: u8, page: u32) {
+        self.pool = storeless::begin(self.pool, client, page).pool;
+    }
 
-pub fn step(state: State, client: u8) -> State {
-    let pool = state.pool;
-    let tally = state.tally;
-    let done = storeless::step_of(pool, client, tally);
-    let next = done.pool;
-    let counts = done.tally;
-    State {
-        pool: next,
-        tally: counts,
+    pub fn release(&mut self, client: u8, page: u32) {
+        self.pool = storeless::release(self.pool, client, page).pool;
+    }
+
+    pub fn step(&mut self, client: u8) {
+        let stepped = storeless::step_of(self.pool, client, self.tally);
+        self.pool = stepped.pool;
+        self.tally = stepped.tally;
+    }
+
+    pub fn steps(&mut self, client: u8, n: u8) {
+        for _ in 0..n {
+            self.step(client);
+        }
+    }
+
+    /// A begin, and so many steps.
+    pub fn request(&mut self, client: u8, page: u32, n: u8) {
+        self.begin(client, page);
+        self.steps(client, n);
+    }
+
+    /// The client's holdings on eight rows that say nothing.
+    pub fn holdings(&self, client: u8) -> Listed {
+        storeless::holdings_on(self.pool, client, [FILLER; HELD])
+    }
+
+    /// The client's holdings on the first `room` of such rows.
+    pub fn holdings_on_first(&self, client: u8, room: usize) -> Listed
+        requires { room ≤ max_held }
+    {
+        holdings::on_first(self.pool, client, [FILLER; HELD], room)
     }
 }
 
-pub fn steps(state: State, client: u8, n: u8) -> State {
-    let mut at = state;
-    for _ in 0..n {
-        at = step(at, client);
+/// An answer as it is printed: its code and value (SPECIFICATION 3.6).
+#[derive(Clone, Copy)]
+pub struct Shown(pub Answer);
+
+impl fmt::Display for Shown {
+    fn fmt<W: fmt::Write>(&self, f: &mut fmt::Formatter<W>) -> fmt::Result {
+        let code = storeless::code_of(self.0);
+        let value = storeless::value_of(self.0);
+        write!(f, "{code} {value}")
     }
-    at
 }
 
-pub fn request(state: State, client: u8, page: u32, n: u8) -> State {
-    steps(begin(state, client, page), client, n)
-}
+/// A list as it is printed: its answer, and its rows, a page and its times each.
+#[derive(Clone, Copy)]
+pub struct ShownList(pub Listed);
 
-pub fn print(rt: &impl Print, n: u32) -> io::Result<()> {
-    print!(rt; "{n}")
-}
-
-pub fn print_line(rt: &impl Print, n: u32) -> io::Result<()> {
-    println!(rt; "{n}")
-}
-
-fn print_row(rt: &impl Print, row: Row) -> io::Result<()> {
-    let page = row.page;
-    let times = row.times;
-    print!(rt; " {page} {times}")
-}
-
-fn print_rows(rt: &impl Print, rows: [Row; 8]) -> io::Result<()> {
-    for i in 0..8 {
-        print_row(rt, rows[i])?;
+impl fmt::Display for ShownList {
+    fn fmt<W: fmt::Write>(&self, f: &mut fmt::Formatter<W>) -> fmt::Result {
+        write!(f, "{}", Shown(self.0.answer))?;
+        for row in &self.0.rows {
+            write!(f, " {} {}", row.page, row.times)?;
+        }
+        Ok(())
     }
-    Ok(())
 }
 
-// A list as its answer's code and value and its rows, a page and its times each, on one line.
-pub fn print_listed(rt: &impl Print, listed: Listed) -> io::Result<()> {
-    let answer = listed.answer;
-    let rows = listed.rows;
-    let code = storeless::code_of(answer);
-    let value = storeless::value_of(answer);
-    print!(rt; "{code} {value}")?;
-    print_rows(rt, rows)?;
-    println!(rt)
-}
-
-// Every row has the page 77, seven times, so that it is seen which rows are filled (SPECIFICATION 8.2).
-pub fn filler() -> [Row; 8] {
-    let row = Row { page: 77, times: 7 };
-    [row; 8]
-}
-
-// The client's holdings on the first `room` rows of these.
-pub fn print_on_first(rt: &impl Print, state: State, client: u8, room: usize) -> io::Result<()>
-    requires { room ≤ max_held }
+/// Has each of 64 pages requested, as many as the largest pool has slots, by the 16 clients in turn: each keeps four of them.
+pub fn fill<F: FnMut(u8, u32)>(mut request: F)
+    requires { F.IsAlwaysCallable request }
 {
-    let pool = state.pool;
-    print_listed(rt, holdings::on_first(pool, client, filler(), room))
+    for page in 0..64u8 {
+        request(page % 16, u32::from(page));
+    }
 }

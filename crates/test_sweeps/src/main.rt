@@ -6,33 +6,19 @@
 #![tactic(auto)]
 
 use std::io;
-use test_support::{State, print_line, request};
-
-// Each of 64 pages into an empty slot, by stages 1, 4 to 9 and 18; every client keeps four of them.
-fn fill(state: State) -> State {
-    let mut at = state;
-    for page in 0..64u8 {
-        at = request(at, page % 16, page as u32, 8);
-    }
-    at
-}
-
-// Client 0 wants page 64: stages 1, 4, 5, 10, then 11 and 12 at each of 64 slots.
-fn sweeps(state: State, n: usize) -> State {
-    let mut at = state;
-    for _ in 0..n {
-        at = request(at, 0, 64, 132);
-    }
-    at
-}
+use test_support::State;
 
 fn main(rt: HostRuntime) -> io::Result<()> {
     let mut input = [0u8; 4096];
     let n = input::read_full(&mut rt.stdin(), &mut input)?;
-    // S 64, T 16, C 100.
-    let mut state = test_support::set_up(64, 16, 100, 0);
-    state = fill(state);
-    state = sweeps(state, n);
-    let tally = state.tally;
-    print_line(&rt, tally.refused)
+
+    // S 64, T 16, C 100. Each page goes into an empty slot, by stages 1, 4 to 9 and 18.
+    let mut state = State::set_up(64, 16, 100, 0);
+    test_support::fill(|client, page| state.request(client, page, 8));
+
+    // Client 0 wants page 64: stages 1, 4, 5, 10, then 11 and 12 at each of 64 slots.
+    for _ in 0..n {
+        state.request(0, 64, 132);
+    }
+    println!(rt; "{}", state.tally.refused)
 }
