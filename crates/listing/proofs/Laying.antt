@@ -19,15 +19,16 @@ numbers_times (r ∷ rest) (suc i) = rw (twice i) (numbers_times rest i)
 
 -- the first i rows are laid over the lent numbers
 module _ (rows : List Row) (lent : List ℕ) (i : ℕ) {numbers : List ℕ} (so_far : numbers ≡ laid (row_numbers rows) (2 * i) lent) where
-  pub one_more : i < length rows → 2 * i + 1 < length lent
-      → set (set numbers (2 * i) (row rows i).page) (2 * i + 1) (row rows i).times ≡ laid (row_numbers rows) (2 * (i + 1)) lent
-  one_more inside room =
+  pub one_more : {a b : ℕ} → a ≡ 2 * i → b ≡ 2 * i + 1 → i < length rows → b < length lent
+      → set (set numbers a (row rows i).page) b (row rows i).times ≡ laid (row_numbers rows) (2 * (i + 1)) lent
+  one_more {a} {b} first second inside room =
       let long = numbers_long rows in
-      let next : 2 * (i + 1) ≡ 2 * i + 1 + 1 = omega arith in
-      let times : get_or (row_numbers rows) (2 * i + 1) 0 ≡ (row rows i).times = rw (add-one (2 * i)) (numbers_times rows i) in
-      let one : set numbers (2 * i) (row rows i).page ≡ laid (row_numbers rows) (2 * i + 1) lent =
-      rw (so_far, ← numbers_page rows i) (laid_next 0 (row_numbers rows) (2 * i) lent (omega arith) (omega arith)) in
-      rw (one, next, ← times) (laid_next 0 (row_numbers rows) (2 * i + 1) lent (omega arith) room)
+      let next : 2 * (i + 1) ≡ b + 1 = omega arith in
+      let page : get_or (row_numbers rows) a 0 ≡ (row rows i).page = rw first (numbers_page rows i) in
+      let times : get_or (row_numbers rows) b 0 ≡ (row rows i).times = rw (second, add-one (2 * i)) (numbers_times rows i) in
+      let one : set numbers a (row rows i).page ≡ laid (row_numbers rows) b lent =
+      rw (so_far, ← page, ← first, second, ← first) (laid_next 0 (row_numbers rows) a lent (omega arith) (omega arith)) in
+      rw (one, next, ← times) (laid_next 0 (row_numbers rows) b lent (omega arith) room)
 
   pub whole : i ≤ length rows → length rows ≤ i → numbers ≡ row_numbers rows ++ drop (2 * length rows) lent
   whole inside past =

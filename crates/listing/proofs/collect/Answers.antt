@@ -1,4 +1,5 @@
 -- Each early return is one refusal, met where the tests before it passed. Assumes nothing.
+use Rattle.std.proofs.Common.{arith}
 use Rattle.listing.proofs.Ways.{many_clients, no_such_client, many_held, few_rows, enough}
 use Rattle.listing.proofs.collect.Goals as goal
 
@@ -21,7 +22,7 @@ pub returns-then-room-len-clause-found : goal.returns-then-room-len-clause-found
 returns-then-room-len-clause-found c =
     λ p count there grants. (
       few_rows p _ _ (rw count c.if-client_count-gt-MAX_CLIENTS.false) (rw count c.if-client-client_count.false) _ _ there (rw c.from-c.ensures at c.client_at-held.ensures)
-          c.if-held-gt-MAX_HELD.false grants (rw (c.from-c.ensures, c.from.ensures) at c.gather-rows.ensures) (rw c.len.ensures.value at c.if-room-len.true),
+          c.if-held-gt-MAX_HELD.false grants (rw (c.from-c.ensures, c.from.ensures) at c.gather-rows.ensures) (omega (arith, c.len.ensures.value, c.if-room-len.true)),
       tt,
     )
 
@@ -29,4 +30,4 @@ pub returns-clause-found : goal.returns-clause-found
 returns-clause-found c =
     λ p count there grants.
     enough p _ _ (rw count c.if-client_count-gt-MAX_CLIENTS.false) (rw count c.if-client-client_count.false) _ _ there (rw c.from-c.ensures at c.client_at-held.ensures)
-    c.if-held-gt-MAX_HELD.false grants (rw (c.from-c.ensures, c.from.ensures) at c.gather-rows.ensures) (rw c.len.ensures.value at c.if-room-len.false)
+    c.if-held-gt-MAX_HELD.false grants (rw (c.from-c.ensures, c.from.ensures) at c.gather-rows.ensures) (omega (arith, c.len.ensures.value, c.if-room-len.false))
