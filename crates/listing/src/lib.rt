@@ -15,7 +15,8 @@ use client_arrays::{ALL_BYTES, ALL_WORDS};
 use holdings::rows::Rows;
 use pool::{Answer, GRANTS, MAX_CLIENTS, MAX_HELD, Row};
 
-/// The rows, as the first of the lent numbers: the page and the times of each.
+/// The rows, as the first of the lent numbers: the page and the times of each. By index, since a proof learns nothing of what is written through
+/// `chunks_exact_mut`: tried, and it does not close.
 fn lay(numbers: &mut [u32], rows: &[Row])
     requires { 2 * length rows.now ≤ length numbers.old }
     ensures { numbers.new ≡ row_numbers rows.now ++ drop (2 * length rows.now) numbers.old }
