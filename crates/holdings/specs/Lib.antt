@@ -1,2 +1,4 @@
+pub mod Rows
+pub mod ReadRows
 pub mod First
 pub mod Refusals

@@ -2,30 +2,64 @@
 // too (SPECIFICATION 14.6). Nothing is asked of what stands there. Internal: crate `served` has the call by name.
 #![tactic(auto)]
 
-ghost use Rattle.std.specs.Prelude.{◌≡◌, ◌*◌, ◌≤◌, length};
-ghost use Rattle.pool.specs.Limits.{max_held};
+ghost use Rattle.std.specs.Prelude.{◌≡◌, ◌++◌, ◌*◌, ◌≤◌, ℕ, drop, length, IfOk};
 ghost use Rattle.pool.specs.State.{number_of_clients};
+ghost use Rattle.pool.specs.Holdings.{rows_of};
 ghost use Rattle.pool.specs.declared.Pool.{Pool};
-ghost use Rattle.laws.specs.Laid.{laid};
+ghost use Rattle.answers.specs.Numbers.{refused_by};
 ghost use Rattle.client_arrays.specs.Arrays.{clients_from};
-ghost use Rattle.listing.specs.Listed.{row_numbers, held_listing};
+ghost use Rattle.listing.specs.Listed.{row_numbers, listing_refusal, held_listing};
 
+use answers::Refusal;
 use client_arrays::{ALL_BYTES, ALL_WORDS};
-use pool::{Answer, GRANTS, HELD, MAX_CLIENTS, MAX_HELD, Row};
+use holdings::rows::Rows;
+use pool::{Answer, GRANTS, MAX_CLIENTS, MAX_HELD, Row};
 
-// The first n rows, laid over the lent numbers.
-fn lay(numbers: &mut [u32], rows: [Row; HELD], n: usize)
-    requires { (n ≤ max_held) × (n ≤ length rows) × (2 * n ≤ length numbers.old) }
-    ensures { numbers.new ≡ laid (row_numbers rows) (2 * n) numbers.old }
+/// The rows, as the first of the lent numbers: the page and the times of each. By index, since a proof learns nothing of what is written through
+/// `chunks_exact_mut`: tried, and it does not close.
+fn lay(numbers: &mut [u32], rows: &[Row])
+    requires { 2 * length rows.now ≤ length numbers.old }
+    ensures { numbers.new ≡ row_numbers rows.now ++ drop (2 * length rows.now) numbers.old }
 {
-    for i in 0..n {
-        let row = rows[i];
+    for (i, row) in rows.iter().enumerate() {
         numbers[2 * i] = row.page;
-        numbers[2 * i + 1] = row.times as u32;
+        numbers[2 * i + 1] = u32::from(row.times);
     }
 }
 
-// SPECIFICATION 14.6. Where the call is turned down the numbers stay as they were.
+/// The rows of a client, for a list of `room` numbers: SPECIFICATION 14.4, 14.6. The arrays are as C keeps them.
+fn collect<'a>(
+    client: u8,
+    room: usize,
+    client_count: u8,
+    client_bytes: &'a [u8; ALL_BYTES],
+    client_words: &'a [u32; ALL_WORDS],
+    grant_pages: &'a [u32; GRANTS],
+) -> Result<Rows, Refusal>
+    ensures found { (p : Pool) → number_of_clients p ≡ client_count → p.clients ≡ clients_from client_bytes.now client_words.now
+        → p.grant_pages ≡ grant_pages.now
+        → (refused_by result ≡ listing_refusal p client room) × IfOk result (λ rows. rows.items ≡ rows_of p client) }
+    ensures room { IfOk result (λ rows. 2 * length rows.items ≤ room) }
+{
+    if client_count > MAX_CLIENTS {
+        return Err(Refusal::OutOfRange);
+    }
+    if client >= client_count {
+        return Err(Refusal::NoSuchClient);
+    }
+    let c = usize::from(client);
+    let held = client_arrays::client_at(client_bytes, client_words, c).held;
+    if held > MAX_HELD {
+        return Err(Refusal::OutOfRange);
+    }
+    let rows = holdings::rows::gather(grant_pages, c, usize::from(held));
+    if room < 2 * rows.len() {
+        return Err(Refusal::FewRows);
+    }
+    Ok(rows)
+}
+
+/// SPECIFICATION 14.6. Where the call is turned down the numbers stay as they were.
 pub fn holdings<'a>(
     client: u8,
     rows: &mut [u32],
@@ -38,24 +72,18 @@ pub fn holdings<'a>(
         → p.grant_pages ≡ grant_pages.now
         → let h = held_listing p client rows.old in (result ≡ h.answer) × (rows.new ≡ h.numbers) }
 {
-    if client_count > MAX_CLIENTS {
-        return Answer::Refused(8);
+    match collect(
+        client,
+        rows.len(),
+        client_count,
+        client_bytes,
+        client_words,
+        grant_pages,
+    ) {
+        Ok(found) => {
+            lay(rows, &found);
+            Answer::Done(found.len() as u32)
+        }
+        Err(refusal) => refusal.into(),
     }
-    if client >= client_count {
-        return Answer::Refused(9);
-    }
-    let c = client as usize;
-    let caller = client_arrays::client_at(client_bytes, client_words, c);
-    let held = caller.held;
-    if held > MAX_HELD {
-        return Answer::Refused(8);
-    }
-    let gathered = collecting::gather(grant_pages, c, held as usize);
-    let n = gathered.n;
-    if rows.len() < 2 * n {
-        return Answer::Refused(14);
-    }
-    let listed = gathered.rows;
-    lay(rows, listed, n);
-    Answer::Done(n as u32)
 }

@@ -27,7 +27,7 @@ fn play_call(state: &mut State, call: Call) {
 /// The calls after the setup, up to a record that cannot be read.
 fn play_calls(rt: &impl Print, calls: &[u8], mut state: State) -> io::Result<()> {
     for (i, record) in calls.chunks(CALL).enumerate() {
-        let Reading::Asked(call) = records::read(record, false) else {
+        let Reading::Asked(call) = schedule::records::read(record, false) else {
             break;
         };
         play_call(&mut state, call);
@@ -38,7 +38,7 @@ fn play_calls(rt: &impl Print, calls: &[u8], mut state: State) -> io::Result<()>
 }
 
 fn play(rt: &impl Print, schedule: &[u8]) -> io::Result<()> {
-    let Reading::Setup(size, client_count, cap, hand) = records::read(schedule, true) else {
+    let Reading::Setup(size, client_count, cap, hand) = schedule::records::read(schedule, true) else {
         return Ok(());
     };
     let done = storeless::setup(size, client_count, cap, hand);

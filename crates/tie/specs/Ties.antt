@@ -16,7 +16,7 @@ use Rattle.pool.specs.declared.Answer.{Answer}
 use Rattle.pool.specs.declared.Answer.TheVariants.{Done, Refused}
 use Rattle.calls.specs.declared.Stepped.{Stepped}
 use Rattle.step.specs.declared.Answered.{Answered}
-use Rattle.collecting.specs.Rows.{blank}
+use Rattle.holdings.specs.Rows.{blank}
 use Rattle.guarantee.specs.Runs.{Event, events, EndsRequest}
 use Rattle.guarantee.specs.Progress.{Accepting, GetsThrough, StepAnswered}
 use Rattle.guarantee.specs.Claims.{Point3, tally_of, AddsUp, Listing, HeldOnce}
