@@ -22,8 +22,8 @@ module _ (to : List ℕ) (i : ℕ) (from : List ℕ) (j : ℕ) (room : i + page_
   within_is n e = rw e (sym (copied_is page_bytes to i from j room whole))
 
   -- as a part of a list is left by `copy_from_slice`
-  pub part_is : (n m : ℕ) {part : List ℕ} → n ≡ page_bytes → m ≡ page_bytes → part ≡ take m (drop j from) → put_mid i n to part ≡ copied page_bytes to i from j
-  part_is n m e f g =
+  pub part_is : {n m : ℕ} {part : List ℕ} → part ≡ take m (drop j from) → m ≡ page_bytes → n ≡ page_bytes → put_mid i n to part ≡ copied page_bytes to i from j
+  part_is g f e =
       let page = take page_bytes (drop j from) in
       let long : page_bytes ≡ length page = sym (length-take-le page_bytes (drop j from) (omega (arith, length-drop j from))) in
       rw (g, f, e)

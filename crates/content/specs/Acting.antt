@@ -1,20 +1,14 @@
 -- A read or write that is not turned down, as the code puts it together, is the definition's action. Assumes nothing.
-use Rattle.std.specs.Prelude.{◌≡◌, true, List, ℕ, ◌*◌, ◌/◌, ◌≤◌, ◌<◌}
+use Rattle.std.specs.Prelude.{◌≡◌, List, ℕ, ◌<◌}
 use Rattle.std.proofs.Math.Path.{ap}
-use Rattle.std.proofs.Common.{◌∙◌, arith, ltb-true, leb-true}
+use Rattle.std.proofs.Common.{◌∙◌, arith, ltb-true}
 use Rattle.pool.specs.declared.Answer.TheVariants.{Done}
 use Rattle.pool.specs.declared.Counted.TheVariants.{Nothing}
 use Rattle.laws.specs.Choices.{by_test}
-use Rattle.laws.specs.Scans.{both_true}
-use Rattle.memory.specs.Memory.{page_bytes, max_pages, byte, filled_from, written}
-use Rattle.memory.specs.Requests.{ReadByte, WriteByte, State, Result, length_ok, byte_refusal, held_frame, action_on}
+use Rattle.memory.specs.Memory.{page_bytes, byte, filled_from, written}
+use Rattle.memory.specs.Requests.{ReadByte, WriteByte, State, Result, byte_refusal, held_frame, action_on}
 use Rattle.memory.specs.declared.Memory.{Memory}
 use Rattle.content.specs.Filling.{bytes_filled, marks_filled, filled_in_parts, byte_in, byte_in_lem, bytes_written, marks_written, written_in_parts}
-
--- a store that fits has few pages
-pub few_pages : (n : ℕ) → length_ok n ≡ true → n / page_bytes ≤ max_pages
-unfolding length_ok
-few_pages n e = let l = leb-true n (page_bytes * max_pages) (both_true _ _ e).1 in omega (arith, l)
 
 -- a byte that 17 does not turn down is inside its page
 pub low_offset : (n g o : ℕ) → byte_refusal n g o ≡ 0 → o < page_bytes
