@@ -1,9 +1,9 @@
 -- A test of several parts, as `&&` makes it one after the other; and the parts of check 8. Assumes nothing.
-use Rattle.std.proofs.Common.{◌≡◌, ◌≢◌, ◌∙◌, sym, ap, refl, ℕ, ◌+◌, ◌*◌, ◌<◌, ◌≤◌, Bool, true, false, List, get_or, Option, Some, None, unwrap_or, nat_eq, eq-eqb, ne_eqb, le-leb, lt-ltb}
+use Rattle.std.proofs.Common.{◌≡◌, ◌≢◌, ◌∙◌, sym, ap, refl, ℕ, ◌<◌, Bool, true, false, List, get_or, Option, Some, None, unwrap_or, nat_eq, ne_eqb, le-leb, lt-ltb}
 use Rattle.std.specs.Option.{option_eq}
 use lib.Dec.{leb}
 use Rattle.pool.specs.Choose.{choose, both, every}
-use Rattle.pool.specs.State.{none, no_client, number_of_clients, total, within, evicted, slot, pins, count, entry_page, entry_frame, grant_page, grant_frame}
+use Rattle.pool.specs.State.{none, no_client, total, within, evicted, slot, pins, count, entry_page, entry_frame, grant_page, grant_frame}
 use Rattle.pool.specs.Table.{maps, entry_of}
 use Rattle.pool.specs.Grants.{grant_of}
 use Rattle.pool.specs.Valid.{numbers_ok, frame_ok, state_ok, counts_ok, names_ok, client_ok, valid}

@@ -1,13 +1,12 @@
 -- The parts of check 8 of the bytes. Assumes nothing.
 use Rattle.std.proofs.Common.{◌≡◌, ◌≢◌, ◌∙◌, sym, ap, refl, ℕ, ◌<◌, ◌≤◌, Bool, true, false, not, ◌&&◌, List, get_or, nat_eq, eq-eqb, ne_eqb, le-leb, arith}
 use Rattle.std.proofs.Math.Decide.{ℕ_discrete}
-use Rattle.pool.specs.Limits.{max_frames, max_held}
+use Rattle.pool.specs.Limits.{max_frames}
 use Rattle.pool.specs.Choose.{choose, both, either, every}
-use Rattle.pool.specs.State.{no_client, number_of_clients, total, page, entry_page, entry_frame, client, grant_page, of_client}
+use Rattle.pool.specs.State.{no_client, number_of_clients, total, page, entry_page, client, grant_page, of_client}
 use Rattle.pool.specs.Valid.{valid}
 use Rattle.pool.specs.declared.Client.{Client}
 use Rattle.pool.specs.declared.Pool.{Pool}
-use Rattle.laws.specs.Choices.{chosen}
 use Rattle.laws.specs.Elements.{client_of_pool}
 use Rattle.laws.specs.Scans.{both_yes, every_yes}
 use Rattle.ranges.specs.Ranges.{ranged}

@@ -62,7 +62,7 @@ pub fn outside<T: Copy>(turned: Result<T, Refusal>) -> Refusal
     }
 }
 
-/// Whether each page is inside. No `all`: a loop that leaves at the first that fails is ten times slower.
+/// Whether each page is inside. No `all`, which is slower here.
 fn each_inside(pages: &[u32], store: u16) -> bool
     ensures { result ≡ fold (λ ok g. ok && inside store g) true pages.now }
 {
@@ -144,6 +144,7 @@ fn clients_inside(books: &Books, clients: &[Client; CLIENTS], store: u16) -> boo
     requires { FewGrants books.now.numbers.client_count clients.now }
     ensures { result ≡ every (client_inside (pool_in books.now clients.now) store) books.now.numbers.client_count }
 {
+    // By number, which is no plainer otherwise: it says where the client's grants are.
     for c in 0..books.numbers.client_count as usize {
         if !client_inside(books, clients, c, store) {
             return false;

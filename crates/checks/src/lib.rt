@@ -1,7 +1,8 @@
 // Check 8 of a pool: SPECIFICATION, section 5, and 13.11 where it has bytes. Internal.
 //
-// The cheap tests come first. The loops over slots, frames and the table's pages go on to the end, since a loop without a way out is turned into vector
-// instructions.
+// The tests of one number or one client are in module `single`, those that compare pages in `repeats`; `whole` puts them together, and `bytes` adds what
+// is asked of a pool that has bytes. The cheap tests come first. The tests of all slots, frames and table places go on to the end by `fold`, since a loop
+// without a way out is turned into vector instructions: `all`, which leaves at the first that fails, took ten times as long.
 #![tactic(auto)]
 
 pub mod bytes;

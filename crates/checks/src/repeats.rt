@@ -41,6 +41,7 @@ pub fn entries_ok(books: &Books) -> bool
         (books.now.numbers.size + 2 * books.now.numbers.client_count) }
 {
     let mut marks = [false; 1021];
+    // By number, which is no plainer otherwise: what a search finds is compared with it.
     for i in 0..books.numbers.total() {
         let met = met(&mut marks, books.table_pages[i as usize]);
         if !entry_ok(books, i, met) {
@@ -73,6 +74,7 @@ pub fn grants_ok(books: &Books, c: usize, held: u8) -> bool
         (books.now.numbers.size + 2 * books.now.numbers.client_count) }
 {
     let mut marks = [false; 64];
+    // By number, as for the table.
     for i in 0..held {
         let met = met(&mut marks, books.grant_pages[HELD * c + i as usize]);
         if !grant_ok(books, c, held, i, met) {

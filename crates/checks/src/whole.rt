@@ -15,7 +15,7 @@ use answers::Refusal;
 use books::{Books, Checked, Numbers};
 use pool::{CLIENTS, Client, FRAMES, Pool, SLOTS};
 
-/// Whether each is no frame, or one of the pool's n. No `all`: a loop that leaves at the first that fails is ten times slower.
+/// Whether each is no frame, or one of the pool's n. No `all`, which is slower here.
 fn frames_ok(frames: &[u8], n: u8) -> bool
     ensures { result ≡ fold (λ ok f. ok && frame_ok n f) true frames.now }
 {
@@ -64,6 +64,7 @@ fn client_ok(books: &Books, clients: &[Client; CLIENTS], c: usize) -> bool
 fn clients_ok(books: &Books, clients: &[Client; CLIENTS]) -> bool
     ensures { result ≡ every (client_ok (pool_in books.now clients.now)) books.now.numbers.client_count }
 {
+    // By number, which is no plainer otherwise: it says where the client's grants are.
     for c in 0..books.numbers.client_count as usize {
         if !client_ok(books, clients, c) {
             return false;

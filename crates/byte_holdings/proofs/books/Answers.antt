@@ -1,6 +1,6 @@
 -- Holdings of a pool that passes check 8, its own and that of the bytes, are those of the pool within. One that does not is turned down by 8 and leaves
 -- the list. Assumes nothing.
-use Rattle.std.proofs.Common.{◌≡◌, Bool, true, false, List, ℕ, refl, sym, ◌∙◌, true≢false}
+use Rattle.std.proofs.Common.{◌≡◌, Bool, true, false, List, ℕ, refl, sym, true≢false}
 use Rattle.pool.specs.Choose.{choose, both}
 use Rattle.pool.specs.Holdings.{holdings_refusal, listed, holdings_of}
 use Rattle.pool.specs.Valid.{valid}
