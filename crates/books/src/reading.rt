@@ -27,7 +27,7 @@ pub struct Books<'a> {
     pub grant_frames: &'a [u8; GRANTS],
 }
 
-/// A frame or a place as the arrays have it, where NONE says that there is none.
+/// A frame or a place as the arrays have it, where NONE says that there is none: so a C program's memory has it, and the public calls take any pool.
 pub fn some(number: u8) -> Option<u8>
     ensures value { result ≡ some_number number }
     ensures back { unwrap_or result none ≡ number }
