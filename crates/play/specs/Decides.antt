@@ -1,5 +1,5 @@
 -- What the code of a call's turn answers: the move, where nothing turns the call down, and else why it is turned down. Assumes nothing.
-use Rattle.std.specs.Prelude.{◌≡◌, ℕ, ◌<◌, Option, Result, Ok, Err, MatchResult, unwrap_or}
+use Rattle.std.specs.Prelude.{◌≡◌, ℕ, ◌<◌, Result, Ok, Err, MatchResult, unwrap_or}
 use Rattle.std.proofs.Common.{◌∙◌, ap, lt-ltb}
 use Rattle.pool.specs.State.{none, number_of_clients, client}
 use Rattle.pool.specs.Frames.{free_frame}
@@ -9,6 +9,7 @@ use Rattle.pool.specs.declared.Call.{Call}
 use Rattle.pool.specs.declared.Client.{Client}
 use Rattle.pool.specs.declared.Move.{Move}
 use Rattle.laws.specs.Choices.{chosen}
+use Rattle.actions.specs.declared.actor.Actor.{Actor}
 use Rattle.answers.specs.declared.refusal.Refusal.{Refusal}
 use Rattle.answers.specs.Numbers.{refusal_number}
 
@@ -24,10 +25,10 @@ Decides p call r = MatchResult r (λ m. (turned_by p call ≡ 0) × (m ≡ move_
 abbrev pub IsClient : Pool → ℕ → Client → Type 0
 IsClient p c k = client p c ≡ k
 
--- what is told of pool p for a call: the record of the client that calls, and the frame to take where it stands at stage 4
-pub record Lends (p : Pool) (call : Call) (k : Client) (taken : Option ℕ) : Type 0 where
-  pub client : IsClient p (caller call) k
-  pub fresh : k.stage ≡ 4 → unwrap_or taken none ≡ free_frame p
+-- what an actor says is true of client c of pool p
+pub record Acts (p : Pool) (c : ℕ) (a : Actor) : Type 0 where
+  pub client : IsClient p c a.client
+  pub fresh : a.client.stage ≡ 4 → unwrap_or a.fresh none ≡ free_frame p
 
 not_by_9 : (p : Pool) (call : Call) (k : Client) → caller call < number_of_clients p → IsClient p (caller call) k → turned_by p call ≡ refusal_at p k call
 not_by_9 p call k h e = chosen _ _ _ (lt-ltb _ _ h) ∙ ap (λ k. refusal_at p k call) e

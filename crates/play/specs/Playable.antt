@@ -11,7 +11,7 @@ use Rattle.ranges.specs.Ranges.{Ranged, ranged, pins_low}
 use Rattle.books.specs.declared.reading.Books.{Books}
 use Rattle.books.specs.Books.{pool_in}
 use Rattle.books.specs.Named.{FewGrants}
-use Rattle.actions.specs.Ready.{Ready}
+use Rattle.actions.specs.Low.{LowPins}
 
 -- the client as it is read where its record stands
 abbrev pub record_at : Pool → ℕ → Client
@@ -19,6 +19,12 @@ record_at p c = get_or p.clients c no_client
 
 pub some_client : (p : Pool) → valid p ≡ true → 0 < number_of_clients p
 some_client p v = (ranged p v).numbers.some_client
+
+-- what a client that acts has
+pub record CanAct (b : Books) (k : Client) : Type 0 where
+  pub busy : k.busy < b.numbers.size
+  pub held : k.held ≤ max_held
+  pub pins : LowPins b k.found
 
 -- of a pool with these books
 module _ (b : Books) (clients : List Client) (v : valid (pool_in b clients) ≡ true) where
@@ -28,15 +34,13 @@ module _ (b : Books) (clients : List Client) (v : valid (pool_in b clients) ≡ 
   in_range : Ranged its_pool
   in_range = ranged its_pool v
 
-  pub few_grants : FewGrants b.numbers.client_count clients
-  few_grants c h =
-      let P : Client → Type 0 = λ k. k.held ≤ max_held in
-      subst P (client_of_pool its_pool c h) (in_range.client c h).counts.held
-
-  pub ready : (c : ℕ) → c < b.numbers.client_count → Ready b (record_at its_pool c)
+  pub can_act : (c : ℕ) → c < b.numbers.client_count → CanAct b (record_at its_pool c)
   unfolding pins
-  ready c h =
-      let P : Client → Type 0 = λ k. Ready b k in
+  can_act c h =
       let counts = (in_range.client c h).counts in
+      let P : Client → Type 0 = λ k. CanAct b k in
       subst P (client_of_pool its_pool c h)
       (record { busy = counts.busy; held = counts.held; pins = λ _. pins_low its_pool in_range (client its_pool c).found })
+
+  pub few_grants : FewGrants b.numbers.client_count clients
+  few_grants c h = (can_act c h).held

@@ -13,54 +13,55 @@ ghost use Rattle.pool.specs.declared.Call.TheVariants.{Begin, Step, Release};
 ghost use Rattle.books.specs.Books.{pool_in};
 ghost use Rattle.books.specs.Named.{FewGrants};
 ghost use Rattle.books.specs.Optional.{IsNumber};
-ghost use Rattle.actions.specs.Ready.{Ready};
-ghost use Rattle.play.specs.Decides.{Answers, Decides, IsClient, Lends};
+ghost use Rattle.play.specs.Decides.{Answers, Acts, Decides, IsClient};
 
-use actions::{dispatch, moves};
+use actions::{Actor, moves};
 use answers::{Refusal, Stage};
 use books::{Books, BooksMut, Checked, Numbers};
 use pool::{CLIENTS, Call, Client, MAX_HELD, Move, Pool};
 
 /// SPECIFICATION 3.2.
 #[tactic(auto, unfolding(pool::specs::Calls::caller, pool::specs::Calls::refusal_at, pool::specs::Calls::move_of, pool::specs::Choose::choose))]
-fn begin(books: &Books, client: Client, c: u8, page: u32) -> Result<Move, Refusal>
-    requires ready { Ready books.now client }
-    requires number { c < books.now.numbers.client_count }
-    ensures { (clients : List Client) → IsClient (pool_in books.now clients) c client → Answers (pool_in books.now clients) (Begin c page) client result }
+fn begin(actor: &Actor, c: u8, page: u32) -> Result<Move, Refusal>
+    requires { c < actor.now.books.numbers.client_count }
+    ensures { (clients : List Client) → IsClient (pool_in actor.now.books clients) c actor.now.client →
+        Answers (pool_in actor.now.books clients) (Begin c page) actor.now.client result }
 {
+    let client = actor.client;
     if client.stage != 0 {
         return Err(Refusal::AtWork);
     }
     if client.held >= MAX_HELD {
         return Err(Refusal::HasEight);
     }
-    match books.grant_of(c as usize, client.held, page) {
+    match actor.books.grant_of(c as usize, client.held, page) {
         Some(_) => Err(Refusal::HeldAlready),
         None => Ok(moves::begin_move(client, page)),
     }
 }
 
-/// SPECIFICATION 3.3. `fresh` is the frame to take, which stage 4 alone looks at.
+/// SPECIFICATION 3.3.
 #[tactic(auto, unfolding(pool::specs::Calls::caller, pool::specs::Calls::refusal_at, pool::specs::Calls::move_of, pool::specs::Choose::choose))]
-fn step(books: &Books, client: Client, c: u8, fresh: Option<u8>) -> Result<Move, Refusal>
-    requires ready { Ready books.now client }
-    requires number { c < books.now.numbers.client_count }
-    requires fresh { IsNumber fresh }
-    ensures { (clients : List Client) → Lends (pool_in books.now clients) (Step c) client fresh → Answers (pool_in books.now clients) (Step c) client result }
+fn step(actor: &Actor, c: u8) -> Result<Move, Refusal>
+    requires { c < actor.now.books.numbers.client_count }
+    ensures { (clients : List Client) → Acts (pool_in actor.now.books clients) c actor.now →
+        Answers (pool_in actor.now.books clients) (Step c) actor.now.client result }
 {
-    if client.stage == 0 {
+    if actor.client.stage == 0 {
         return Err(Refusal::AtRest);
     }
-    Ok(dispatch::stage_move(books, client, fresh))
+    Ok(actor.stage_move())
 }
 
 /// SPECIFICATION 3.4.
 #[tactic(auto, unfolding(pool::specs::Calls::caller, pool::specs::Calls::refusal_at, pool::specs::Calls::move_of, pool::specs::Choose::choose))]
-fn release(books: &Books, client: Client, c: u8, page: u32) -> Result<Move, Refusal>
-    requires ready { Ready books.now client }
-    requires number { c < books.now.numbers.client_count }
-    ensures { (clients : List Client) → IsClient (pool_in books.now clients) c client → Answers (pool_in books.now clients) (Release c page) client result }
+fn release(actor: &Actor, c: u8, page: u32) -> Result<Move, Refusal>
+    requires { c < actor.now.books.numbers.client_count }
+    ensures { (clients : List Client) → IsClient (pool_in actor.now.books clients) c actor.now.client →
+        Answers (pool_in actor.now.books clients) (Release c page) actor.now.client result }
 {
+    let client = actor.client;
+    let books = &actor.books;
     if client.stage != 0 {
         return Err(Refusal::AtWork);
     }
@@ -71,18 +72,17 @@ fn release(books: &Books, client: Client, c: u8, page: u32) -> Result<Move, Refu
     Ok(moves::release_move(client, page, i, f, books.pins(f)))
 }
 
-/// The turn of a call of a client that there is: SPECIFICATION 3.7 without 8 and 9. Of the clients it is handed the record of the one that acts.
+/// The turn of a call of a client that there is, the actor: SPECIFICATION 3.7 without 8 and 9.
 #[tactic(auto, unfolding(pool::specs::Calls::caller))]
-pub fn decide(books: &Books, call: Call, client: Client, fresh: Option<u8>) -> Result<Move, Refusal>
-    requires ready { Ready books.now client }
-    requires number { caller call < books.now.numbers.client_count }
-    requires fresh { IsNumber fresh }
-    ensures { (clients : List Client) → Lends (pool_in books.now clients) call client fresh → Answers (pool_in books.now clients) call client result }
+pub fn decide(actor: &Actor, call: Call) -> Result<Move, Refusal>
+    requires { caller call < actor.now.books.numbers.client_count }
+    ensures { (clients : List Client) → Acts (pool_in actor.now.books clients) (caller call) actor.now →
+        Answers (pool_in actor.now.books clients) call actor.now.client result }
 {
     match call {
-        Call::Begin(c, page) => begin(books, client, c, page),
-        Call::Step(c) => step(books, client, c, fresh),
-        Call::Release(c, page) => release(books, client, c, page),
+        Call::Begin(c, page) => begin(actor, c, page),
+        Call::Step(c) => step(actor, c),
+        Call::Release(c, page) => release(actor, c, page),
     }
 }
 
@@ -110,8 +110,12 @@ pub fn turn(pool: &Checked, call: Call) -> Result<Move, Refusal>
     let clients = &pool.pool.clients;
     let client = clients[caller as usize];
     let books = pool.books();
-    let fresh = fresh_frame(&books, clients, client);
-    decide(&books, call, client, fresh)
+    let actor = Actor {
+        books,
+        client,
+        fresh: fresh_frame(&books, clients, client),
+    };
+    decide(&actor, call)
 }
 
 /// A move of client c, put into an owned pool: SPECIFICATION 1.9.

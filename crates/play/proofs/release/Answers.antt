@@ -10,17 +10,17 @@ pub returns-in_default : goal.returns-in_default
 unfolding choose caller
 returns-in_default c =
     λ clients e.
-    released (pool_in c.args.books.now clients) c.args.client c.args.c c.args.page e c.if-client-ne0.false none c.in_default.ensures.first
+    released (pool_in c.args.actor.now.books clients) c.args.actor.now.client c.args.c c.args.page e c.if-client-ne0.false none c.in_default.ensures.first
 
 pub returns : goal.returns
 unfolding choose caller
 returns c =
     λ clients e.
-    let p = pool_in c.args.books.now clients in
+    let p = pool_in c.args.actor.now.books clients in
     let i = c.in-Some.i in (
-      released p c.args.client c.args.c c.args.page e c.if-client-ne0.false i c.in-Some.ensures.first
+      released p c.args.actor.now.client c.args.c c.args.page e c.if-client-ne0.false i c.in-Some.ensures.first
           ∙ ap (λ b. choose b 13 0) (ne_eqb i none (omega (arith, c.in-Some.ensures.bound))),
       c.release_move.ensures
-          ∙ release_is p c.args.client c.args.c c.args.page e i c.grant_frame-f.result c.pins.result c.in-Some.ensures.first c.grant_frame-f.ensures
+          ∙ release_is p c.args.actor.now.client c.args.c c.args.page e i c.grant_frame-f.result c.pins.result c.in-Some.ensures.first c.grant_frame-f.ensures
           (c.pins.ensures clients),
     )

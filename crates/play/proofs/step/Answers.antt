@@ -9,7 +9,7 @@ pub returns : goal.returns
 unfolding move_of caller
 returns c =
     λ clients l.
-    let p = pool_in c.args.books.now clients in (
-      stepped p c.args.client c.args.c 0 l.client c.if-client-eq0.false,
+    let p = pool_in c.args.actor.now.books clients in (
+      stepped p c.args.actor.now.client c.args.c 0 l.client c.if-actor-eq0.false,
       c.stage_move.ensures clients l.fresh ∙ ap (stage_move p) (sym l.client),
     )

@@ -8,26 +8,33 @@ use Rattle.laws.specs.Elements.{client_of_pool}
 use Rattle.books.specs.declared.numbers.Numbers.{Numbers}
 use Rattle.books.specs.Books.{pool_in}
 use Rattle.play.specs.Decides.{Decides, IsClient, decided}
-use Rattle.play.specs.Playable.{few_grants, ready, record_at}
+use Rattle.play.specs.Playable.{CanAct, can_act, few_grants, record_at}
 use Rattle.play.proofs.turn.Goals as goal
 
 pub returns-then-caller-pool : goal.returns-then-caller-pool
 returns-then-caller-pool c = passed _ _ _ (le-ltb _ _ (omega arith))
 
-pub fresh_frame-fresh-requires : goal.fresh_frame-fresh-requires
-fresh_frame-fresh-requires c =
+pub fresh_frame-requires : goal.fresh_frame-requires
+fresh_frame-requires c =
     let p = c.args.pool.now.pool.now in
-    let v : valid (pool_in c.books-books.result p.clients) ≡ true = ap valid c.books-books.ensures.pool ∙ c.args.pool.now.valid in
-    few_grants c.books-books.result p.clients v
+    few_grants c.books-books.result p.clients (ap valid c.books-books.ensures.pool ∙ c.args.pool.now.valid)
 
-pub decide-requires-clause-ready : goal.decide-requires-clause-ready
-decide-requires-clause-ready c =
+can : (c : goal.After-fresh_frame) → CanAct c.books-books.result (record_at c.args.pool.now.pool.now c.caller-caller.result)
+can c =
     let p = c.args.pool.now.pool.now in
     let b = c.books-books.result in
     let v : valid (pool_in b p.clients) ≡ true = ap valid c.books-books.ensures.pool ∙ c.args.pool.now.valid in
     let count : b.numbers.client_count ≡ c.args.pool.now.numbers.client_count = ap (λ (n : Numbers). n.client_count) c.books-books.ensures.numbers in
-    let h : c.caller-caller.result < b.numbers.client_count = omega (arith, count) in
-    ready b p.clients v c.caller-caller.result h
+    can_act b p.clients v c.caller-caller.result (omega (arith, count))
+
+pub invariant_of-actor-clause-busy : goal.invariant_of-actor-clause-busy
+invariant_of-actor-clause-busy c = (can c).busy
+
+pub invariant_of-actor-clause-held : goal.invariant_of-actor-clause-held
+invariant_of-actor-clause-held c = (can c).held
+
+pub invariant_of-actor-clause-pins : goal.invariant_of-actor-clause-pins
+invariant_of-actor-clause-pins c = (can c).pins
 
 pub returns : goal.returns
 returns c =
@@ -41,4 +48,4 @@ returns c =
     let its : IsClient q (caller call) k = client_of_pool q (caller call) h ∙ ap (record_at q) (sym c.caller-caller.ensures) in
     let P : Pool → Type 0 = λ q. Decides q call c.decide.result in
     subst P c.books-books.ensures.pool
-    (decided q call k c.decide.result h its (c.decide.ensures p.clients (record { client = its; fresh = c.fresh_frame-fresh.ensures.frame })))
+    (decided q call k c.decide.result h its (c.decide.ensures p.clients (record { client = its; fresh = c.fresh_frame.ensures.frame })))
