@@ -25,9 +25,9 @@ Decides p call r = MatchResult r (λ m. (turned_by p call ≡ 0) × (m ≡ move_
 abbrev pub IsClient : Pool → ℕ → Client → Type 0
 IsClient p c k = client p c ≡ k
 
--- what an actor says is true of client c of pool p
-pub record Acts (p : Pool) (c : ℕ) (a : Actor) : Type 0 where
-  pub client : IsClient p c a.client
+-- what an actor says is true of pool p
+pub record Acts (p : Pool) (a : Actor) : Type 0 where
+  pub client : IsClient p a.number a.client
   pub fresh : a.client.stage ≡ 4 → unwrap_or a.fresh none ≡ free_frame p
 
 not_by_9 : (p : Pool) (call : Call) (k : Client) → caller call < number_of_clients p → IsClient p (caller call) k → turned_by p call ≡ refusal_at p k call

@@ -13,7 +13,7 @@ ghost use Rattle.pool.specs.declared.Call.TheVariants.{Begin, Step, Release};
 ghost use Rattle.books.specs.Books.{pool_in};
 ghost use Rattle.books.specs.Named.{FewGrants};
 ghost use Rattle.books.specs.Optional.{IsNumber};
-ghost use Rattle.play.specs.Decides.{Answers, Acts, Decides, IsClient};
+ghost use Rattle.play.specs.Decides.{Answers, Acts, Decides};
 
 use actions::{Actor, moves};
 use answers::{Refusal, Stage};
@@ -22,10 +22,9 @@ use pool::{CLIENTS, Call, Client, MAX_HELD, Move, Pool};
 
 /// SPECIFICATION 3.2.
 #[tactic(auto, unfolding(pool::specs::Calls::caller, pool::specs::Calls::refusal_at, pool::specs::Calls::move_of, pool::specs::Choose::choose))]
-fn begin(actor: &Actor, c: u8, page: u32) -> Result<Move, Refusal>
-    requires { c < actor.now.books.numbers.client_count }
-    ensures { (clients : List Client) → IsClient (pool_in actor.now.books clients) c actor.now.client →
-        Answers (pool_in actor.now.books clients) (Begin c page) actor.now.client result }
+fn begin(actor: &Actor, page: u32) -> Result<Move, Refusal>
+    ensures { (clients : List Client) → Acts (pool_in actor.now.books clients) actor.now →
+        Answers (pool_in actor.now.books clients) (Begin actor.now.number page) actor.now.client result }
 {
     let client = actor.client;
     if client.stage != 0 {
@@ -34,7 +33,8 @@ fn begin(actor: &Actor, c: u8, page: u32) -> Result<Move, Refusal>
     if client.held >= MAX_HELD {
         return Err(Refusal::HasEight);
     }
-    match actor.books.grant_of(c as usize, client.held, page) {
+    let c = actor.number as usize;
+    match actor.books.grant_of(c, client.held, page) {
         Some(_) => Err(Refusal::HeldAlready),
         None => Ok(moves::begin_move(client, page)),
     }
@@ -42,10 +42,9 @@ fn begin(actor: &Actor, c: u8, page: u32) -> Result<Move, Refusal>
 
 /// SPECIFICATION 3.3.
 #[tactic(auto, unfolding(pool::specs::Calls::caller, pool::specs::Calls::refusal_at, pool::specs::Calls::move_of, pool::specs::Choose::choose))]
-fn step(actor: &Actor, c: u8) -> Result<Move, Refusal>
-    requires { c < actor.now.books.numbers.client_count }
-    ensures { (clients : List Client) → Acts (pool_in actor.now.books clients) c actor.now →
-        Answers (pool_in actor.now.books clients) (Step c) actor.now.client result }
+fn step(actor: &Actor) -> Result<Move, Refusal>
+    ensures { (clients : List Client) → Acts (pool_in actor.now.books clients) actor.now →
+        Answers (pool_in actor.now.books clients) (Step actor.now.number) actor.now.client result }
 {
     if actor.client.stage == 0 {
         return Err(Refusal::AtRest);
@@ -55,34 +54,34 @@ fn step(actor: &Actor, c: u8) -> Result<Move, Refusal>
 
 /// SPECIFICATION 3.4.
 #[tactic(auto, unfolding(pool::specs::Calls::caller, pool::specs::Calls::refusal_at, pool::specs::Calls::move_of, pool::specs::Choose::choose))]
-fn release(actor: &Actor, c: u8, page: u32) -> Result<Move, Refusal>
-    requires { c < actor.now.books.numbers.client_count }
-    ensures { (clients : List Client) → IsClient (pool_in actor.now.books clients) c actor.now.client →
-        Answers (pool_in actor.now.books clients) (Release c page) actor.now.client result }
+fn release(actor: &Actor, page: u32) -> Result<Move, Refusal>
+    ensures { (clients : List Client) → Acts (pool_in actor.now.books clients) actor.now →
+        Answers (pool_in actor.now.books clients) (Release actor.now.number page) actor.now.client result }
 {
-    let client = actor.client;
     let books = &actor.books;
+    let c = actor.number as usize;
+    let client = actor.client;
     if client.stage != 0 {
         return Err(Refusal::AtWork);
     }
-    let Some(i) = books.grant_of(c as usize, client.held, page) else {
+    let Some(i) = books.grant_of(c, client.held, page) else {
         return Err(Refusal::NotHeld);
     };
-    let f = books.grant_frame(c as usize, client.held, i);
+    let f = books.grant_frame(c, client.held, i);
     Ok(moves::release_move(client, page, i, f, books.pins(f)))
 }
 
-/// The turn of a call of a client that there is, the actor: SPECIFICATION 3.7 without 8 and 9.
+/// The turn of a call of the actor, a client that there is: SPECIFICATION 3.7 without 8 and 9.
 #[tactic(auto, unfolding(pool::specs::Calls::caller))]
 pub fn decide(actor: &Actor, call: Call) -> Result<Move, Refusal>
-    requires { caller call < actor.now.books.numbers.client_count }
-    ensures { (clients : List Client) → Acts (pool_in actor.now.books clients) (caller call) actor.now →
+    requires { caller call ≡ actor.now.number }
+    ensures { (clients : List Client) → Acts (pool_in actor.now.books clients) actor.now →
         Answers (pool_in actor.now.books clients) call actor.now.client result }
 {
     match call {
-        Call::Begin(c, page) => begin(actor, c, page),
-        Call::Step(c) => step(actor, c),
-        Call::Release(c, page) => release(actor, c, page),
+        Call::Begin(_, page) => begin(actor, page),
+        Call::Step(_) => step(actor),
+        Call::Release(_, page) => release(actor, page),
     }
 }
 
@@ -103,15 +102,16 @@ pub fn fresh_frame(books: &Books, clients: &[Client; CLIENTS], client: Client) -
 pub fn turn(pool: &Checked, call: Call) -> Result<Move, Refusal>
     ensures { Decides pool.now.pool.now call result }
 {
-    let caller = answers::caller(call);
-    if caller >= pool.numbers.client_count {
+    let number = answers::caller(call);
+    if number >= pool.numbers.client_count {
         return Err(Refusal::NoSuchClient);
     }
     let clients = &pool.pool.clients;
-    let client = clients[caller as usize];
+    let client = clients[number as usize];
     let books = pool.books();
     let actor = Actor {
         books,
+        number,
         client,
         fresh: fresh_frame(&books, clients, client),
     };

@@ -9,15 +9,15 @@ use Rattle.play.proofs.begin.Goals as goal
 pub returns-in-Some : goal.returns-in-Some
 unfolding choose caller
 returns-in-Some c =
-    λ clients e.
+    λ clients a.
     let i = c.in-Some.field-0 in
-    begun (pool_in c.args.actor.now.books clients) c.args.actor.now.client c.args.c c.args.page e c.if-client-ne0.false (omega arith) i c.in-Some.ensures.first
+    begun (pool_in c.args.actor.now.books clients) c.args.actor.now.client c.args.actor.now.number c.args.page a.client c.if-client-ne0.false (omega arith) i c.in-Some.ensures.first
     ∙ ap (λ b. choose b 0 18) (ne_eqb i none (omega (arith, c.in-Some.ensures.bound)))
 
 pub returns-in-None : goal.returns-in-None
 unfolding choose move_of caller
 returns-in-None c =
-    λ clients e. (
-      begun (pool_in c.args.actor.now.books clients) c.args.actor.now.client c.args.c c.args.page e c.if-client-ne0.false (omega arith) none c.in-None.ensures.first,
-      rw e c.begin_move.ensures,
+    λ clients a. (
+      begun (pool_in c.args.actor.now.books clients) c.args.actor.now.client c.args.actor.now.number c.args.page a.client c.if-client-ne0.false (omega arith) none c.in-None.ensures.first,
+      rw a.client c.begin_move.ensures,
     )

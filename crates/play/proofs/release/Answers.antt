@@ -9,18 +9,18 @@ use Rattle.play.proofs.release.Goals as goal
 pub returns-in_default : goal.returns-in_default
 unfolding choose caller
 returns-in_default c =
-    λ clients e.
-    released (pool_in c.args.actor.now.books clients) c.args.actor.now.client c.args.c c.args.page e c.if-client-ne0.false none c.in_default.ensures.first
+    λ clients a.
+    released (pool_in c.args.actor.now.books clients) c.args.actor.now.client c.args.actor.now.number c.args.page a.client c.if-client-ne0.false none c.in_default.ensures.first
 
 pub returns : goal.returns
 unfolding choose caller
 returns c =
-    λ clients e.
+    λ clients a.
     let p = pool_in c.args.actor.now.books clients in
     let i = c.in-Some.i in (
-      released p c.args.actor.now.client c.args.c c.args.page e c.if-client-ne0.false i c.in-Some.ensures.first
+      released p c.args.actor.now.client c.args.actor.now.number c.args.page a.client c.if-client-ne0.false i c.in-Some.ensures.first
           ∙ ap (λ b. choose b 13 0) (ne_eqb i none (omega (arith, c.in-Some.ensures.bound))),
       c.release_move.ensures
-          ∙ release_is p c.args.actor.now.client c.args.c c.args.page e i c.grant_frame-f.result c.pins.result c.in-Some.ensures.first c.grant_frame-f.ensures
+          ∙ release_is p c.args.actor.now.client c.args.actor.now.number c.args.page a.client i c.grant_frame-f.result c.pins.result c.in-Some.ensures.first c.grant_frame-f.ensures
           (c.pins.ensures clients),
     )

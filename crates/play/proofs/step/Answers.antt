@@ -10,6 +10,6 @@ unfolding move_of caller
 returns c =
     λ clients l.
     let p = pool_in c.args.actor.now.books clients in (
-      stepped p c.args.actor.now.client c.args.c 0 l.client c.if-actor-eq0.false,
+      stepped p c.args.actor.now.client c.args.actor.now.number 0 l.client c.if-actor-eq0.false,
       c.stage_move.ensures clients l.fresh ∙ ap (stage_move p) (sym l.client),
     )
