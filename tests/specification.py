@@ -38,12 +38,11 @@ SERVER = TOP / "docs" / "SERVER.md"
 README = TOP / "README.md"
 TYPES = [TOP / "crates" / name / "src" / "lib.rt"
          for name in ("pool", "memory")]
-STAGE_CODE = TOP / "crates" / "stages" / "src" / "lib.rt"
-STAGE_PROOFS = TOP / "crates" / "stages" / "proofs"
+STAGE_CODE = TOP / "crates" / "actions" / "src" / "stages.rt"
 SPECS = [TOP / "crates" / name / "specs"
          for name in ("pool", "guarantee", "memory", "contents", "mixed",
                       "client_arrays", "counting", "in_place", "listing",
-                      "whole_check", "served", "held_claims", "served_tie")]
+                      "checks", "served", "held_claims", "served_tie")]
 SUFFIXES = (".antt", ".edit", ".md", ".py", ".rs", ".rt", ".txt", "")
 STAGES, REFUSALS, CASES = 4, 6, 12  # sections whose rows are numbered or named
 
@@ -335,9 +334,10 @@ def stages():
         above = comment_above(*place_of("Stages.stage" + number))
         need(above.startswith("stage %s: %s" % (number, name)),
              "the comment above stage%s does not begin with its name" % number)
-        need("fn stage%s(" % number in code, "no code of stage %s" % number)
-        need((STAGE_PROOFS / ("stage" + number)).is_dir(),
-             "no proof of stage %s" % number)
+        need(re.search(r"^pub fn stage%s\((?:(?!^\{$).)*"
+                       r"ensures \{ result ≡ stage%s " % (number, number),
+                       code, re.M | re.S),
+             "no function stage%s that promises its definition" % number)
         then = re.sub(r"(pins|count|above) -?\d+", "", then)
         leads = {int(one) for one in re.findall(r"\d+", then)}
         leads |= {generate.GRANT} if "granted" in then else set()
@@ -347,7 +347,8 @@ def stages():
     for _, _, phase in words.PHASES:
         need(phase.capitalize() + ":" in SECTIONS[STAGES],
              "no table of the phase %s" % phase)
-    return "%d stages: names, where they lead, code and proofs" % len(found)
+    return ("%d stages: names, where they lead, and what their code promises"
+            % len(found))
 
 
 def refusals():
