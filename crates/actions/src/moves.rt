@@ -142,10 +142,8 @@ fn refused_15(client: Client) -> Move
 {
     Move {
         next: resting(client.held),
-        grants: GrantChange::Same,
-        write: Write::Keep,
-        answer: Refusal::AllBusy.into(),
         counted: Counted::Refusal,
+        ..still(client, Refusal::AllBusy)
     }
 }
 

@@ -42,9 +42,10 @@ fn first_count(cap: u8, page: u32) -> u8
     ensures { result ≡ first_count cap page }
 {
     if page < INDEX_PAGES {
-        return if cap < INDEX_COUNT { cap } else { INDEX_COUNT };
+        cap.min(INDEX_COUNT)
+    } else {
+        1
     }
-    1
 }
 
 // ---- the stages

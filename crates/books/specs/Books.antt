@@ -2,6 +2,7 @@
 use Rattle.std.specs.Prelude.{◌≡◌, List}
 use Rattle.pool.specs.declared.Pool.{Pool}
 use Rattle.pool.specs.declared.Client.{Client}
+use Rattle.books.specs.declared.numbers.Numbers.{Numbers}
 use Rattle.books.specs.declared.reading.Books.{Books}
 use Rattle.books.specs.declared.writing.BooksMut.{BooksMut}
 
@@ -46,6 +47,12 @@ pool_of b clients =
       grant_pages = b.grant_pages.now;
       grant_frames = b.grant_frames.now;
     }
+
+-- these are S, T and C of the pool
+pub record NumbersOf (p : Pool) (n : Numbers) : Type 0 where
+  pub size : n.size ≡ p.size
+  pub client_count : n.client_count ≡ p.client_count
+  pub cap : n.cap ≡ p.cap
 
 -- the same references, and the same S, T and C: whoever lent them knows what stands there afterwards
 pub record SameLoans (old new : BooksMut) : Type 0 where

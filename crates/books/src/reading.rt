@@ -3,7 +3,7 @@ ghost use Rattle.pool.specs.Limits.{max_clients, max_frames, max_held};
 ghost use Rattle.pool.specs.State.{none, within, slot, page, pins, count, entry_frame, of_client};
 ghost use Rattle.pool.specs.Table.{entry_of, lookup, unused_entry};
 ghost use Rattle.pool.specs.declared.Client.{Client};
-ghost use Rattle.books.specs.Books.{pool_in};
+ghost use Rattle.books.specs.Books.{pool_in, NumbersOf};
 ghost use Rattle.books.specs.Optional.{some_number, IsNumber};
 ghost use Rattle.books.specs.Lists.{grant_in};
 
@@ -49,9 +49,7 @@ fn byte_within(xs: &[u8; FRAMES], n: u8, d: u8, i: u8) -> u8
 impl<'a> Books<'a> {
     /// The books of an owned pool.
     pub fn of(numbers: Numbers, pool: &'a Pool) -> Self
-        requires size { numbers.size ≡ pool.now.size }
-        requires client_count { numbers.client_count ≡ pool.now.client_count }
-        requires cap { numbers.cap ≡ pool.now.cap }
+        requires { NumbersOf pool.now numbers }
         ensures pool { pool_in result pool.now.clients ≡ pool.now }
         ensures numbers { result.numbers ≡ numbers }
     {

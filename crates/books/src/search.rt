@@ -72,7 +72,7 @@ impl Books<'_> {
         if self.in_table(f) {
             return true;
         }
-        // By number, which says where the client's grants are: `enumerate` is no plainer.
+        // Tried: `(0..count).any(..)`, whose proof did not close.
         let count = self.numbers.client_count as usize;
         for c in 0..count {
             if names(&clients[c], self.grant_frames, c, f) {

@@ -29,10 +29,7 @@ pub fn entry_of(pages: &[u32; FRAMES], frames: &[u8; FRAMES], n: u8, page: u32) 
     ensures bound { IfSome result (λ i. i < n) }
 {
     let n = n as usize;
-    match entry(&pages[..n], &frames[..n], page) {
-        Some(i) => Some(i as u8),
-        None => None,
-    }
+    entry(&pages[..n], &frames[..n], page).map(|i| i as u8)
 }
 
 /// The first place that is unused.
@@ -50,10 +47,7 @@ pub fn unused_of(frames: &[u8; FRAMES], n: u8) -> Option<u8>
     ensures first { unwrap_or result none ≡ unused_in frames.now n }
     ensures bound { IfSome result (λ i. i < n) }
 {
-    match unused(&frames[..n as usize]) {
-        Some(i) => Some(i as u8),
-        None => None,
-    }
+    unused(&frames[..n as usize]).map(|i| i as u8)
 }
 
 /// The first place of a page.
@@ -74,10 +68,7 @@ pub fn grant_of(pages: &[u32; GRANTS], c: usize, held: u8, page: u32) -> Option<
 {
     let at = HELD * c;
     let mine = &pages[at..at + held as usize];
-    match place_of(mine, page) {
-        Some(i) => Some(i as u8),
-        None => None,
-    }
+    place_of(mine, page).map(|i| i as u8)
 }
 
 /// Whether frame f is among the first n.

@@ -13,7 +13,7 @@ use books::Checked;
 use pool::{Answer, Call, Counted, Outcome, Pool, Write};
 
 /// What a call leaves, and what it wrote to the pool.
-#[derive(Clone, Copy)]
+#[derive(Clone, Copy, Debug, PartialEq, Eq)]
 pub struct Made {
     pub answer: Answer,
     pub counted: Counted,

@@ -10,7 +10,7 @@ ghost use Rattle.pool.specs.Apply.{apply};
 ghost use Rattle.pool.specs.Calls.{caller};
 ghost use Rattle.pool.specs.declared.Client.{Client};
 ghost use Rattle.pool.specs.declared.Call.TheVariants.{Begin, Step, Release};
-ghost use Rattle.books.specs.Books.{pool_in};
+ghost use Rattle.books.specs.Books.{pool_in, NumbersOf};
 ghost use Rattle.books.specs.Named.{FewGrants};
 ghost use Rattle.books.specs.Optional.{IsNumber};
 ghost use Rattle.play.specs.Decides.{Answers, Acts, Decides};
@@ -120,9 +120,7 @@ pub fn turn(pool: &Checked, call: Call) -> Result<Move, Refusal>
 
 /// A move of client c, put into an owned pool: SPECIFICATION 1.9.
 pub fn put(pool: &mut Pool, numbers: Numbers, c: usize, turn: &Move)
-    requires size { numbers.size ≡ pool.old.size }
-    requires client_count { numbers.client_count ≡ pool.old.client_count }
-    requires cap { numbers.cap ≡ pool.old.cap }
+    requires numbers { NumbersOf pool.old numbers }
     requires client { c < max_clients }
     ensures { pool.new ≡ apply pool.old c turn.now }
 {
