@@ -12,16 +12,12 @@ ghost use Rattle.memory.specs.Requests.{Asks, call_on, state_of, tallying};
 ghost use Rattle.byte_step.specs.Steps.{left};
 
 use answers::Refusal;
-use content::{Content, Frames};
+use content::Content;
 use memory::{BufferPool, PAGE, Tallied};
 use pool::{Answer, Call, Counted, Tally};
 
 /// What a step does to the pool and the store. Its effect on store and bytes comes after the pool's own call, which no other call can come between.
-fn step(
-    pool: &mut BufferPool,
-    client: u8,
-    store: &mut [u8],
-) -> Result<(Answer, Counted), Refusal>
+fn step(pool: &mut BufferPool, client: u8, store: &mut [u8]) -> Result<(Answer, Counted), Refusal>
     ensures { left result pool.new store.new ≡ call_on (state_of pool.old store.old) (Asks (Step client)) }
 {
     let checked = checks::sound(pool)?;
@@ -31,32 +27,21 @@ fn step(
         return Err(Refusal::OutOfRange);
     }
     let made = checked::call_made(&checked, Call::Step(client));
-    let entry = content::replaced(
-        &pool.pool.table_frames,
-        checked.numbers.total(),
-        made.write,
-    );
+    let entry = content::replaced(&pool.pool.table_frames, checked.numbers.total(), made.write);
     pool.pool = made.pool;
-    let mut held = Content {
-        frames: Frames {
-            pages,
-            bytes: &mut pool.memory.bytes,
-            filled: &mut pool.memory.filled,
-        },
+    let mut content = Content {
+        pages,
+        bytes: &mut pool.memory.bytes,
+        filled: &mut pool.memory.filled,
         changed: &mut pool.memory.changed,
     };
-    held.follow(store, entry, made.write);
+    content.follow(store, entry, made.write);
     Ok((made.answer, made.counted))
 }
 
 /// SPECIFICATION 13.5.
 #[tactic(auto, unfolding(pool::specs::Tallies::tallied))]
-pub fn step_tallied(
-    mut pool: BufferPool,
-    client: u8,
-    mut tally: Tally,
-    store: &mut [u8],
-) -> Tallied
+pub fn step_tallied(mut pool: BufferPool, client: u8, mut tally: Tally, store: &mut [u8]) -> Tallied
     ensures value { (result ≡ tallying tally (call_on (state_of pool store.old) (Asks (Step client))))
         × (store.new ≡ (call_on (state_of pool store.old) (Asks (Step client))).state.store) }
     ensures among { Among by_step (refusal_of result.answer) }
