@@ -1,7 +1,6 @@
 -- By which refusals (SPECIFICATION, section 6) each call of a pool that has bytes can be refused. Assumes nothing.
-use Rattle.std.specs.Prelude.{◌≡◌, List, [], ℕ}
+use Rattle.std.specs.Prelude.{List, ℕ}
 use Rattle.std.proofs.Math.Path.{refl}
-use Rattle.std.proofs.Common.{sym, subst}
 use Rattle.pool.specs.Answers.{refusal_of}
 use Rattle.pool.specs.State.{client}
 use Rattle.pool.specs.Calls.{refusal_at, refusal, release_move, move_of}
@@ -16,9 +15,7 @@ use Rattle.answers.specs.Refusals.{by_setup, by_begin_on, by_byte, by_step, by_r
 use Rattle.calls.specs.Refusals.{pick, turned_refusals, call_refusals, of_answer}
 use Rattle.memory.specs.Orders.{first_either, order_either}
 use Rattle.memory.specs.Requests.{Request, Asks, ReadByte, WriteByte, State, Result, setup_on, first_of, outside_at, byte_refusal, turned_away_by, refusal_on, action_on}
-use Rattle.memory.specs.Requests.{call_on, state_of, reply}
-use Rattle.memory.specs.declared.BufferPool.{BufferPool}
-use Rattle.memory.specs.declared.Reply.{Reply}
+use Rattle.memory.specs.Requests.{call_on}
 
 pub setup_refusals : (s t c h : ℕ) (store : List ℕ) → Among by_setup (refusal_of (setup_on s t c h store).answer)
 unfolding setup_on refusal_of
@@ -72,12 +69,3 @@ module _ (x : State) where
       let turned : ((k : Client) → Among by_step (refusal_at p k (Step c))) = λ k. at_step (Among by_step) p k c refl refl in
       whole by_step x (Asks (Step c)) refl (order_either _ _ (Among by_step) (turned_refusals by_step p (Step c) refl refl turned) refl)
       (call_refusals by_step p (Step c) refl refl turned (of_answer (stage_answer p (client p c))))
-
--- the same of a reply that is a call's, whatever the store
-pub replies : (ns : List ℕ) (r : Request) (b : BufferPool) {o : Reply} → ((x : State) → Among ns (refusal_of (call_on x r).answer))
-    → ((store : List ℕ) → o ≡ reply (call_on (state_of b store) r)) → ((store : List ℕ) → o ≡ reply (call_on (state_of b store) r)) × Among ns (refusal_of o.answer)
-replies ns r b few e = (e, subst (λ (y : Reply). Among ns (refusal_of y.answer)) (sym (e [])) (few (state_of b [])))
-
-pub sets : (s t c h : ℕ) (store : List ℕ) {o : Reply} → o ≡ reply (setup_on s t c h store)
-    → (o ≡ reply (setup_on s t c h store)) × Among by_setup (refusal_of o.answer)
-sets s t c h store e = (e, subst (λ (y : Reply). Among by_setup (refusal_of y.answer)) (sym e) (setup_refusals s t c h store))

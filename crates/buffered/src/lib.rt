@@ -3,33 +3,35 @@
 // through crate `foqheran`; the step is in crate `byte_step`, reads and writes are in crate `byte_calls`.
 #![tactic(auto)]
 
-ghost use Rattle.std.specs.Prelude.{◌≡◌, true, List, ℕ};
+ghost use Rattle.std.specs.Prelude.{◌≡◌, List, ℕ, MatchOption};
 ghost use Rattle.pool.specs.Answers.{refusal_of};
-ghost use Rattle.pool.specs.Valid.{valid};
-ghost use Rattle.pool.specs.Calls.{no_pool, turned_by};
 ghost use Rattle.pool.specs.declared.Call.TheVariants.{Begin, Release};
 ghost use Rattle.answers.specs.Among.{Among};
+ghost use Rattle.answers.specs.Numbers.{refusal_number};
 ghost use Rattle.answers.specs.Refusals.{by_setup, by_begin_on, by_release};
 ghost use Rattle.memory.specs.Memory.{blank};
-ghost use Rattle.memory.specs.Requests.{Asks, setup_on, in_order, call_on, state_of, reply};
-ghost use Rattle.buffered.specs.Ways.{turned_reply};
+ghost use Rattle.memory.specs.Requests.{Asks, setup_on, call_on, state_of, reply};
+ghost use Rattle.buffered.specs.Ways.{turned_reply, replied};
 
+use answers::Refusal;
+use books::Numbers;
+use checked::Made;
 use memory::{BYTES, BufferPool, Memory, Reply};
-use pool::{Answer, Call, FRAMES, Pool};
+use pool::{Answer, Call, FRAMES};
 
-// The pool as it was, and the number that the call is refused by.
-pub fn turned_back(n: u8, pool: BufferPool) -> Reply
-    ensures { result ≡ turned_reply n pool }
+/// The pool as it was, and why the call is refused. Internal.
+pub fn turned_back(refusal: Refusal, pool: BufferPool) -> Reply
+    ensures { result ≡ turned_reply (refusal_number refusal) pool }
 {
     Reply {
-        answer: Answer::Refused(n),
+        answer: refusal.into(),
         pool,
     }
 }
 
 // ---- setup
 
-// SPECIFICATION 13.3.
+/// SPECIFICATION 13.3.
 fn blank(pages: u16) -> Memory
     ensures { result ≡ blank pages }
 {
@@ -41,89 +43,77 @@ fn blank(pages: u16) -> Memory
     }
 }
 
-// Refusal 8 of a setup: there is no pool.
-fn not_set_up() -> Reply
-    ensures { result ≡ turned_reply 8 (record { pool = no_pool; memory = blank 0 }) }
-{
-    let pool = calls::fresh(0, 0, 0, 0);
-    let memory = blank(0);
-    turned_back(8, BufferPool { pool, memory })
-}
-
-// SPECIFICATION 13.3; refusal 8.
+/// SPECIFICATION 13.3; refusal 8, which leaves no pool.
+#[tactic(auto, unfolding(pool::specs::Answers::refusal_of, pool::specs::Choose::both, pool::specs::Choose::choose, memory::specs::Requests::setup_on))]
 pub fn setup(size: u8, client_count: u8, cap: u8, hand: u32, store: &[u8]) -> Reply
     ensures value { result ≡ reply (setup_on size client_count cap hand store.now) }
     ensures among { Among by_setup (refusal_of result.answer) }
 {
-    if !range_tests::numbers_ok(size, client_count, cap) {
-        return not_set_up();
-    }
-    let Some(pages) = content::pages_of(store.len()) else {
-        return not_set_up();
+    let numbers = Numbers::new(size, client_count, cap);
+    let pages = content::pages_of(store.len());
+    let (Some(_), Some(pages)) = (numbers, pages) else {
+        let pool = calls::fresh(0, 0, 0, 0);
+        let memory = blank(0);
+        return turned_back(Refusal::OutOfRange, BufferPool { pool, memory });
     };
     let pool = calls::fresh(size, client_count, cap, hand);
     let memory = blank(pages);
     Reply {
-        answer: Answer::Done(size as u32),
+        answer: Answer::Done(u32::from(size)),
         pool: BufferPool { pool, memory },
     }
 }
 
 // ---- begin, release
 
-// By which number a begin of a page outside the store is turned down.
-fn outside(pool: Pool, call: Call) -> u8
-    requires { valid pool ≡ true }
-    ensures { result ≡ in_order (turned_by pool call) 16 }
+/// What a begin makes of the books: check 8, refusal 16, the pool's own call. The bytes stay.
+fn begun(pool: &BufferPool, client: u8, page: u32) -> Result<Made, Refusal>
+    ensures { (store : List ℕ) → replied result pool.now ≡ reply (call_on (state_of pool.now store) (Asks (Begin client page))) }
 {
-    let n = checked::turned_by(pool, call);
-    byte_checks::outside(n)
+    let checked = checks::sound(pool)?;
+    let call = Call::Begin(client, page);
+    if !checks::inside(pool.memory.pages, page) {
+        return Err(checks::outside(play::turn(&checked, call)));
+    }
+    Ok(checked::call_made(&checked, call))
 }
 
-// SPECIFICATION 13.5, 13.10: whatever the store has in it.
+/// What a release makes of them: check 8, the pool's own call. The bytes stay.
+fn released(pool: &BufferPool, client: u8, page: u32) -> Result<Made, Refusal>
+    ensures { (store : List ℕ) → replied result pool.now ≡ reply (call_on (state_of pool.now store) (Asks (Release client page))) }
+{
+    let call = Call::Release(client, page);
+    Ok(checked::call_made(&checks::sound(pool)?, call))
+}
+
+/// The reply to such a call.
+fn replied(made: Result<Made, Refusal>, pool: BufferPool) -> Reply
+    ensures { result ≡ replied made pool }
+{
+    match made {
+        Ok(made) => Reply {
+            answer: made.answer,
+            pool: BufferPool {
+                pool: made.pool,
+                ..pool
+            },
+        },
+        Err(refusal) => turned_back(refusal, pool),
+    }
+}
+
+/// SPECIFICATION 13.5, 13.10: whatever the store has in it.
 pub fn begin(pool: BufferPool, client: u8, page: u32) -> Reply
     ensures by_index { (store : List ℕ) → result ≡ reply (call_on (state_of pool store) (Asks (Begin client page))) }
     ensures among { Among by_begin_on (refusal_of result.answer) }
 {
-    let books = pool.pool;
-    let memory = pool.memory;
-    let filled = memory.filled;
-    let changed = memory.changed;
-    let sound = byte_checks::sound(books, memory.pages, &filled, &changed);
-    if !sound {
-        return turned_back(8, pool);
-    }
-    let inside = byte_checks::inside(memory.pages, page);
-    if !inside {
-        return turned_back(outside(books, Call::Begin(client, page)), pool);
-    }
-    let made = checked::call_made(books, Call::Begin(client, page));
-    let answer = made.answer;
-    let next = made.pool;
-    Reply {
-        answer,
-        pool: BufferPool { pool: next, memory },
-    }
+    replied(begun(&pool, client, page), pool)
 }
 
-// SPECIFICATION 13.5: whatever the store has in it.
+/// SPECIFICATION 13.5: whatever the store has in it.
 pub fn release(pool: BufferPool, client: u8, page: u32) -> Reply
     ensures by_index { (store : List ℕ) → result ≡ reply (call_on (state_of pool store) (Asks (Release client page))) }
     ensures among { Among by_release (refusal_of result.answer) }
 {
-    let books = pool.pool;
-    let memory = pool.memory;
-    let filled = memory.filled;
-    let changed = memory.changed;
-    let ok = byte_checks::sound(books, memory.pages, &filled, &changed);
-    if !ok {
-        return turned_back(8, pool);
-    }
-    let made = checked::call_made(books, Call::Release(client, page));
-    let answer = made.answer;
-    let next = made.pool;
-    Reply {
-        answer,
-        pool: BufferPool { pool: next, memory },
-    }
+    replied(released(&pool, client, page), pool)
 }

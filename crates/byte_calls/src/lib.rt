@@ -3,161 +3,103 @@
 // refused; 0 is no refusal. Public, through crate `foqheran`.
 #![tactic(auto)]
 
-ghost use Rattle.std.specs.Prelude.{◌≡◌, true, List, ℕ, ◌<◌, length};
+ghost use Rattle.std.specs.Prelude.{◌≡◌, ◌*◌, ◌<◌, length, IfOk, MatchResult};
 ghost use Rattle.pool.specs.Answers.{refusal_of};
-ghost use Rattle.pool.specs.State.{number_of_clients};
-ghost use Rattle.pool.specs.Valid.{valid};
 ghost use Rattle.answers.specs.Among.{Among};
+ghost use Rattle.answers.specs.Numbers.{refusal_number};
 ghost use Rattle.answers.specs.Refusals.{by_byte};
-ghost use Rattle.memory.specs.Requests.{ReadByte, WriteByte, byte_refusal, refusal_on, held_frame, call_on, state_of, reply};
-ghost use Rattle.memory.specs.declared.Memory.{Memory as MemoryOf};
-ghost use Rattle.byte_calls.specs.Passed.{state_with};
+ghost use Rattle.memory.specs.Memory.{page_bytes};
+ghost use Rattle.memory.specs.Requests.{ReadByte, WriteByte, refusal_on, held_frame, call_on, state_of, reply};
 
+use answers::Refusal;
 use content::{Content, Frames};
-use memory::{BufferPool, Memory, PAGE, Reply};
-use pool::{Answer, Call, FRAMES, Pool};
+use memory::{BufferPool, PAGE, Reply};
+use pool::{Answer, Call};
 
-// By which number a read is turned down for its page or its offset; 0: by none.
-fn outside(pages: u16, page: u32, offset: u32) -> u8
-    ensures { result ≡ byte_refusal pages page offset }
-{
-    match content::outside(pages, page, offset) {
-        Ok(()) => 0,
-        Err(refusal) => refusal.number(),
-    }
-}
-
-// By which number a read is turned down, and so a write: of a pool with these marks, lent a store of so many bytes.
-fn turned_by<'a>(
-    pool: Pool,
-    pages: u16,
-    filled: &'a [u8; FRAMES],
-    changed: &'a [u8; FRAMES],
-    lent: usize,
+/// The frame of the client's grant of a page, or why a read is turned down, and so a write: check 8, as for a release, 16 and 17.
+fn holder(
+    pool: &BufferPool,
+    store: &[u8],
     client: u8,
     page: u32,
     offset: u32,
-) -> u8
-    ensures { (m : MemoryOf) (store : List ℕ) → m.pages ≡ pages → m.filled ≡ filled.now → m.changed ≡ changed.now →
-        length store ≡ lent → result ≡ refusal_on (state_with pool m store) (ReadByte client page offset) }
+) -> Result<u8, Refusal>
+    ensures frame { MatchResult result
+        (λ f. (refusal_on (state_of pool.now store.now) (ReadByte client page offset) ≡ 0) × (f ≡ held_frame pool.now.pool client page))
+        (λ e. refusal_on (state_of pool.now store.now) (ReadByte client page offset) ≡ refusal_number e) }
+    ensures inside { IfOk result (λ f. (length store.now ≡ page_bytes * pool.now.memory.pages) × (offset < page_bytes)) }
 {
-    let sound = byte_checks::sound(pool, pages, filled, changed);
-    if !sound {
-        return 8;
+    let checked = checks::sound(pool)?;
+    let pages = pool.memory.pages;
+    let as_long = store.len() == PAGE * usize::from(pages);
+    if !as_long {
+        return Err(Refusal::OutOfRange);
     }
-    if lent != PAGE * pages as usize {
-        return 8;
-    }
-    let n = checked::turned_by(pool, Call::Release(client, page));
-    if n != 0 {
-        return n;
-    }
-    outside(pages, page, offset)
-}
-
-// The frame of the client's grant of a page.
-fn held_frame(pool: Pool, client: u8, page: u32) -> u8
-    requires { (valid pool ≡ true) × (client < number_of_clients pool) }
-    ensures { result ≡ held_frame pool client page }
-{
+    let _turn = play::turn(&checked, Call::Release(client, page))?;
+    content::outside(pages, page, offset)?;
     let c = client as usize;
-    let clients = pool.clients;
-    let held = clients[c].held;
-    let i = reads::grant_of(&pool.grant_pages, c, held, page);
-    reads::grant_frame_at(&pool.grant_frames, c, held, i)
+    let held = checked.pool.clients[c].held;
+    let books = checked.books();
+    let Some(i) = books.grant_of(c, held, page) else {
+        return Err(Refusal::NotHeld);
+    };
+    Ok(books.grant_frame(c, held, i))
 }
 
-// SPECIFICATION 13.9.
-pub fn read(pool: BufferPool, client: u8, page: u32, offset: u32, store: &[u8]) -> Reply
+/// SPECIFICATION 13.9.
+pub fn read(mut pool: BufferPool, client: u8, page: u32, offset: u32, store: &[u8]) -> Reply
     ensures value { result ≡ reply (call_on (state_of pool store.now) (ReadByte client page offset)) }
     ensures among { Among by_byte (refusal_of result.answer) }
 {
-    let books = pool.pool;
-    let memory = pool.memory;
-    let pages = memory.pages;
-    let mut bytes = memory.bytes;
-    let mut filled = memory.filled;
-    let changed = memory.changed;
-    let n = turned_by(
-        books,
-        pages,
-        &filled,
-        &changed,
-        store.len(),
-        client,
-        page,
-        offset,
-    );
-    if n != 0 {
-        return buffered::turned_back(n, pool);
-    }
-    let f = held_frame(books, client, page);
-    let mut frames = Frames {
-        pages,
-        bytes: &mut bytes,
-        filled: &mut filled,
+    let frame = match holder(&pool, store, client, page, offset) {
+        Ok(frame) => frame,
+        Err(refusal) => return buffered::turned_back(refusal, pool),
     };
-    frames.fill(store, f, page);
-    let byte = frames.byte(f, offset);
+    let mut frames = Frames {
+        pages: pool.memory.pages,
+        bytes: &mut pool.memory.bytes,
+        filled: &mut pool.memory.filled,
+    };
+    frames.fill(store, frame, page);
+    let byte = frames.byte(frame, offset);
     Reply {
-        answer: Answer::Done(byte as u32),
-        pool: BufferPool {
-            pool: books,
-            memory: Memory {
-                pages,
-                bytes,
-                filled,
-                changed,
-            },
-        },
+        answer: Answer::Done(u32::from(byte)),
+        pool,
     }
 }
 
-// SPECIFICATION 13.9.
-pub fn write(pool: BufferPool, client: u8, page: u32, offset: u32, byte: u8, store: &[u8]) -> Reply
+/// SPECIFICATION 13.9.
+pub fn write(
+    mut pool: BufferPool,
+    client: u8,
+    page: u32,
+    offset: u32,
+    byte: u8,
+    store: &[u8],
+) -> Reply
     ensures value { result ≡ reply (call_on (state_of pool store.now) (WriteByte client page offset byte)) }
     ensures among { Among by_byte (refusal_of result.answer) }
 {
-    let books = pool.pool;
-    let memory = pool.memory;
-    let pages = memory.pages;
-    let mut bytes = memory.bytes;
-    let mut filled = memory.filled;
-    let mut changed = memory.changed;
-    let n = turned_by(
-        books,
-        pages,
-        &filled,
-        &changed,
-        store.len(),
-        client,
-        page,
-        offset,
-    );
-    if n != 0 {
-        return buffered::turned_back(n, pool);
-    }
-    let frame = held_frame(books, client, page);
-    let mut held = Content {
-        frames: Frames {
-            pages,
-            bytes: &mut bytes,
-            filled: &mut filled,
-        },
-        changed: &mut changed,
+    let frame = match holder(&pool, store, client, page, offset) {
+        Ok(frame) => frame,
+        Err(refusal) => return buffered::turned_back(refusal, pool),
     };
-    held.frames.fill(store, frame, page);
-    held.write(frame, offset, byte);
+    let pages = pool.memory.pages;
+    let mut lent = Frames {
+        pages,
+        bytes: &mut pool.memory.bytes,
+        filled: &mut pool.memory.filled,
+    };
+    lent.fill(store, frame, page);
+    let mut content = Content {
+        pages,
+        bytes: &mut pool.memory.bytes,
+        filled: &mut pool.memory.filled,
+        changed: &mut pool.memory.changed,
+    };
+    content.write(frame, offset, byte);
     Reply {
         answer: Answer::Done(page),
-        pool: BufferPool {
-            pool: books,
-            memory: Memory {
-                pages,
-                bytes,
-                filled,
-                changed,
-            },
-        },
+        pool,
     }
 }

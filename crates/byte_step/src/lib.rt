@@ -9,58 +9,53 @@ ghost use Rattle.pool.specs.declared.Call.TheVariants.{Step};
 ghost use Rattle.answers.specs.Among.{Among};
 ghost use Rattle.answers.specs.Refusals.{by_step};
 ghost use Rattle.memory.specs.Requests.{Asks, call_on, state_of, tallying};
-ghost use Rattle.byte_step.specs.Steps.{turned_tally};
+ghost use Rattle.byte_step.specs.Steps.{left};
 
-use content::{Content, Frames};
+use answers::Refusal;
+use content::Content;
 use memory::{BufferPool, PAGE, Tallied};
-use pool::{Answer, Call, Tally};
+use pool::{Answer, Call, Counted, Tally};
 
-// The pool and the tally as they were, and 8.
-fn refused(pool: BufferPool, tally: Tally) -> Tallied
-    ensures { result ≡ turned_tally pool tally }
+/// What a step does to the pool and the store. Its effect on store and bytes comes after the pool's own call, which no other call can come between.
+fn step(pool: &mut BufferPool, client: u8, store: &mut [u8]) -> Result<(Answer, Counted), Refusal>
+    ensures { left result pool.new store.new ≡ call_on (state_of pool.old store.old) (Asks (Step client)) }
 {
-    Tallied {
-        answer: Answer::Refused(8),
-        tally,
-        pool,
+    let checked = checks::sound(pool)?;
+    let pages = pool.memory.pages;
+    let as_long = store.len() == PAGE * usize::from(pages);
+    if !as_long {
+        return Err(Refusal::OutOfRange);
     }
+    let made = checked::call_made(&checked, Call::Step(client));
+    let entry = content::replaced(&pool.pool.table_frames, checked.numbers.total(), made.write);
+    pool.pool = made.pool;
+    let mut content = Content {
+        pages,
+        bytes: &mut pool.memory.bytes,
+        filled: &mut pool.memory.filled,
+        changed: &mut pool.memory.changed,
+    };
+    content.follow(store, entry, made.write);
+    Ok((made.answer, made.counted))
 }
 
-// SPECIFICATION 13.5. The action's effect on store, bytes and marks is put into them after the pool's own call, which no other call can come between.
-pub fn step_tallied(mut pool: BufferPool, client: u8, tally: Tally, store: &mut [u8]) -> Tallied
+/// SPECIFICATION 13.5.
+#[tactic(auto, unfolding(pool::specs::Tallies::tallied))]
+pub fn step_tallied(mut pool: BufferPool, client: u8, mut tally: Tally, store: &mut [u8]) -> Tallied
     ensures value { (result ≡ tallying tally (call_on (state_of pool store.old) (Asks (Step client))))
         × (store.new ≡ (call_on (state_of pool store.old) (Asks (Step client))).state.store) }
     ensures among { Among by_step (refusal_of result.answer) }
 {
-    let pages = pool.memory.pages;
-    let sound = checks::sound(&pool);
-    if !sound {
-        return refused(pool, tally);
-    }
-    if store.len() != PAGE * pages as usize {
-        return refused(pool, tally);
-    }
-    let books = pool.pool;
-    let made = checked::call_made(books, Call::Step(client));
-    let write = made.write;
-    let total = reads::total(pool.pool.size, pool.pool.client_count);
-    let entry = content::replaced(&pool.pool.table_frames, total, write);
-    let mut held = Content {
-        frames: Frames {
-            pages,
-            bytes: &mut pool.memory.bytes,
-            filled: &mut pool.memory.filled,
-        },
-        changed: &mut pool.memory.changed,
+    let answer = match step(&mut pool, client, store) {
+        Ok((answer, counted)) => {
+            tallies::count(&mut tally, counted);
+            answer
+        }
+        Err(refusal) => refusal.into(),
     };
-    held.follow(store, entry, write);
-    let answer = made.answer;
-    let counted = made.counted;
-    let next = made.pool;
-    pool.pool = next;
     Tallied {
         answer,
-        tally: tallies::tallied(counted, tally),
+        tally,
         pool,
     }
 }

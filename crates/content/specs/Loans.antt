@@ -9,5 +9,7 @@ pub record SameFrames (old new : Frames) : Type 0 where
   pub filled : new.filled.ghost_name ≡ old.filled.ghost_name
 
 pub record SameContent (old new : Content) : Type 0 where
-  pub frames : SameFrames old.frames new.frames
+  pub pages : new.pages ≡ old.pages
+  pub bytes : new.bytes.ghost_name ≡ old.bytes.ghost_name
+  pub filled : new.filled.ghost_name ≡ old.filled.ghost_name
   pub changed : new.changed.ghost_name ≡ old.changed.ghost_name

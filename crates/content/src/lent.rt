@@ -54,54 +54,48 @@ impl Frames<'_> {
         let at = PAGE * usize::from(f) + offset as usize;
         bytes.get(at).copied().unwrap_or(0)
     }
-
-    /// A page of the store gets frame f's bytes.
-    fn save(&self, store: &mut [u8], page: usize, f: usize)
-        requires page { start page + page_bytes ≤ length store.old }
-        requires frame { f < max_frames }
-        ensures { store.new ≡ copied_page store.old page self.now.bytes.now f }
-    {
-        let bytes: &[u8; BYTES] = self.bytes;
-        copy_page(store, page, bytes, f);
-    }
 }
 
-/// What the frames hold, and the marks of those that were written since: what a write is lent, and a step.
+/// What the frames hold, and the marks of those that were written since: what a write is lent, and a step. Flat, and no `Frames` within: whoever lends
+/// what a struct inside another borrows does not know it afterwards.
 #[derive(Drop)]
-pub struct Content<'f, 'c> {
-    pub frames: Frames<'f>,
-    pub changed: &'c mut [u8; FRAMES],
+pub struct Content<'a> {
+    /// How many pages the store has.
+    pub pages: u16,
+    pub bytes: &'a mut [u8; BYTES],
+    pub filled: &'a mut [u8; FRAMES],
+    pub changed: &'a mut [u8; FRAMES],
 }
 
-impl Content<'_, '_> {
+impl Content<'_> {
     /// All that an action does to store, bytes and marks, by what it writes to the pool: SPECIFICATION 13.6 to 13.8. `entry` is the frame of the entry
     /// that the write replaces, as it was before; a number as the table has it, NONE too, since no frame is asked for but by its number.
     pub fn follow(&mut self, store: &mut [u8], entry: u8, write: Write)
-        requires { length store.old ≡ page_bytes * self.old.frames.pages }
+        requires { length store.old ≡ page_bytes * self.old.pages }
         ensures loans { SameContent self.old self.new }
-        ensures store { store.new ≡ store_in self.old.frames.pages self.old.frames.bytes.now self.old.changed.now store.old entry write }
-        ensures bytes { self.new.frames.bytes.now ≡ bytes_after self.old.frames.bytes.now entry write }
-        ensures filled { self.new.frames.filled.now ≡ marks_after self.old.frames.filled.now entry write }
+        ensures store { store.new ≡ store_in self.old.pages self.old.bytes.now self.old.changed.now store.old entry write }
+        ensures bytes { self.new.bytes.now ≡ bytes_after self.old.bytes.now entry write }
+        ensures filled { self.new.filled.now ≡ marks_after self.old.filled.now entry write }
         ensures changed { self.new.changed.now ≡ marks_after self.old.changed.now entry write }
     {
         match write {
             Write::TakeFrame(f, _, _, _) => {
                 let taken = usize::from(f);
                 if taken < FRAMES {
-                    self.frames.filled[taken] = 0;
+                    self.filled[taken] = 0;
                     self.changed[taken] = 0;
                 }
             }
             Write::PutEntry(_, page, NONE) => {
-                if self.is_changed(entry) && page < u32::from(self.frames.pages) {
-                    self.frames.save(store, page as usize, usize::from(entry));
+                if self.is_changed(entry) && page < u32::from(self.pages) {
+                    self.save(store, page as usize, usize::from(entry));
                 }
             }
             Write::PutEntry(_, _, f) => {
                 let (from, to) = (usize::from(entry), usize::from(f));
                 if from < FRAMES && to < FRAMES {
-                    shift(self.frames.bytes, from, to);
-                    move_mark(self.frames.filled, from, to);
+                    shift(self.bytes, from, to);
+                    move_mark(self.filled, from, to);
                     move_mark(self.changed, from, to);
                 }
             }
@@ -112,15 +106,25 @@ impl Content<'_, '_> {
     /// Frame f gets a byte at an offset, and is changed: SPECIFICATION 13.9.
     pub fn write(&mut self, f: u8, offset: u32, byte: u8)
         ensures loans { SameContent self.old self.new }
-        ensures bytes { self.new.frames.bytes.now ≡ bytes_written self.old.frames.bytes.now f offset byte }
-        ensures filled { self.new.frames.filled.now ≡ self.old.frames.filled.now }
+        ensures bytes { self.new.bytes.now ≡ bytes_written self.old.bytes.now f offset byte }
+        ensures filled { self.new.filled.now ≡ self.old.filled.now }
         ensures changed { self.new.changed.now ≡ marks_written self.old.changed.now f offset }
     {
         let at = usize::from(f);
         if at < FRAMES && offset < PAGE as u32 {
-            self.frames.bytes[PAGE * at + offset as usize] = byte;
+            self.bytes[PAGE * at + offset as usize] = byte;
             self.changed[at] = 1;
         }
+    }
+
+    /// A page of the store gets frame f's bytes.
+    fn save(&self, store: &mut [u8], page: usize, f: usize)
+        requires page { start page + page_bytes ≤ length store.old }
+        requires frame { f < max_frames }
+        ensures { store.new ≡ copied_page store.old page self.now.bytes.now f }
+    {
+        let bytes: &[u8; BYTES] = self.bytes;
+        copy_page(store, page, bytes, f);
     }
 
     /// Whether frame f was written since it was filled.

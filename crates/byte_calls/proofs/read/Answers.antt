@@ -1,44 +1,26 @@
--- What turns the call down is what `turned_by` found. One that is not turned down has passed all checks, and fills the frame of the client's grant.
--- Assumes nothing.
-use mathlib.Core.Path.{◌≡◌, refl, sym, ◌∙◌}
+-- What turns the call down is what `holder` found; one that is not turned down fills the frame of the client's grant. Assumes nothing.
+use Rattle.std.proofs.Common.{rules, refl, ◌∙◌}
 use Rattle.pool.specs.Answers.{refusal_of}
-use Rattle.memory.specs.Requests.{ReadByte, refusal_on, state_of}
-use Rattle.byte_calls.specs.Passed.{Passed, passed, turns_read, reads, read_few}
-use Rattle.std.proofs.Common.{rules}
+use Rattle.memory.specs.Requests.{state_of}
+use Rattle.buffered.specs.Refusals.{read_refusals}
+use Rattle.byte_calls.specs.Passed.{read_refused, reads}
 use Rattle.byte_calls.proofs.read.Goals as goal
 
-pub returns-then-n-ne0 : goal.returns-then-n-ne0
-returns-then-n-ne0 c =
-    let number_is : let a = c.args in c.turned_by-n.result ≡ refusal_on (state_of a.pool a.store.now) (ReadByte a.client a.page a.offset) = let a = c.args in c.turned_by-n.ensures a.pool.memory a.store.now refl refl refl refl in
+pub returns-in-Err-clause-value : goal.returns-in-Err-clause-value
+returns-in-Err-clause-value c =
     let a = c.args in
-    record {
-      value = (read_few _ _ _ _ _ (c.turned_back.ensures ∙ turns_read a.pool a.store.now a.client a.page a.offset number_is c.if-n-ne0.true)).0;
-      among = (read_few _ _ _ _ _ (c.turned_back.ensures ∙ turns_read a.pool a.store.now a.client a.page a.offset number_is c.if-n-ne0.true)).1;
-    }
+    c.turned_back.ensures ∙ read_refused a.pool a.store.now a.client a.page a.offset c.in-Err.refusal c.in-Err.ensures.frame
 
-pub held_frame-f-requires : goal.held_frame-f-requires
-held_frame-f-requires c =
-    let number_is : let a = c.args in c.turned_by-n.result ≡ refusal_on (state_of a.pool a.store.now) (ReadByte a.client a.page a.offset) = let a = c.args in c.turned_by-n.ensures a.pool.memory a.store.now refl refl refl refl in
-    let has_passed : let a = c.args in Passed (state_of a.pool a.store.now) a.client a.offset = let a = c.args in passed _ a.client a.page a.offset (sym number_is ∙ c.if-n-ne0.false) in
-    (has_passed.valid, has_passed.client)
-
-pub fill-requires : goal.fill-requires
-fill-requires c =
-    let number_is : let a = c.args in c.turned_by-n.result ≡ refusal_on (state_of a.pool a.store.now) (ReadByte a.client a.page a.offset) = let a = c.args in c.turned_by-n.ensures a.pool.memory a.store.now refl refl refl refl in
-    let has_passed : let a = c.args in Passed (state_of a.pool a.store.now) a.client a.offset = let a = c.args in passed _ a.client a.page a.offset (sym number_is ∙ c.if-n-ne0.false) in
-    has_passed.long
-
-pub byte-byte-requires : goal.byte-byte-requires
-byte-byte-requires c =
-    let number_is : let a = c.args in c.turned_by-n.result ≡ refusal_on (state_of a.pool a.store.now) (ReadByte a.client a.page a.offset) = let a = c.args in c.turned_by-n.ensures a.pool.memory a.store.now refl refl refl refl in
-    let has_passed : let a = c.args in Passed (state_of a.pool a.store.now) a.client a.offset = let a = c.args in passed _ a.client a.page a.offset (sym number_is ∙ c.if-n-ne0.false) in
-    has_passed.offset
+pub returns-in-Err-clause-among : goal.returns-in-Err-clause-among
+returns-in-Err-clause-among c =
+    let a = c.args in
+    let value = c.turned_back.ensures ∙ read_refused a.pool a.store.now a.client a.page a.offset c.in-Err.refusal c.in-Err.ensures.frame in
+    rw value (read_refusals (state_of a.pool a.store.now) a.client a.page a.offset)
 
 pub returns-clause-value : goal.returns-clause-value
 returns-clause-value c =
-    let number_is : let a = c.args in c.turned_by-n.result ≡ refusal_on (state_of a.pool a.store.now) (ReadByte a.client a.page a.offset) = let a = c.args in c.turned_by-n.ensures a.pool.memory a.store.now refl refl refl refl in
     let a = c.args in
-    let done = reads a.pool a.store.now a.client a.page a.offset number_is c.if-n-ne0.false c.held_frame-f.ensures c.fill.ensures.bytes c.fill.ensures.filled c.byte-byte.ensures in
+    let done = reads a.pool a.store.now a.client a.page a.offset c.in-Ok.ensures.frame c.fill.ensures.bytes c.fill.ensures.filled c.byte-byte.ensures in
     search (rules, done)
 
 pub returns-clause-among : goal.returns-clause-among
