@@ -1,13 +1,15 @@
 -- The definition's `every` over the first clients of a list is the library's `list_all`. Assumes nothing.
-use Rattle.std.proofs.Common.{◌≡◌, ◌∙◌, sym, ap, refl, ℕ, suc, ◌+◌, ◌<◌, ◌≤◌, Bool, true, false, not, ◌&&◌, List, [], ◌∷◌, length, get_or, take, arith}
+use Rattle.std.proofs.Common.{◌≡◌, ◌∙◌, sym, ap, refl, ℕ, suc, ◌+◌, ◌<◌, ◌≤◌, Bool, true, false, not, ◌&&◌, List, [], ◌∷◌, length, get_or, take, arith, ne_eqb}
 use Rattle.std.specs.Prelude.{leb}
 use Rattle.std.specs.List.{list_all}
 use Rattle.std.proofs.lemmas.List.{get_or-take, length-take-le}
 use Rattle.pool.specs.Limits.{max_held}
-use Rattle.pool.specs.State.{no_client}
-use Rattle.pool.specs.Choose.{choose, scan, every}
+use Rattle.pool.specs.State.{no_client, number_of_clients, client}
+use Rattle.pool.specs.Choose.{choose, either, scan, every}
 use Rattle.pool.specs.declared.Client.{Client}
+use Rattle.pool.specs.declared.Pool.{Pool}
 use Rattle.laws.specs.Elements.{client_in, client_element}
+use Rattle.in_place.specs.Held.{search_fits}
 use Rattle.in_place.specs.Acts.{helds}
 
 and_is : (a b : Bool) → choose (not a) false b ≡ a && b
@@ -35,3 +37,12 @@ helds_is l n h =
     (λ j b.
     let lt : j < n = omega (arith, long) in
     ap (λ c. fits (client_in l n c)) (omega arith) ∙ ap fits (client_element l n j lt ∙ sym (get_or-take n l j no_client lt)))
+
+-- the test before the search
+pub search_of : (p : Pool) (k : Client) → k.stage ≡ 4 → search_fits p k ≡ helds p.clients (number_of_clients p)
+unfolding search_fits either choose client client_in
+search_of p k e = rw e refl
+
+pub no_search : (p : Pool) (k : Client) → (k.stage ≡ 4 → ⊥) → search_fits p k ≡ true
+unfolding search_fits either choose
+no_search p k z = rw (ne_eqb k.stage 4 z) refl

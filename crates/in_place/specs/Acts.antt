@@ -5,7 +5,8 @@ use Rattle.pool.specs.Limits.{max_held, max_pins}
 use Rattle.pool.specs.Choose.{choose, both, either, every}
 use Rattle.pool.specs.State.{none, pinned, number_of_clients, total, resting, pins, client, within}
 use Rattle.pool.specs.Valid.{numbers_ok}
-use Rattle.pool.specs.Calls.{caller, turned_by, move_of}
+use Rattle.pool.specs.Apply.{apply}
+use Rattle.pool.specs.Calls.{caller, refusal_at, turned_by, move_of}
 use Rattle.pool.specs.declared.Call.{Call}
 use Rattle.pool.specs.declared.Client.{Client}
 use Rattle.pool.specs.declared.Move.{Move}
@@ -19,6 +20,7 @@ use Rattle.answers.specs.Numbers.{refusal_number}
 use Rattle.memory.specs.Orders.{order_some}
 use Rattle.memory.specs.Requests.{in_order, outside_at}
 use Rattle.in_place.specs.Held.{Held, client_fits, search_fits, fits, held_refusal, held_of, turned_away}
+use Rattle.in_place.specs.Refused.{some_number}
 use Rattle.in_place.specs.declared.acting.Acted.{Acted}
 
 -- no client of the first n of a list has more than eight grants
@@ -42,22 +44,15 @@ module _ (p : Pool) (n : ℕ) (call : Call) where
   unfolding held_refusal
   unfit e = passed _ _ _ e
 
-  abbrev k : Client
-  k = client p (caller call)
-
   pub no_numbers : numbers_ok p.size (number_of_clients p) p.cap ≡ false → held_of p n call ≡ turned_away 8 p
   unfolding held_of fits both choose
   no_numbers e = rw (unfit (rw e refl)) refl
 
   module _ (numbers : numbers_ok p.size (number_of_clients p) p.cap ≡ true) where
-    pub no_client_fits : client_fits p.size (pins p k.found) k ≡ false → held_refusal p n call ≡ 8
-    unfolding fits both choose
-    no_client_fits e = unfit (rw (numbers, e) refl)
-
     in_range : Numbers p.size (number_of_clients p) p.cap
     in_range = numbers_in p.size (number_of_clients p) p.cap numbers
 
-    nobody : number_of_clients p ≤ caller call → k ≡ resting 0
+    nobody : number_of_clients p ≤ caller call → client p (caller call) ≡ resting 0
     unfolding client
     nobody h = passed _ _ _ (le-ltb _ _ h)
 
@@ -80,11 +75,34 @@ module _ (p : Pool) (n : ℕ) (call : Call) where
         chosen _ _ _ (nobody_fits h) ∙ ap (λ (t : ℕ). in_order t (outside_at n call)) (passed _ _ _ (le-ltb _ _ h))
         ∙ order_some 9 _ (λ z. let y : ⊥ = omega arith in y) (λ z. let y : ⊥ = omega arith in y)
 
-    module _ (its : client_fits p.size (pins p k.found) k ≡ true) where
-      pub no_search : search_fits p k ≡ false → held_refusal p n call ≡ 8
+    -- of a client that there is, whose record was read
+    module _ (below : caller call < number_of_clients p) (k : Client) (read : client p (caller call) ≡ k) where
+      pub no_client_fits : client_fits p.size (pins p k.found) k ≡ false → held_refusal p n call ≡ 8
       unfolding fits both choose
-      no_search e = unfit (rw (numbers, its, e) refl)
+      no_client_fits e = unfit (rw (numbers, read, e) refl)
 
-      pub by_number : search_fits p k ≡ true → held_refusal p n call ≡ in_order (turned_by p call) (outside_at n call)
-      unfolding held_refusal fits
-      by_number e = chosen _ _ _ (both_yes _ _ numbers (both_yes _ _ its e))
+      module _ (its : client_fits p.size (pins p k.found) k ≡ true) where
+        pub no_search : search_fits p k ≡ false → held_refusal p n call ≡ 8
+        unfolding fits both choose
+        no_search e = unfit (rw (numbers, read, its, e) refl)
+
+        all_fits : search_fits p k ≡ true → fits p (caller call) ≡ true
+        unfolding fits both choose
+        all_fits e = rw (numbers, read, its, e) refl
+
+        pub by_number : search_fits p k ≡ true → held_refusal p n call ≡ in_order (refusal_at p k call) (outside_at n call)
+        unfolding held_refusal
+        by_number e =
+            chosen _ _ _ (all_fits e)
+            ∙ ap (λ t. in_order t (outside_at n call)) (chosen _ _ _ (lt-ltb _ _ below) ∙ ap (λ k. refusal_at p k call) read)
+
+  -- ---- what a call comes to
+
+  pub turned : (e : Refusal) → held_refusal p n call ≡ refusal_number e → held_of p n call ≡ turned_away (refusal_number e) p
+  unfolding held_of
+  turned e h = rw h (passed _ _ _ (some_number e))
+
+  pub moved : (m : Move) (q : Pool) → held_refusal p n call ≡ 0 → m ≡ move_of p call → q ≡ apply p (caller call) m
+      → record { answer = m.answer; counted = m.counted; write = m.write; pool = q } ≡ held_of p n call
+  unfolding held_of choose
+  moved m q h e f = rw (h, f, e) refl

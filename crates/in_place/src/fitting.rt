@@ -1,12 +1,11 @@
 // The tests of a call in place: SPECIFICATION 14.4.
-ghost use Rattle.std.specs.Prelude.{◌≡◌, true, List, IfOk, unwrap_or, leb};
+ghost use Rattle.std.specs.Prelude.{◌≡◌, true, false, List, IfOk, MatchResult, unwrap_or, leb};
 ghost use Rattle.std.specs.List.{list_all};
 ghost use Rattle.pool.specs.Limits.{max_held};
 ghost use Rattle.pool.specs.State.{none, pins};
 ghost use Rattle.pool.specs.Frames.{free_frame};
-ghost use Rattle.pool.specs.Choose.{choose};
 ghost use Rattle.pool.specs.declared.Client.{Client};
-ghost use Rattle.answers.specs.Numbers.{refused_by};
+ghost use Rattle.answers.specs.declared.refusal.Refusal.TheVariants.{OutOfRange};
 ghost use Rattle.books.specs.Books.{pool_in};
 ghost use Rattle.books.specs.Optional.{IsNumber};
 ghost use Rattle.actions.specs.Ready.{Ready};
@@ -41,8 +40,10 @@ fn few_grants(clients: &[Client]) -> bool
 
 /// The search for a frame, which looks at every client. Out of line: a caller pays at its entry for the clients' room.
 #[inline(never)]
+#[tactic(auto, using(crate::proofs::Each::helds_is))]
 fn searched(books: &Books, clients: &Clients) -> Result<Option<u8>, Refusal>
-    ensures fits { refused_by result ≡ choose (helds (clients_in clients.now) books.now.numbers.client_count) 0 8 }
+    ensures fits { MatchResult result (λ f. helds (clients_in clients.now) books.now.numbers.client_count ≡ true)
+        (λ e. (helds (clients_in clients.now) books.now.numbers.client_count ≡ false) × (e ≡ OutOfRange)) }
     ensures frame { IfOk result (λ f. unwrap_or f none ≡ free_frame (pool_in books.now (clients_in clients.now))) }
     ensures number { IfOk result (λ f. IsNumber f) }
 {
@@ -55,8 +56,10 @@ fn searched(books: &Books, clients: &Clients) -> Result<Option<u8>, Refusal>
 }
 
 /// The frame to take, where the client stands at stage 4; no other stage looks at it.
+#[tactic(auto, using(crate::proofs::Each::search_of, crate::proofs::Each::no_search))]
 pub fn fresh_frame(books: &Books, clients: &Clients, client: &Client) -> Result<Option<u8>, Refusal>
-    ensures fits { refused_by result ≡ choose (search_fits (pool_in books.now (clients_in clients.now)) client.now) 0 8 }
+    ensures fits { MatchResult result (λ f. search_fits (pool_in books.now (clients_in clients.now)) client.now ≡ true)
+        (λ e. (search_fits (pool_in books.now (clients_in clients.now)) client.now ≡ false) × (e ≡ OutOfRange)) }
     ensures frame { IfOk result (λ f. client.now.stage ≡ 4 → unwrap_or f none ≡ free_frame (pool_in books.now (clients_in clients.now))) }
     ensures number { IfOk result (λ f. IsNumber f) }
 {
