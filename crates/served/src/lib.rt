@@ -13,24 +13,28 @@ ghost use Rattle.client_arrays.specs.Arrays.{clients_from};
 ghost use Rattle.holding.specs.Holds.{Keeps};
 ghost use Rattle.listing.specs.Listed.{held_listing};
 ghost use Rattle.in_place.specs.Held.{pool_from, held_of, state_from};
-ghost use Rattle.served.specs.Words.{word_of};
+ghost use Rattle.served.specs.Words.{answer_of, word_of};
 ghost use Rattle.served.specs.Served.{SetsUp, CallsTo, StepsTo, BytesTo, ListsTo, checked_state};
 
-use client_arrays::{ALL_BYTES, ALL_WORDS};
+use answers::Refusal;
+use books::{BooksMut, Numbers};
+use client_arrays::{ALL_BYTES, ALL_WORDS, Clients, ClientsMut};
+use content::{Content, Frames};
 use counting::COUNTS;
+use holding::Grants;
 use memory::{BYTES, PAGE};
-use pool::{Answer, Call, FRAMES, GRANTS, NONE, SLOTS};
+use pool::{Answer, Call, EVICTED, FRAMES, GRANTS, NONE, SLOTS};
 
-// SPECIFICATION 14.3: an answer as one number, its code above its value.
-fn word(a: Answer) -> u64
-    ensures { result ≡ word_of a }
+/// SPECIFICATION 14.3: an answer, or a refusal, as one number, its code above its value.
+#[tactic(auto, unfolding(crate::specs::Words::word_of))]
+fn word(outcome: Result<Answer, Refusal>) -> u64
+    ensures { result ≡ word_of (answer_of outcome) }
 {
-    let code = answers::code_of(a);
-    let value = answers::value_of(a);
-    4294967296 * code as u64 + value as u64
+    let answer = outcome.unwrap_or_else(Answer::from);
+    (u64::from(answers::code_of(answer)) << 32) + u64::from(answers::value_of(answer))
 }
 
-// SPECIFICATION 13.3, 14.5; refused by 8 nothing is changed.
+/// SPECIFICATION 13.3, 14.5; refused by 8 nothing is changed.
 pub fn foqheran_parts_setup(
     s: u8,
     t: u8,
@@ -68,35 +72,39 @@ pub fn foqheran_parts_setup(
         client_words.new grant_pages.new grant_frames.new)
         store_pages.new bytes.new filled.new changed.new store.now) }
 {
-    let length = store.len();
-    let numbers = range_tests::numbers_ok(s, t, c);
-    let ok = range_tests::both(numbers, filling::length_ok(length));
-    if !ok {
-        return word(Answer::Refused(8));
-    }
+    let Some(_) = Numbers::new(s, t, c) else {
+        return word(Err(Refusal::OutOfRange));
+    };
+    let Some(store_length) = content::pages_of(store.len()) else {
+        return word(Err(Refusal::OutOfRange));
+    };
     *size = s;
     *client_count = t;
     *cap = c;
-    *store_pages = (length / PAGE) as u16;
+    *store_pages = store_length;
     *hand = h;
     *free = s;
     *last = NONE;
     *slots = [NONE; SLOTS];
     *pages = [0; FRAMES];
-    *pins = [0; FRAMES];
+    *pins = [EVICTED; FRAMES];
     *counts = [0; FRAMES];
     *table_pages = [0; FRAMES];
     *table_frames = [NONE; FRAMES];
-    client_arrays::rest_all(client_bytes, client_words);
     *grant_pages = [0; GRANTS];
     *grant_frames = [0; GRANTS];
     *bytes = [0; BYTES];
     *filled = [0; FRAMES];
     *changed = [0; FRAMES];
-    word(Answer::Done(s as u32))
+    let mut clients = ClientsMut {
+        bytes: client_bytes,
+        words: client_words,
+    };
+    clients.rest_all();
+    word(Ok(Answer::Done(u32::from(s))))
 }
 
-// SPECIFICATION 3.2, 14.5; refused by 16 where the store has no such page, and by 18 where the client holds it.
+/// SPECIFICATION 3.2, 14.5; refused by 16 where the store has no such page, and by 18 where the client holds it.
 pub fn foqheran_parts_begin(
     client: u8,
     page: u32,
@@ -128,12 +136,11 @@ pub fn foqheran_parts_begin(
         pins.new counts.new table_pages.new table_frames.new client_bytes.new
         client_words.new grant_pages.new grant_frames.new) }
 {
-    let acted = in_place::act(
-        Call::Begin(client, page),
-        store_pages,
-        size,
-        client_count,
-        cap,
+    let Some(numbers) = Numbers::new(size, client_count, cap) else {
+        return word(Err(Refusal::OutOfRange));
+    };
+    let mut books = BooksMut {
+        numbers,
         hand,
         free,
         last,
@@ -143,16 +150,18 @@ pub fn foqheran_parts_begin(
         counts,
         table_pages,
         table_frames,
-        client_bytes,
-        client_words,
         grant_pages,
         grant_frames,
-    );
-    let answer = acted.answer;
-    word(answer)
+    };
+    let mut clients = ClientsMut {
+        bytes: client_bytes,
+        words: client_words,
+    };
+    let acted = in_place::act(Call::Begin(client, page), store_pages, &mut books, &mut clients);
+    word(acted.map(|acted| acted.answer))
 }
 
-// SPECIFICATION 3.4, 14.5.
+/// SPECIFICATION 3.4, 14.5.
 pub fn foqheran_parts_release(
     client: u8,
     page: u32,
@@ -183,12 +192,11 @@ pub fn foqheran_parts_release(
         pins.new counts.new table_pages.new table_frames.new client_bytes.new
         client_words.new grant_pages.new grant_frames.new) }
 {
-    let acted = in_place::act(
-        Call::Release(client, page),
-        0,
-        size,
-        client_count,
-        cap,
+    let Some(numbers) = Numbers::new(size, client_count, cap) else {
+        return word(Err(Refusal::OutOfRange));
+    };
+    let mut books = BooksMut {
+        numbers,
         hand,
         free,
         last,
@@ -198,17 +206,19 @@ pub fn foqheran_parts_release(
         counts,
         table_pages,
         table_frames,
-        client_bytes,
-        client_words,
         grant_pages,
         grant_frames,
-    );
-    let answer = acted.answer;
-    word(answer)
+    };
+    let mut clients = ClientsMut {
+        bytes: client_bytes,
+        words: client_words,
+    };
+    let acted = in_place::act(Call::Release(client, page), 0, &mut books, &mut clients);
+    word(acted.map(|acted| acted.answer))
 }
 
-// SPECIFICATION 3.3, 13.4, 14.5. The action's effect on store, bytes and marks is put into them after the pool's own, which no other call can come
-// between.
+/// SPECIFICATION 3.3, 13.4, 14.5. The action's effect on store, bytes and marks is put into them after the pool's own, which no other call can come
+/// between.
 pub fn foqheran_parts_step(
     client: u8,
     tally: &mut [u32; COUNTS],
@@ -245,16 +255,15 @@ pub fn foqheran_parts_step(
         client_words.new grant_pages.new grant_frames.new)
         store_pages bytes.new filled.new changed.new store.new) }
 {
-    if store.len() != PAGE * store_pages as usize {
-        *duty = 0;
-        return word(Answer::Refused(8));
+    *duty = 0;
+    if store.len() != PAGE * usize::from(store_pages) {
+        return word(Err(Refusal::OutOfRange));
     }
-    let acted = in_place::act(
-        Call::Step(client),
-        store_pages,
-        size,
-        client_count,
-        cap,
+    let Some(numbers) = Numbers::new(size, client_count, cap) else {
+        return word(Err(Refusal::OutOfRange));
+    };
+    let mut books = BooksMut {
+        numbers,
         hand,
         free,
         last,
@@ -264,25 +273,33 @@ pub fn foqheran_parts_step(
         counts,
         table_pages,
         table_frames,
-        client_bytes,
-        client_words,
         grant_pages,
         grant_frames,
-    );
-    let write = acted.write;
-    let entry = acted.entry;
-    effects::put_store(store, store_pages, bytes, changed, entry, write);
-    effects::put_bytes(bytes, entry, write);
-    effects::put_marks(filled, entry, write);
-    effects::put_marks(changed, entry, write);
-    let counted = acted.counted;
-    counting::count(tally, counted);
-    *duty = in_place::duty(entry, write);
-    let answer = acted.answer;
-    word(answer)
+    };
+    let mut clients = ClientsMut {
+        bytes: client_bytes,
+        words: client_words,
+    };
+    match in_place::act(Call::Step(client), store_pages, &mut books, &mut clients) {
+        Ok(acted) => {
+            let mut content = Content {
+                frames: Frames {
+                    pages: store_pages,
+                    bytes,
+                    filled,
+                },
+                changed,
+            };
+            content.follow(store, acted.entry, acted.write);
+            counting::count(tally, acted.counted);
+            *duty = in_place::duty(acted.entry, acted.write);
+            word(Ok(acted.answer))
+        }
+        Err(refusal) => word(Err(refusal)),
+    }
 }
 
-// SPECIFICATION 13.9, 14.6: of every pool whose clients and grants lie there.
+/// SPECIFICATION 13.9, 14.6: of every pool whose clients and grants lie there.
 pub fn foqheran_parts_read<'a>(
     client: u8,
     page: u32,
@@ -303,29 +320,30 @@ pub fn foqheran_parts_read<'a>(
         (state_from p store_pages bytes.old filled.old changed store.now)
         (state_from p store_pages bytes.new filled.new changed store.now) }
 {
-    let holder = holding::holder_of(
-        client,
-        page,
-        offset,
-        store.len(),
-        store_pages,
+    let grants = Grants {
         client_count,
-        client_bytes,
-        client_words,
-        grant_pages,
-        grant_frames,
-    );
-    let n = holder.refusal;
-    if n != 0 {
-        return word(Answer::Refused(n));
+        clients: Clients {
+            bytes: client_bytes,
+            words: client_words,
+        },
+        pages: grant_pages,
+        frames: grant_frames,
+    };
+    match grants.frame_of(client, page, offset, store.len(), store_pages) {
+        Ok(frame) => {
+            let mut frames = Frames {
+                pages: store_pages,
+                bytes,
+                filled,
+            };
+            frames.fill(store, frame, page);
+            word(Ok(Answer::Done(u32::from(frames.byte(frame, offset)))))
+        }
+        Err(refusal) => word(Err(refusal)),
     }
-    let frame = holder.frame;
-    filling::fill(bytes, filled, store, store_pages, frame, page);
-    let byte = filling::byte_of(bytes, frame, offset);
-    word(Answer::Done(byte as u32))
 }
 
-// SPECIFICATION 13.9, 14.6: of every pool whose clients and grants lie there.
+/// SPECIFICATION 13.9, 14.6: of every pool whose clients and grants lie there.
 pub fn foqheran_parts_write<'a>(
     client: u8,
     page: u32,
@@ -348,29 +366,32 @@ pub fn foqheran_parts_write<'a>(
         (state_from p store_pages bytes.old filled.old changed.old store.now)
         (state_from p store_pages bytes.new filled.new changed.new store.now) }
 {
-    let holder = holding::holder_of(
-        client,
-        page,
-        offset,
-        store.len(),
-        store_pages,
+    let grants = Grants {
         client_count,
-        client_bytes,
-        client_words,
-        grant_pages,
-        grant_frames,
-    );
-    let n = holder.refusal;
-    if n != 0 {
-        return word(Answer::Refused(n));
+        clients: Clients {
+            bytes: client_bytes,
+            words: client_words,
+        },
+        pages: grant_pages,
+        frames: grant_frames,
+    };
+    match grants.frame_of(client, page, offset, store.len(), store_pages) {
+        Ok(frame) => {
+            let frames = Frames {
+                pages: store_pages,
+                bytes,
+                filled,
+            };
+            let mut content = Content { frames, changed };
+            content.frames.fill(store, frame, page);
+            content.write(frame, offset, byte);
+            word(Ok(Answer::Done(page)))
+        }
+        Err(refusal) => word(Err(refusal)),
     }
-    let frame = holder.frame;
-    filling::fill(bytes, filled, store, store_pages, frame, page);
-    filling::put_byte(bytes, changed, frame, offset, byte);
-    word(Answer::Done(page))
 }
 
-// SPECIFICATION 8.2, 14.6: of every pool whose clients and grants lie there.
+/// SPECIFICATION 8.2, 14.6: of every pool whose clients and grants lie there.
 pub fn foqheran_parts_holdings<'a>(
     client: u8,
     rows: &mut [u32],
@@ -392,10 +413,10 @@ pub fn foqheran_parts_holdings<'a>(
         client_words,
         grant_pages,
     );
-    word(answer)
+    word(Ok(answer))
 }
 
-// SPECIFICATION 13.11, 14.8: the whole check 8, whatever the hand and the bytes are.
+/// SPECIFICATION 13.11, 14.8: the whole check 8, whatever the hand and the bytes are.
 pub fn foqheran_parts_check<'a>(
     store: &'a [u8],
     store_pages: u16,
@@ -445,5 +466,5 @@ pub fn foqheran_parts_check<'a>(
         grant_pages,
         grant_frames,
     );
-    word(answer)
+    word(Ok(answer))
 }
