@@ -251,7 +251,11 @@ pub fn stage16(client: Client, hand: u32, numbers: Numbers) -> Move
 {
     let size = u32::from(numbers.size);
     let by = growth(size, u32::from(client.place), client.start % size);
-    moves::works(client, Stage::RemoveEntry, Write::PutHand(hand.wrapping_add(by)))
+    moves::works(
+        client,
+        Stage::RemoveEntry,
+        Write::PutHand(hand.wrapping_add(by)),
+    )
 }
 
 /// By frame and not by page: the page may have been mapped anew (stage 22), and then it is not dropped. Read: the victim's page, the place of its

@@ -1,5 +1,6 @@
 -- The numbers that refusals and stages have in answers, reports and records: SPECIFICATION 3.6, sections 4 and 6. Assumes nothing.
 use Rattle.std.specs.Prelude.{◌≡◌, ℕ, ◌<◌, ◌⊎◌, Result, Ok, Err}
+use Rattle.std.proofs.Common.{arith}
 use Rattle.answers.specs.declared.refusal.Refusal.{Refusal}
 use Rattle.answers.specs.declared.refusal.Refusal.TheVariants.{TooLong, ReportFull, Cut, NoMark, NoSuchKind, SetupMisplaced, StepNamesPage, OutOfRange, NoSuchClient, AtWork, AtRest, HasEight, NotHeld, FewRows, AllBusy, OutsideStore, OutsidePage, HeldAlready}
 use Rattle.answers.specs.declared.stage.Stage.{Stage}
@@ -24,6 +25,27 @@ refusal_number AllBusy = 15
 refusal_number OutsideStore = 16
 refusal_number OutsidePage = 17
 refusal_number HeldAlready = 18
+
+-- no refusal has the number 0, by which is said that there is none
+pub some_refusal : (r : Refusal) → 0 < refusal_number r
+some_refusal TooLong = omega arith
+some_refusal ReportFull = omega arith
+some_refusal Cut = omega arith
+some_refusal NoMark = omega arith
+some_refusal NoSuchKind = omega arith
+some_refusal SetupMisplaced = omega arith
+some_refusal StepNamesPage = omega arith
+some_refusal OutOfRange = omega arith
+some_refusal NoSuchClient = omega arith
+some_refusal AtWork = omega arith
+some_refusal AtRest = omega arith
+some_refusal HasEight = omega arith
+some_refusal NotHeld = omega arith
+some_refusal FewRows = omega arith
+some_refusal AllBusy = omega arith
+some_refusal OutsideStore = omega arith
+some_refusal OutsidePage = omega arith
+some_refusal HeldAlready = omega arith
 
 -- the number that a result is refused by; 0: by none
 abbrev pub refused_by : {A : Type 0} → Result A Refusal → ℕ

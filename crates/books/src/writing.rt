@@ -82,12 +82,12 @@ impl BooksMut<'_> {
                     self.counts[f as usize] = count;
                 }
             }
-            Write::TakeFrame(f, page, pins, count) => {
+            Write::TakeFrame(f, page, pins, first) => {
                 *self.last = f;
                 if f < total {
                     self.pages[f as usize] = page;
                     self.pins[f as usize] = pins;
-                    self.counts[f as usize] = count;
+                    self.counts[f as usize] = first;
                 }
             }
             Write::PutEntry(i, page, frame) => {

@@ -29,9 +29,6 @@ use Rattle.content.specs.Acting.{low_offset, reads_as, writes_as}
 use Rattle.buffered.specs.Refusals.{read_refusals, write_refusals}
 use Rattle.buffered.specs.Ways.{turned_reply, turned, goes_on, by_store, by_checks, by_turn}
 
-abbrev pub state_with : Pool → Memory → List ℕ → State
-state_with p m s = record { pool = p; memory = m; store = s }
-
 -- ---- passed
 
 pub record Passed (x : State) (c o : ℕ) : Type 0 where

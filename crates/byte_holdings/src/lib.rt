@@ -23,15 +23,11 @@ use pool::{Answer, HELD, Listed, Pool, Row};
 fn books(pool: BufferPool) -> Pool
     ensures { (client : ℕ) (rows : List Row) → holdings_of result client rows ≡ holdings_on pool client rows }
 {
-    let within = pool.pool;
-    let memory = pool.memory;
-    let filled = memory.filled;
-    let changed = memory.changed;
-    let sound = byte_checks::sound(within, memory.pages, &filled, &changed);
+    let sound = checks::sound(&pool);
     if !sound {
         return calls::fresh(0, 0, 0, 0);
     }
-    within
+    pool.pool
 }
 
 // SPECIFICATION 8.2, 13.11. Where the call is turned down the list stays as it was.

@@ -33,26 +33,7 @@ pub fn step_tallied(mut pool: BufferPool, client: u8, tally: Tally, store: &mut 
     ensures among { Among by_step (refusal_of result.answer) }
 {
     let pages = pool.memory.pages;
-    let clients = pool.pool.clients;
-    let sound = byte_checks::parts_sound(
-        pool.pool.size,
-        pool.pool.client_count,
-        pool.pool.cap,
-        pool.pool.free,
-        pool.pool.last,
-        &pool.pool.slots,
-        &pool.pool.pages,
-        &pool.pool.pins,
-        &pool.pool.counts,
-        &pool.pool.table_pages,
-        &pool.pool.table_frames,
-        clients,
-        &pool.pool.grant_pages,
-        &pool.pool.grant_frames,
-        pages,
-        &pool.memory.filled,
-        &pool.memory.changed,
-    );
+    let sound = checks::sound(&pool);
     if !sound {
         return refused(pool, tally);
     }

@@ -10,17 +10,19 @@ ghost use Rattle.answers.specs.Among.{Among};
 ghost use Rattle.answers.specs.Refusals.{by_setup, by_begin, by_step, by_release};
 ghost use Rattle.calls.specs.Tallied.{stepped_of};
 
+use answers::Refusal;
+use books::Numbers;
 use pool::{
     Answer, CLIENTS, Call, Counted, EVICTED, FRAMES, GRANTS, NONE, Outcome, Pool, SLOTS, Tally,
 };
 
 // ---- setup
 
-// SPECIFICATION 1.8. Internal.
+/// SPECIFICATION 1.8. Internal.
 pub fn fresh(size: u8, client_count: u8, cap: u8, hand: u32) -> Pool
     ensures { result ≡ fresh size client_count cap hand }
 {
-    let resting = moves::resting(0);
+    let resting = actions::moves::resting(0);
     Pool {
         size,
         client_count,
@@ -40,25 +42,29 @@ pub fn fresh(size: u8, client_count: u8, cap: u8, hand: u32) -> Pool
     }
 }
 
-// SPECIFICATION 3.1; refusal 8.
+/// SPECIFICATION 3.1; refusal 8.
+#[tactic(auto, unfolding(pool::specs::Calls::setup_of, pool::specs::Answers::refusal_of, pool::specs::Choose::choose))]
 pub fn setup(size: u8, client_count: u8, cap: u8, hand: u32) -> Outcome
     ensures value { result ≡ setup_of size client_count cap hand }
     ensures among { Among by_setup (refusal_of result.answer) }
 {
-    let ok = range_tests::numbers_ok(size, client_count, cap);
-    if ok {
-        return Outcome {
-            answer: Answer::Done(size as u32),
+    match Numbers::new(size, client_count, cap) {
+        Some(_) => Outcome {
+            answer: Answer::Done(u32::from(size)),
             counted: Counted::Nothing,
             pool: fresh(size, client_count, cap, hand),
-        };
+        },
+        None => Outcome {
+            answer: Refusal::OutOfRange.into(),
+            counted: Counted::Nothing,
+            pool: fresh(0, 0, 0, 0),
+        },
     }
-    checked::turned_down(8, fresh(0, 0, 0, 0))
 }
 
 // ---- begin, step, release
 
-// SPECIFICATION 3.2.
+/// SPECIFICATION 3.2.
 pub fn begin(pool: Pool, client: u8, page: u32) -> Outcome
     ensures value { result ≡ call_of pool (Begin client page) }
     ensures among { Among by_begin (refusal_of result.answer) }
@@ -66,7 +72,7 @@ pub fn begin(pool: Pool, client: u8, page: u32) -> Outcome
     checked::call_of(pool, Call::Begin(client, page))
 }
 
-// SPECIFICATION 3.4.
+/// SPECIFICATION 3.4.
 pub fn release(pool: Pool, client: u8, page: u32) -> Outcome
     ensures value { result ≡ call_of pool (Release client page) }
     ensures among { Among by_release (refusal_of result.answer) }
@@ -76,34 +82,24 @@ pub fn release(pool: Pool, client: u8, page: u32) -> Outcome
 
 // ---- a step, with the tally
 
-// What a step leaves: its answer, the caller's tally brought up to date, the pool.
-#[derive(Clone, Copy)]
+/// What a step leaves: its answer, the caller's tally brought up to date, the pool.
+#[derive(Clone, Copy, Debug, PartialEq, Eq)]
 pub struct Stepped {
     pub answer: Answer,
     pub tally: Tally,
     pub pool: Pool,
 }
 
-// SPECIFICATION 3.3 and 7.2, by value: crate `step` has the form that is lent the tally.
-pub fn step_tallied(pool: Pool, client: u8, tally: Tally) -> Stepped
+/// SPECIFICATION 3.3 and 7.2, by value: crate `step` has the form that is lent the tally.
+pub fn step_tallied(pool: Pool, client: u8, mut tally: Tally) -> Stepped
     ensures value { result ≡ stepped_of pool client tally }
     ensures among { Among by_step (refusal_of result.answer) }
 {
-    let sound = validity::valid(pool);
-    if !sound {
-        return Stepped {
-            answer: Answer::Refused(8),
-            tally,
-            pool,
-        };
-    }
-    let made = checked::call_made(pool, Call::Step(client));
-    let answer = made.answer;
-    let counted = made.counted;
-    let after = made.pool;
+    let made = checked::call_on(&pool, Call::Step(client));
+    tallies::count(&mut tally, made.counted);
     Stepped {
-        answer,
-        tally: tallies::tallied(counted, tally),
-        pool: after,
+        answer: made.answer,
+        tally,
+        pool: made.pool,
     }
 }

@@ -1,30 +1,32 @@
 -- The ways that a call of a valid pool goes, each by what the code has tested of its turn. Assumes nothing.
 use Rattle.std.specs.Prelude.{◌≡◌, refl, ◌≢◌, ◌⊎◌, Bool, true, false, ℕ, eqb}
-use Rattle.std.proofs.Common.{sym, ◌∙◌, inl, inr, eq-eqb, ne_eqb}
+use Rattle.std.proofs.Common.{sym, ◌∙◌, inl, inr, eq-eqb, ne_eqb, true≢false}
 use Rattle.std.proofs.Math.Path.{ap}
 use Rattle.std.proofs.Math.Bool.{not}
 use Rattle.std.proofs.Math.Decide.{ℕ_discrete}
-use Rattle.pool.specs.Choose.{choose, both}
+use Rattle.pool.specs.Choose.{choose, both, either}
 use Rattle.pool.specs.Answers.{refusal_of}
 use Rattle.pool.specs.State.{client}
+use Rattle.pool.specs.Apply.{apply}
 use Rattle.pool.specs.Valid.{valid}
-use Rattle.pool.specs.Calls.{turned_down, turned_by, release_move, move_of, finished, call_of}
+use Rattle.pool.specs.Calls.{caller, turned_down, turned_by, release_move, move_of, finished, call_of}
 use Rattle.pool.specs.declared.Call.{Call}
 use Rattle.pool.specs.declared.Call.TheVariants.{Begin, Step, Release}
 use Rattle.pool.specs.declared.Client.{Client}
 use Rattle.pool.specs.declared.Move.{Move}
+use Rattle.pool.specs.declared.Outcome.{Outcome}
 use Rattle.pool.specs.declared.Pool.{Pool}
 use Rattle.pool.specs.declared.Write.{Write}
 use Rattle.pool.specs.declared.Write.TheVariants.{Keep}
+use Rattle.pool.specs.declared.Answer.{Answer}
 use Rattle.pool.specs.declared.Answer.TheVariants.{Refused}
 use Rattle.pool.specs.declared.Counted.TheVariants.{Nothing}
 use Rattle.laws.specs.Choices.{by_test, chosen, passed}
 use Rattle.laws.specs.StageAnswers.{StageAnswer, goes, grants, refuses, sticks, stage_answer}
 use Rattle.memory.specs.Requests.{refused, write_of}
-use Rattle.play.specs.Turn.{turn, played, moves, stays}
-use Rattle.play.specs.Calls.{turned_down_by, as_turn}
-use Rattle.copied.specs.Copies.{copy_of}
-use Rattle.copied.specs.declared.Made.{Made}
+use Rattle.play.specs.Turn.{turn, moves, stays}
+use Rattle.play.specs.Calls.{turned_down_by, goes_on}
+use Rattle.checked.specs.declared.Made.{Made}
 
 -- ---- what a call leaves and what it wrote
 
@@ -45,6 +47,13 @@ unfolding write_of refused choose
 as_unmade p call n e = rw e
 
 -- ---- by which numbers a move is refused
+
+-- SPECIFICATION 3.9: whether an action may have changed something: it is not refused, or by 15, which leaves what its client did
+abbrev pub with_refusal : ℕ → Bool
+with_refusal n = either (eqb n 0) (eqb n 15)
+
+unfoldable pub acts : Answer → Bool
+acts a = with_refusal (refusal_of a)
 
 abbrev MoveRefusal : ℕ → Type 0
 MoveRefusal n = (n ≡ 0) ⊎ (n ≡ 8) ⊎ (n ≡ 15)
@@ -87,14 +96,18 @@ unfolding choose
 either_way true = refl
 either_way false = refl
 
+by_move : {m : Move} → Wrote m → choose (refused m.answer) Keep m.write ≡ m.write
+unfolding refused choose
+by_move (answers e) = rw e
+by_move {m} (nothing e) = rw e (either_way (refused m.answer))
+
+pub move_writes : (p : Pool) (call : Call) → choose (refused (move_of p call).answer) Keep (move_of p call).write ≡ (move_of p call).write
+move_writes p call = by_move (move_wrote p call)
+
 pub turn_wrote : (p : Pool) (call : Call) → choose (refused (turn p call).answer) Keep (move_of p call).write ≡ (turn p call).write
 unfolding refused choose
 turn_wrote p call = go (ℕ_discrete (turned_by p call) 0)
   where
-    by_move : {m : Move} → Wrote m → choose (refused m.answer) Keep m.write ≡ m.write
-    by_move (answers e) = rw e
-    by_move {m} (nothing e) = rw e (either_way (refused m.answer))
-
     go : Dec (turned_by p call ≡ 0) → choose (refused (turn p call).answer) Keep (move_of p call).write ≡ (turn p call).write
     go (yes z) = rw (moves p call z) (by_move (move_wrote p call))
     go (no z) = rw (stays p call z)
@@ -102,43 +115,51 @@ turn_wrote p call = go (ℕ_discrete (turned_by p call) 0)
 -- ---- the ways
 
 module _ (p : Pool) (call : Call) (v : valid p ≡ true) where
-  stuck : refusal_of (turn p call).answer ≡ 8 → call_of p call ≡ turned_down 8 p
-  unfolding finished both
-  stuck e = as_turn p call v ∙ passed _ _ _ (passed _ _ _ (ap not (eq-eqb _ _ e)))
+  pub by_turn : (n : ℕ) → turned_by p call ≡ n → n ≢ 0 → call_of p call ≡ turned_down n p
+  by_turn n e some = turned_down_by p call v (λ z. some (sym e ∙ z)) ∙ ap (λ (k : ℕ). turned_down k p) e
 
-  -- a turn that is refused by another number than 15 changes nothing
-  pub nothing_changes : (n : ℕ) → n ≡ refusal_of (turn p call).answer → n ≢ 0 → n ≢ 15 → call_of p call ≡ turned_down n p
-  unfolding refusal_of
-  nothing_changes n e some not_15 = go (ℕ_discrete (turned_by p call) 0)
-    where
-      by_number : MoveRefusal n → call_of p call ≡ turned_down n p
-      by_number (inl z) = absurd (some z)
-      by_number (inr (inl z)) = stuck (sym e ∙ z) ∙ ap (λ (n : ℕ). turned_down n p) (sym z)
-      by_number (inr (inr z)) = absurd (not_15 z)
+  -- of a call that nothing turns down
+  module _ (z : turned_by p call ≡ 0) where
+    abbrev pub after : Outcome
+    after = let m = move_of p call in record { answer = m.answer; counted = m.counted; pool = apply p (caller call) m }
 
-      go : Dec (turned_by p call ≡ 0) → call_of p call ≡ turned_down n p
-      go (yes z) = by_number (rw (e, moves p call z) (move_refusal p call))
-      go (no z) = turned_down_by p call v z ∙ ap (λ (n : ℕ). turned_down n p) (sym (e ∙ ap (λ (m : Move). refusal_of m.answer) (stays p call z)))
+    -- a move that is refused by another number than 15 is so by 8, and changes nothing
+    pub stops : acts (move_of p call).answer ≡ false → call_of p call ≡ turned_down 8 p
+    unfolding acts either choose finished both
+    stops e = go (move_refusal p call)
+      where
+        n : ℕ
+        n = refusal_of (move_of p call).answer
 
-  module _ (not_8 : refusal_of (turn p call).answer ≢ 8) where
-    after : {b : Bool} → valid (played p call).pool ≡ b → both (not (eqb (refusal_of (turn p call).answer) 8)) (valid (played p call).pool) ≡ b
-    unfolding both
-    after w = chosen _ _ _ (ap not (ne_eqb _ _ not_8)) ∙ w
+        go : MoveRefusal n → call_of p call ≡ turned_down 8 p
+        go (inl e0) = absurd (true≢false (ap with_refusal (sym e0) ∙ e))
+        go (inr (inl e8)) = goes_on p call v z ∙ passed _ _ _ (passed _ _ _ (ap not (eq-eqb _ _ e8)))
+        go (inr (inr e15)) = absurd (true≢false (ap with_refusal (sym e15) ∙ e))
 
-    pub breaks : valid (played p call).pool ≡ false → call_of p call ≡ turned_down 8 p
-    unfolding finished
-    breaks w = as_turn p call v ∙ passed _ _ _ (after w)
+    module _ (a : acts (move_of p call).answer ≡ true) where
+      not_8 : refusal_of (move_of p call).answer ≢ 8
+      unfolding acts either choose
+      not_8 e = true≢false (sym a ∙ ap with_refusal e)
 
-    pub keeps : valid (played p call).pool ≡ true → call_of p call ≡ played p call
-    unfolding finished
-    keeps w = as_turn p call v ∙ chosen _ _ _ (after w)
+      tested : {b : Bool} → valid after.pool ≡ b → both (not (eqb (refusal_of (move_of p call).answer) 8)) (valid after.pool) ≡ b
+      unfolding both
+      tested w = chosen _ _ _ (ap not (ne_eqb _ _ not_8)) ∙ w
 
-    -- what was written is what the turn wrote
-    pub as_made : valid (played p call).pool ≡ true → copy_of p call ≡ made_of p call
-    unfolding write_of
-    as_made w = rw (keeps w) (ap (λ (x : Write). record {
-      answer = (played p call).answer;
-      counted = (played p call).counted;
-      write = x;
-      pool = (played p call).pool;
-    }) (sym (turn_wrote p call)))
+      pub breaks : valid after.pool ≡ false → call_of p call ≡ turned_down 8 p
+      unfolding finished
+      breaks w = goes_on p call v z ∙ passed _ _ _ (tested w)
+
+      keeps : valid after.pool ≡ true → call_of p call ≡ after
+      unfolding finished
+      keeps w = goes_on p call v z ∙ chosen _ _ _ (tested w)
+
+      -- what was written is what the move wrote
+      pub as_made : valid after.pool ≡ true
+          → record { answer = after.answer; counted = after.counted; write = (move_of p call).write; pool = after.pool } ≡ made_of p call
+      unfolding write_of
+      as_made w = rw (keeps w) (ap (λ (x : Write). record {
+        answer = after.answer;
+        counted = after.counted;
+        write = x;
+        pool = after.pool;
+      }) (sym (move_writes p call)))

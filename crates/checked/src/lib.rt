@@ -1,103 +1,99 @@
-// A call on any pool, by value: check 8 of the pool as handed, the call's turn on a copy of it, and check 8 of the copy. A call that is refused by
-// another number than 15 hands the pool back as it came. Internal: crate `calls` has the calls by name, and crates `buffered` and `byte_step` those of
-// a pool with bytes, which need what the call wrote.
+// A call on any pool: check 8 of the pool as handed, the call's turn on a copy of it, and check 8 of the copy. A call that is refused by another number
+// than 15 leaves the pool as it came. Internal: crate `calls` has the calls by name, and crates `buffered` and `byte_step` those of a pool with bytes,
+// which need what the call wrote.
 #![tactic(auto)]
 
-ghost use Rattle.std.specs.Prelude.{◌≡◌, true};
-ghost use Rattle.pool.specs.Valid.{valid};
-ghost use Rattle.pool.specs.Calls.{turned_down, turned_by, call_of};
-ghost use Rattle.checked.specs.Ways.{unmade_by, made_of};
+ghost use Rattle.std.specs.Prelude.{◌≡◌, MatchResult};
+ghost use Rattle.pool.specs.Calls.{turned_down, call_of};
+ghost use Rattle.answers.specs.Numbers.{refusal_number};
+ghost use Rattle.checked.specs.Ways.{acts, unmade_by, made_of};
 
-use copied::Made;
+use answers::Refusal;
+use books::Checked;
 use pool::{Answer, Call, Counted, Outcome, Pool, Write};
 
-// The one refusal that leaves what its client did (SPECIFICATION 3.9): the sweep met only busy slots.
-const ALL_BUSY: u8 = 15;
-
-// The pool as it was, and the number that the call is refused by.
-pub fn turned_down(n: u8, pool: Pool) -> Outcome
-    ensures { result ≡ turned_down n pool }
-{
-    Outcome {
-        answer: Answer::Refused(n),
-        counted: Counted::Nothing,
-        pool,
-    }
+/// What a call leaves, and what it wrote to the pool.
+#[derive(Clone, Copy)]
+pub struct Made {
+    pub answer: Answer,
+    pub counted: Counted,
+    pub write: Write,
+    pub pool: Pool,
 }
 
-// The same, with nothing written.
-fn unmade(n: u8, pool: Pool) -> Made
-    ensures { result ≡ unmade_by n pool }
+/// The pool as it was, and nothing written.
+fn unmade(refusal: Refusal, pool: &Pool) -> Made
+    ensures { result ≡ unmade_by (refusal_number refusal) pool.now }
 {
     Made {
-        answer: Answer::Refused(n),
+        answer: refusal.into(),
         counted: Counted::Nothing,
         write: Write::Keep,
-        pool,
+        pool: *pool,
     }
 }
 
-// By which of 9 to 13 and 18 a call on a pool that passes check 8 is turned down; 0: by none of them.
-pub fn turned_by(pool: Pool, call: Call) -> u8
-    requires { valid pool ≡ true }
-    ensures { result ≡ turned_by pool call }
+/// Whether an action may have changed something: one that is refused by another number than 15 has not (SPECIFICATION 3.9).
+#[tactic(auto, unfolding(crate::specs::Ways::acts, pool::specs::Choose::either, pool::specs::Choose::choose))]
+fn acts(answer: Answer) -> bool
+    ensures { result ≡ acts answer }
 {
-    let caller = answers::caller(call);
-    let number = play::client_or_first(pool.client_count, caller);
-    let clients = pool.clients;
-    let client = clients[number];
-    refusals::turned_by(call, pool.client_count, client, &pool.grant_pages)
-}
-
-// A call on a pool that passes check 8. A turn that is refused by another number than 15 changes nothing, so that its copy needs no check. The copy is
-// lent to the check part by part, as another copy would cost more than the check.
-pub fn call_made(pool: Pool, call: Call) -> Made
-    requires { valid pool ≡ true }
-    ensures { result ≡ made_of pool call }
-{
-    let turned = copied::on_copy(pool, call);
-    let answer = turned.answer;
     let refused = answers::refusal_of(answer);
-    if refused != 0 && refused != ALL_BUSY {
-        return unmade(refused, pool);
-    }
-    let clients = turned.pool.clients;
-    let still_sound = validity::parts_ok(
-        turned.pool.size,
-        turned.pool.client_count,
-        turned.pool.cap,
-        turned.pool.free,
-        turned.pool.last,
-        &turned.pool.slots,
-        &turned.pool.pins,
-        &turned.pool.counts,
-        &turned.pool.table_pages,
-        &turned.pool.table_frames,
-        clients,
-        &turned.pool.grant_pages,
-        &turned.pool.grant_frames,
-    );
-    if !still_sound {
-        return unmade(8, pool);
-    }
-    turned
+    refused == 0 || refused == Refusal::AllBusy.number()
 }
 
-// A call on any pool.
+/// The turn of a call, played on a copy of the pool, which is then checked; one that changes nothing is not played.
+fn attempt(pool: &Checked, call: Call) -> Result<Made, Refusal>
+    ensures { MatchResult result (λ m. m ≡ made_of pool.now.pool.now call)
+        (λ e. call_of pool.now.pool.now call ≡ turned_down (refusal_number e) pool.now.pool.now) }
+{
+    let turn = play::turn(pool, call)?;
+    if !acts(turn.answer) {
+        return Err(Refusal::OutOfRange);
+    }
+    let mut next = *pool.pool;
+    let c = answers::caller(call) as usize;
+    play::put(&mut next, pool.numbers, c, &turn);
+    if checks::valid(&next) {
+        Ok(Made {
+            answer: turn.answer,
+            counted: turn.counted,
+            write: turn.write,
+            pool: next,
+        })
+    } else {
+        Err(Refusal::OutOfRange)
+    }
+}
+
+/// A call on a pool that passes check 8.
+pub fn call_made(pool: &Checked, call: Call) -> Made
+    ensures { result ≡ made_of pool.now.pool.now call }
+{
+    match attempt(pool, call) {
+        Ok(made) => made,
+        Err(refusal) => unmade(refusal, pool.pool),
+    }
+}
+
+/// A call on any pool, with what it wrote.
+pub fn call_on(pool: &Pool, call: Call) -> Made
+    ensures { result ≡ made_of pool.now call }
+{
+    match checks::checked(pool) {
+        Ok(checked) => call_made(&checked, call),
+        Err(refusal) => unmade(refusal, pool),
+    }
+}
+
+/// A call on any pool.
 pub fn call_of(pool: Pool, call: Call) -> Outcome
     ensures { result ≡ call_of pool call }
 {
-    let sound = validity::valid(pool);
-    if !sound {
-        return turned_down(8, pool);
-    }
-    let made = call_made(pool, call);
-    let answer = made.answer;
-    let counted = made.counted;
-    let next = made.pool;
+    let made = call_on(&pool, call);
     Outcome {
-        answer,
-        counted,
-        pool: next,
+        answer: made.answer,
+        counted: made.counted,
+        pool: made.pool,
     }
 }

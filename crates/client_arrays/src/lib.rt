@@ -126,3 +126,11 @@ impl ClientsMut<'_> {
         }
     }
 }
+
+/// Client c, for crate `listing`.
+pub fn client_at<'a>(bytes: &'a [u8; ALL_BYTES], words: &'a [u32; ALL_WORDS], c: usize) -> Client
+    requires { c < max_clients }
+    ensures { result ≡ client_from bytes.now words.now c }
+{
+    Clients { bytes, words }.get(c)
+}

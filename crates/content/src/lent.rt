@@ -68,12 +68,12 @@ impl Frames<'_> {
 
 /// What the frames hold, and the marks of those that were written since: what a write is lent, and a step.
 #[derive(Drop)]
-pub struct Content<'a> {
-    pub frames: Frames<'a>,
-    pub changed: &'a mut [u8; FRAMES],
+pub struct Content<'f, 'c> {
+    pub frames: Frames<'f>,
+    pub changed: &'c mut [u8; FRAMES],
 }
 
-impl Content<'_> {
+impl Content<'_, '_> {
     /// All that an action does to store, bytes and marks, by what it writes to the pool: SPECIFICATION 13.6 to 13.8. `entry` is the frame of the entry
     /// that the write replaces, as it was before; a number as the table has it, NONE too, since no frame is asked for but by its number.
     pub fn follow(&mut self, store: &mut [u8], entry: u8, write: Write)

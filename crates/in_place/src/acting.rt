@@ -1,7 +1,7 @@
-ghost use Rattle.std.specs.Prelude.{◌≡◌, IfOk, Ok};
+ghost use Rattle.std.specs.Prelude.{◌≡◌, IfOk};
 ghost use Rattle.pool.specs.Choose.{choose};
 ghost use Rattle.answers.specs.Numbers.{refused_by};
-ghost use Rattle.memory.specs.Requests.{in_order, outside_at};
+ghost use Rattle.memory.specs.Requests.{outside_at};
 ghost use Rattle.content.specs.Effects.{replaced_of};
 ghost use Rattle.books.specs.Books.{pool_in, pool_of, SameLoans};
 ghost use Rattle.client_arrays.specs.Loans.{clients_in, clients_of, SameClients};
@@ -29,20 +29,8 @@ fn is_outside(store_pages: u16, call: Call) -> bool
     ensures { outside_at store_pages call ≡ choose result 16 0 }
 {
     match call {
-        Call::Begin(_, page) => !byte_checks::inside(store_pages, page),
+        Call::Begin(_, page) => !checks::inside(store_pages, page),
         Call::Step(_) | Call::Release(..) => false,
-    }
-}
-
-/// Refusal 16 comes before 18 and after all others: SPECIFICATION 13.10.
-#[tactic(auto, unfolding(memory::specs::Requests::in_order, memory::specs::Requests::first_of, pool::specs::Choose::choose))]
-fn ordered(turn: Result<Move, Refusal>, outside: bool) -> Result<Move, Refusal>
-    ensures number { refused_by result ≡ in_order (refused_by turn) (choose outside 16 0) }
-    ensures same { IfOk result (λ m. turn ≡ Ok m) }
-{
-    match turn {
-        Ok(_) | Err(Refusal::HeldAlready) if outside => Err(Refusal::OutsideStore),
-        turn => turn,
     }
 }
 
@@ -61,7 +49,10 @@ fn turn(books: &Books, clients: &Clients, call: Call, store_pages: u16) -> Resul
     }
     let fresh = fresh_frame(books, clients, &client)?;
     let turn = play::decide(books, call, client, fresh);
-    ordered(turn, is_outside(store_pages, call))
+    if is_outside(store_pages, call) {
+        return Err(checks::outside(turn));
+    }
+    turn
 }
 
 /// A begin, step or release, beside a store of so many pages: SPECIFICATION 14.4, 14.5. Refused it changes nothing.

@@ -28,7 +28,7 @@ use Rattle.in_place.specs.Held.{Held, turned_away, held_of, byte_held_refusal, b
 use Rattle.in_place.specs.Acts.{held_by}
 use Rattle.in_place.specs.declared.acting.Acted.{Acted}
 use Rattle.listing.specs.Listed.{HeldRows}
-use Rattle.whole_check.specs.Checked.{checked_of}
+use Rattle.checks.specs.Checked.{checked_of}
 use Rattle.play.specs.Parts.{pool_of}
 use Rattle.served.specs.Words.{word_of}
 

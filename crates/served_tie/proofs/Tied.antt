@@ -46,7 +46,7 @@ use Rattle.mixed.proofs.Answers.{never_8}
 use Rattle.mixed.proofs.Passes.{bytes_yes}
 use Rattle.mixed.proofs.Guaranteed.{guarantee_on}
 use Rattle.listing.specs.Listed.{row_numbers, listing_as}
-use Rattle.whole_check.specs.Checked.{checked_of}
+use Rattle.checks.specs.Checked.{checked_of}
 use Rattle.counting.specs.Counts.{tally_from}
 use Rattle.holding.specs.Holds.{Keeps}
 use Rattle.in_place.specs.Held.{Held, held_refusal, held_of, held_state, byte_held_refusal, byte_held, held_on}

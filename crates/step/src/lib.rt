@@ -14,14 +14,14 @@ ghost use Rattle.step.specs.Answers.{answered_of};
 use calls::Stepped;
 use pool::{Answer, Pool, Tally};
 
-// What a step returns: its answer and the pool.
+/// What a step returns: its answer and the pool.
 #[derive(Clone, Copy)]
 pub struct Answered {
     pub answer: Answer,
     pub pool: Pool,
 }
 
-// SPECIFICATION 3.3. A step that is turned down leaves the tally as it was lent (SPECIFICATION 3.10): so says `tally_after`.
+/// SPECIFICATION 3.3. A step that is turned down leaves the tally as it was lent (SPECIFICATION 3.10): so says `tally_after`.
 pub fn step(pool: Pool, client: u8, tally: &mut Tally) -> Answered
     ensures value { (result ≡ answered_of pool client) × (tally.new ≡ tally_after pool client tally.old) }
     ensures among { Among by_step (refusal_of result.answer) }
@@ -34,7 +34,7 @@ pub fn step(pool: Pool, client: u8, tally: &mut Tally) -> Answered
     }
 }
 
-// The step on a tally that this function owns, lends to `step` and hands back, so that those who call it lend nothing.
+/// The step on a tally that this function owns, lends to `step` and hands back, so that those who call it lend nothing.
 pub fn step_of(pool: Pool, client: u8, tally: Tally) -> Stepped
     ensures value { result ≡ stepped_of pool client tally }
     ensures among { Among by_step (refusal_of result.answer) }

@@ -2,44 +2,23 @@
 #![tactic(auto)]
 
 ghost use Rattle.std.specs.Prelude.{◌≡◌};
-ghost use Rattle.pool.specs.Tallies.{up, tallied};
+ghost use Rattle.pool.specs.Tallies.{tallied};
 
 use pool::{Counted, Tally};
 
-// SPECIFICATION 7.1. A count that went on past its largest value would start again from 0.
-#[tactic(auto, using(laws::specs::Choices::tests), unfolding(pool::specs::Tallies::up, pool::specs::Choose::choose))]
-pub fn up(n: u32) -> u32
-    ensures { result ≡ up n }
+/// SPECIFICATION 7.1. What an action is counted as is said where it is decided, in crate `actions`. A count that went on past its largest value would
+/// start again from 0, so it stays there.
+#[tactic(auto, unfolding(pool::specs::Tallies::tallied, pool::specs::Tallies::up, pool::specs::Choose::choose))]
+pub fn count(tally: &mut Tally, counted: Counted)
+    ensures { tally.new ≡ tallied counted tally.old }
 {
-    if n < 4294967295 { n + 1 } else { n }
-}
-
-// SPECIFICATION 7.1. What an action is counted as is said where it is decided, in crates `stages` and `moves`.
-#[tactic(auto, unfolding(pool::specs::Tallies::tallied))]
-pub fn tallied(counted: Counted, tally: Tally) -> Tally
-    ensures { result ≡ tallied counted tally }
-{
-    let mut next = tally;
     match counted {
         Counted::Nothing => {}
-        Counted::Hit => {
-            next.hits = up(tally.hits);
-        }
-        Counted::Join => {
-            next.joins = up(tally.joins);
-        }
-        Counted::Admitted => {
-            next.admitted = up(tally.admitted);
-        }
-        Counted::Revived => {
-            next.revived = up(tally.revived);
-        }
-        Counted::Drop => {
-            next.drops = up(tally.drops);
-        }
-        Counted::Refusal => {
-            next.refused = up(tally.refused);
-        }
+        Counted::Hit => tally.hits = tally.hits.saturating_add(1),
+        Counted::Join => tally.joins = tally.joins.saturating_add(1),
+        Counted::Admitted => tally.admitted = tally.admitted.saturating_add(1),
+        Counted::Revived => tally.revived = tally.revived.saturating_add(1),
+        Counted::Drop => tally.drops = tally.drops.saturating_add(1),
+        Counted::Refusal => tally.refused = tally.refused.saturating_add(1),
     }
-    next
 }

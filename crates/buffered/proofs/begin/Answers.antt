@@ -15,7 +15,7 @@ use Rattle.buffered.proofs.begin.Goals as goal
 
 pub returns-then-not-sound : goal.returns-then-not-sound
 returns-then-not-sound c =
-    let tested : (b : Bool) → c.sound-sound.result ≡ b → let p = c.args.pool in both (valid p.pool) (bytes_ok p.pool p.memory) ≡ b = λ b e. sym (c.sound-sound.ensures c.args.pool.memory refl refl refl) ∙ e in
+    let tested : (b : Bool) → c.sound-sound.result ≡ b → let p = c.args.pool in both (valid p.pool) (bytes_ok p.pool p.memory) ≡ b = λ b e. sym c.sound-sound.ensures ∙ e in
     let a = c.args in
     record {
       by_index = (replies by_begin_on (Asks (Begin a.client a.page)) a.pool (λ x. begin_refusals x a.client a.page)
@@ -26,13 +26,13 @@ returns-then-not-sound c =
 
 pub outside-requires : goal.outside-requires
 outside-requires c =
-    let tested : (b : Bool) → c.sound-sound.result ≡ b → let p = c.args.pool in both (valid p.pool) (bytes_ok p.pool p.memory) ≡ b = λ b e. sym (c.sound-sound.ensures c.args.pool.memory refl refl refl) ∙ e in
+    let tested : (b : Bool) → c.sound-sound.result ≡ b → let p = c.args.pool in both (valid p.pool) (bytes_ok p.pool p.memory) ≡ b = λ b e. sym c.sound-sound.ensures ∙ e in
     let passed : let p = c.args.pool in both (valid p.pool) (bytes_ok p.pool p.memory) ≡ true = tested _ (not-false _ c.if-not-sound.false-raw) in
     both_first _ _ passed
 
 pub returns-then-not-inside : goal.returns-then-not-inside
 returns-then-not-inside c =
-    let tested : (b : Bool) → c.sound-sound.result ≡ b → let p = c.args.pool in both (valid p.pool) (bytes_ok p.pool p.memory) ≡ b = λ b e. sym (c.sound-sound.ensures c.args.pool.memory refl refl refl) ∙ e in
+    let tested : (b : Bool) → c.sound-sound.result ≡ b → let p = c.args.pool in both (valid p.pool) (bytes_ok p.pool p.memory) ≡ b = λ b e. sym c.sound-sound.ensures ∙ e in
     let passed : let p = c.args.pool in both (valid p.pool) (bytes_ok p.pool p.memory) ≡ true = tested _ (not-false _ c.if-not-sound.false-raw) in
     let a = c.args in
     record {
@@ -46,13 +46,13 @@ returns-then-not-inside c =
 
 pub call_made-made-requires : goal.call_made-made-requires
 call_made-made-requires c =
-    let tested : (b : Bool) → c.sound-sound.result ≡ b → let p = c.args.pool in both (valid p.pool) (bytes_ok p.pool p.memory) ≡ b = λ b e. sym (c.sound-sound.ensures c.args.pool.memory refl refl refl) ∙ e in
+    let tested : (b : Bool) → c.sound-sound.result ≡ b → let p = c.args.pool in both (valid p.pool) (bytes_ok p.pool p.memory) ≡ b = λ b e. sym c.sound-sound.ensures ∙ e in
     let passed : let p = c.args.pool in both (valid p.pool) (bytes_ok p.pool p.memory) ≡ true = tested _ (not-false _ c.if-not-sound.false-raw) in
     both_first _ _ passed
 
 pub returns : goal.returns
 returns c =
-    let tested : (b : Bool) → c.sound-sound.result ≡ b → let p = c.args.pool in both (valid p.pool) (bytes_ok p.pool p.memory) ≡ b = λ b e. sym (c.sound-sound.ensures c.args.pool.memory refl refl refl) ∙ e in
+    let tested : (b : Bool) → c.sound-sound.result ≡ b → let p = c.args.pool in both (valid p.pool) (bytes_ok p.pool p.memory) ≡ b = λ b e. sym c.sound-sound.ensures ∙ e in
     let passed : let p = c.args.pool in both (valid p.pool) (bytes_ok p.pool p.memory) ≡ true = tested _ (not-false _ c.if-not-sound.false-raw) in
     let a = c.args in
     record {

@@ -14,7 +14,7 @@ use Rattle.buffered.proofs.release.Goals as goal
 
 pub returns-then-not-ok : goal.returns-then-not-ok
 returns-then-not-ok c =
-    let tested : (b : Bool) → c.sound-ok.result ≡ b → let p = c.args.pool in both (valid p.pool) (bytes_ok p.pool p.memory) ≡ b = λ b e. sym (c.sound-ok.ensures c.args.pool.memory refl refl refl) ∙ e in
+    let tested : (b : Bool) → c.sound-ok.result ≡ b → let p = c.args.pool in both (valid p.pool) (bytes_ok p.pool p.memory) ≡ b = λ b e. sym c.sound-ok.ensures ∙ e in
     let a = c.args in
     record {
       by_index = (replies by_release (Asks (Release a.client a.page)) a.pool (λ x. release_refusals x a.client a.page)
@@ -25,13 +25,13 @@ returns-then-not-ok c =
 
 pub call_made-made-requires : goal.call_made-made-requires
 call_made-made-requires c =
-    let tested : (b : Bool) → c.sound-ok.result ≡ b → let p = c.args.pool in both (valid p.pool) (bytes_ok p.pool p.memory) ≡ b = λ b e. sym (c.sound-ok.ensures c.args.pool.memory refl refl refl) ∙ e in
+    let tested : (b : Bool) → c.sound-ok.result ≡ b → let p = c.args.pool in both (valid p.pool) (bytes_ok p.pool p.memory) ≡ b = λ b e. sym c.sound-ok.ensures ∙ e in
     let passed : let p = c.args.pool in both (valid p.pool) (bytes_ok p.pool p.memory) ≡ true = tested _ (not-false _ c.if-not-ok.false-raw) in
     both_first _ _ passed
 
 pub returns : goal.returns
 returns c =
-    let tested : (b : Bool) → c.sound-ok.result ≡ b → let p = c.args.pool in both (valid p.pool) (bytes_ok p.pool p.memory) ≡ b = λ b e. sym (c.sound-ok.ensures c.args.pool.memory refl refl refl) ∙ e in
+    let tested : (b : Bool) → c.sound-ok.result ≡ b → let p = c.args.pool in both (valid p.pool) (bytes_ok p.pool p.memory) ≡ b = λ b e. sym c.sound-ok.ensures ∙ e in
     let passed : let p = c.args.pool in both (valid p.pool) (bytes_ok p.pool p.memory) ≡ true = tested _ (not-false _ c.if-not-ok.false-raw) in
     let a = c.args in
     record {

@@ -42,12 +42,12 @@ refused b c rows e = go (valid b.pool) (bytes_ok b.pool b.memory) refl e
 
 pub returns-then-not-sound : goal.returns-then-not-sound
 returns-then-not-sound c =
-    λ client rows. let tested : (b : Bool) → c.sound-sound.result ≡ b → let p = c.args.pool in both (valid p.pool) (bytes_ok p.pool p.memory) ≡ b = λ b e. sym (c.sound-sound.ensures c.args.pool.memory refl refl refl) ∙ e in
+    λ client rows. let tested : (b : Bool) → c.sound-sound.result ≡ b → let p = c.args.pool in both (valid p.pool) (bytes_ok p.pool p.memory) ≡ b = λ b e. sym c.sound-sound.ensures ∙ e in
     ap (λ (p : Pool). holdings_of p client rows) c.fresh.ensures ∙ by_own _ client rows (never_valid _ _ _)
     ∙ refused c.args.pool client rows (tested _ (not-true _ c.if-not-sound.true-raw))
 
 pub returns : goal.returns
 unfolding holdings_on
 returns c =
-    λ client rows. let tested : (b : Bool) → c.sound-sound.result ≡ b → let p = c.args.pool in both (valid p.pool) (bytes_ok p.pool p.memory) ≡ b = λ b e. sym (c.sound-sound.ensures c.args.pool.memory refl refl refl) ∙ e in
+    λ client rows. let tested : (b : Bool) → c.sound-sound.result ≡ b → let p = c.args.pool in both (valid p.pool) (bytes_ok p.pool p.memory) ≡ b = λ b e. sym c.sound-sound.ensures ∙ e in
     sym (chosen _ _ _ (both_second _ _ (tested _ (not-false _ c.if-not-sound.false-raw))))

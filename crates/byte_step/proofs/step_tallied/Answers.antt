@@ -6,6 +6,7 @@ use mathlib.Core.Path.{◌≡◌, sym, ap, ◌∙◌}
 use mathlib.Core.Bool.{Bool, true}
 use Prim.Native.Nat.{ℕ, ◌*◌, ◌≤◌}
 use lib.ListN.{length}
+use Rattle.std.proofs.Common.{rules}
 use Rattle.pool.specs.Limits.{max_frames}
 use Rattle.pool.specs.Choose.{both}
 use Rattle.pool.specs.Valid.{valid}
@@ -69,11 +70,6 @@ returns c =
     let passes : let p = c.args.pool in both (valid p.pool) (bytes_ok p.pool p.memory) ≡ true = tested _ (not-false _ c.if-not-sound.false-raw) in
     let entry_is : c.replaced-entry.result ≡ replaced_of c.args.pool.pool c.call_made-made.result.write = let p = c.args.pool.pool in c.replaced-entry.ensures ∙ ap (λ (n : ℕ). replaced_in p.table_frames n c.call_made-made.result.write) c.total-total.ensures in
     let a = c.args in
-    record {
-      value = (steps a.pool a.client a.tally a.store.now passes c.if-store-pages.false c.call_made-made.ensures
-          entry_is c.follow.ensures.bytes c.follow.ensures.filled c.follow.ensures.changed c.follow.ensures.store
-          c.tallied.ensures).0;
-      among = (steps a.pool a.client a.tally a.store.now passes c.if-store-pages.false c.call_made-made.ensures
-          entry_is c.follow.ensures.bytes c.follow.ensures.filled c.follow.ensures.changed c.follow.ensures.store
-          c.tallied.ensures).1;
-    }
+    let done = steps a.pool a.client a.tally a.store.now passes c.if-store-pages.false c.call_made-made.ensures
+    entry_is c.follow.ensures.bytes c.follow.ensures.filled c.follow.ensures.changed c.follow.ensures.store c.tallied.ensures in
+    search (rules, done)

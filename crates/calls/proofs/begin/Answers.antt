@@ -2,9 +2,5 @@
 use Rattle.calls.specs.Refusals.{begin_refusals}
 use Rattle.calls.proofs.begin.Goals as goal
 
-pub returns : goal.returns
-returns c =
-    record {
-      value = c.call_of.ensures;
-      among = rw c.call_of.ensures (begin_refusals _ _ _);
-    }
+pub returns-clause-among : goal.returns-clause-among
+returns-clause-among c = rw c.call_of.ensures (begin_refusals _ _ _)

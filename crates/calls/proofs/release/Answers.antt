@@ -2,9 +2,5 @@
 use Rattle.calls.specs.Refusals.{release_refusals}
 use Rattle.calls.proofs.release.Goals as goal
 
-pub returns : goal.returns
-returns c =
-    record {
-      value = c.call_of.ensures;
-      among = rw c.call_of.ensures (release_refusals _ _ _);
-    }
+pub returns-clause-among : goal.returns-clause-among
+returns-clause-among c = rw c.call_of.ensures (release_refusals _ _ _)

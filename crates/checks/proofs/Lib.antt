@@ -1,0 +1,3 @@
+pub mod Every
+pub mod Parts
+pub mod Stored

@@ -1,0 +1,5 @@
+pub mod Checked
+pub mod Lent
+pub mod Met
+pub mod Numbered
+pub mod Places
