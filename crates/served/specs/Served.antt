@@ -5,12 +5,13 @@ use Rattle.std.proofs.Common.{◌∙◌}
 use borrow.Author.Tests.{eq-eqb, ne_eqb}
 use Rattle.pool.specs.Choose.{choose, both, either}
 use Rattle.pool.specs.Limits.{max_clients}
-use Rattle.pool.specs.State.{none, resting}
+use Rattle.pool.specs.State.{none, number_of_clients, resting}
 use Rattle.pool.specs.Calls.{fresh}
-use Rattle.pool.specs.Valid.{numbers_ok}
+use Rattle.pool.specs.Valid.{numbers_ok, valid}
 use Rattle.pool.specs.Tallies.{tallied}
 use Rattle.pool.specs.declared.Answer.{Answer}
 use Rattle.pool.specs.declared.Answer.TheVariants.{Done, Refused}
+use Rattle.pool.specs.declared.Call.{Call}
 use Rattle.pool.specs.declared.Call.TheVariants.{Step}
 use Rattle.pool.specs.declared.Client.{Client}
 use Rattle.pool.specs.declared.Counted.TheVariants.{Nothing}
@@ -25,7 +26,7 @@ use Rattle.content.specs.Effects.{marks_after, bytes_after, store_in, replaced_i
 use Rattle.content.specs.Filling.{bytes_filled, marks_filled, byte_in, bytes_written, marks_written}
 use Rattle.content.specs.Acting.{reads_as, writes_as}
 use Rattle.in_place.specs.Held.{Held, turned_away, held_of, byte_held_refusal, byte_held, held_on, held_state, duty_of, duty_on, state_from}
-use Rattle.in_place.specs.Acts.{held_by}
+use Rattle.in_place.specs.Acts.{held_by, no_numbers}
 use Rattle.in_place.specs.declared.acting.Acted.{Acted}
 use Rattle.listing.specs.Listed.{HeldRows}
 use Rattle.checks.specs.Checked.{checked_of}
@@ -59,6 +60,10 @@ ListsTo h r u = (r ≡ word_of h.answer) × (u ≡ h.numbers)
 abbrev pub checked_state : State → Answer
 checked_state x = checked_of x.pool x.memory x.store
 
+pub no_numbers_checked : (x : State) → numbers_ok x.pool.size (number_of_clients x.pool) x.pool.cap ≡ false → checked_state x ≡ Refused 8
+unfolding checked_of valid both choose
+no_numbers_checked x e = rw e refl
+
 -- a pool with other clients
 abbrev pub with_clients : Pool → List Client → Pool
 with_clients p clients =
@@ -69,6 +74,11 @@ with_clients p clients =
 
 pub calls : {h k : Held} {r : ℕ} {q : Pool} → h ≡ k → r ≡ word_of h.answer → q ≡ h.pool → CallsTo k r q
 calls e f g = (f ∙ ap (λ (h : Held). word_of h.answer) e, g ∙ ap (λ (h : Held). h.pool) e)
+
+-- S, T or C is out of range
+pub calls_away : (p : Pool) (n : ℕ) (call : Call) {r : ℕ} → numbers_ok p.size (number_of_clients p) p.cap ≡ false → r ≡ word_of (Refused 8)
+    → CallsTo (held_of p n call) r p
+calls_away p n call e f = calls (sym (no_numbers p n call e)) f refl
 
 -- ---- setup
 
@@ -148,12 +158,13 @@ module _ (x : State) (c : ℕ) where
             → ◌≡◌ {A = State} (record { pool = q; memory = m; store = s }) (record { pool = q'; memory = m'; store = s' })
         whole e f g = rw (e, f, g)
 
-  -- a call that is turned down by n
-  pub steps_away : (long : length x.store ≡ page_bytes * x.memory.pages) (n : ℕ) → held_of x.pool x.memory.pages (Step c) ≡ turned_away n x.pool
-      → {t : Tally} {r d : ℕ} → r ≡ word_of (Refused n) → d ≡ 0 → StepsTo c r t t d x x
+  -- a call that is turned down by n, and leaves pool q
+  pub steps_away : (long : length x.store ≡ page_bytes * x.memory.pages) (n : ℕ) (q : Pool)
+      → turned_away n q ≡ held_of x.pool x.memory.pages (Step c) → (t : Tally) {r d : ℕ} → r ≡ word_of (Refused n) → d ≡ 0
+      → StepsTo c r t t d x (record { pool = q; memory = x.memory; store = x.store })
   unfolding bytes_after marks_after store_in replaced_in duty_of tallied
-  steps_away long n e {t = t} f g =
-      steps long (record { answer = Refused n; counted = Nothing; write = Keep; entry = none }) x.pool (sym e) refl t refl refl refl refl refl g f
+  steps_away long n q e t f g =
+      steps long (record { answer = Refused n; counted = Nothing; write = Keep; entry = none }) q e refl t refl refl refl refl refl g f
 
 -- ---- read, write
 

@@ -17,7 +17,8 @@ ghost use Rattle.served.specs.Words.{answer_of, word_of};
 ghost use Rattle.served.specs.Served.{SetsUp, CallsTo, StepsTo, BytesTo, ListsTo, checked_state};
 
 use answers::Refusal;
-use books::{BooksMut, Numbers};
+use books::{Books, BooksMut, Numbers};
+use checks::Marks;
 use client_arrays::{ALL_BYTES, ALL_WORDS, Clients, ClientsMut};
 use content::{Content, Frames};
 use counting::COUNTS;
@@ -445,14 +446,12 @@ pub fn foqheran_parts_check<'a>(
         grant_pages.now grant_frames.now)
         store_pages bytes filled.now changed.now store.now)) }
 {
-    let answer = whole_check::check_in_place(
-        store.len(),
-        store_pages,
-        filled,
-        changed,
-        size,
-        client_count,
-        cap,
+    let Some(numbers) = Numbers::new(size, client_count, cap) else {
+        return word(Err(Refusal::OutOfRange));
+    };
+    let books = Books {
+        numbers,
+        hand: 0,
         free,
         last,
         slots,
@@ -461,10 +460,20 @@ pub fn foqheran_parts_check<'a>(
         counts,
         table_pages,
         table_frames,
-        client_bytes,
-        client_words,
         grant_pages,
         grant_frames,
-    );
-    word(Ok(answer))
+    };
+    let clients = Clients {
+        bytes: client_bytes,
+        words: client_words,
+    };
+    let marks = Marks {
+        pages: store_pages,
+        filled,
+        changed,
+    };
+    match checks::check(&books, &clients.all(), &marks, store.len()) {
+        Ok(()) => word(Ok(Answer::Done(u32::from(size)))),
+        Err(refusal) => word(Err(refusal)),
+    }
 }
