@@ -1,5 +1,5 @@
 -- A loop that sets a list's elements one after the other to another list's. Assumes nothing.
-use Rattle.std.proofs.Common.{◌≡◌, ◌∙◌, sym, refl, ℕ, ◌+◌, ◌<◌, ◌≤◌, List, [], ◌∷◌, ◌++◌, length, get_or, set, take}
+use Rattle.std.proofs.Common.{◌≡◌, ◌∙◌, sym, refl, ℕ, ◌+◌, ◌<◌, ◌≤◌, List, length, get_or, set, take}
 use Rattle.std.proofs.lemmas.List.{take_more, take_more_set, take_all}
 
 pub one_more : {A : Type 0} (l ys : List A) (c : ℕ) (k d : A) → c < length l → c < length ys → take c l ≡ take c ys → k ≡ get_or ys c d

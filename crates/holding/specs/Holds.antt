@@ -6,7 +6,7 @@ use native.Mathlib.Omega.{arith}
 use borrow.Author.Tests.{eq-eqb, ne_eqb, le-leb, lt-leb, le-ltb, lt-ltb}
 use Rattle.pool.specs.Limits.{max_clients, max_held}
 use Rattle.pool.specs.Choose.{choose, both}
-use Rattle.pool.specs.State.{none, no_client, number_of_clients, client, of_client, grant_frame}
+use Rattle.pool.specs.State.{none, no_client, number_of_clients, client, grant_frame}
 use Rattle.pool.specs.Grants.{grant_of}
 use Rattle.pool.specs.Calls.{caller, refusal_at, turned_by}
 use Rattle.pool.specs.declared.Call.TheVariants.{Release}

@@ -24,7 +24,14 @@ pub struct Grants<'a> {
 impl Grants<'_> {
     /// The frame of a client's grant, for a call for a byte at an offset of a page; lent a store of so many bytes, beside which the pool was set up with so
     /// many pages.
-    pub fn frame_of(&self, client: u8, page: u32, offset: u32, lent: usize, store_pages: u16) -> Result<u8, Refusal>
+    pub fn frame_of(
+        &self,
+        client: u8,
+        page: u32,
+        offset: u32,
+        lent: usize,
+        store_pages: u16,
+    ) -> Result<u8, Refusal>
         ensures held_by { (x : State) →
             Keeps x.pool self.now.client_count self.now.clients.bytes.now self.now.clients.words.now self.now.pages.now self.now.frames.now →
             x.memory.pages ≡ store_pages → length x.store ≡ lent → HeldBy x client page offset result }

@@ -2,7 +2,7 @@
 use Rattle.std.proofs.Common.{◌≡◌, ◌∙◌, sym, ap, ℕ, ◌<◌, Ok, Err, arith}
 use Rattle.std.specs.Prelude.{Result, IfOk}
 use Rattle.pool.specs.State.{number_of_clients, client}
-use Rattle.pool.specs.Calls.{caller, refusal_at, move_of}
+use Rattle.pool.specs.Calls.{caller, refusal_at}
 use Rattle.pool.specs.declared.Call.{Call}
 use Rattle.pool.specs.declared.Client.{Client}
 use Rattle.pool.specs.declared.Move.{Move}

@@ -5,7 +5,7 @@ use Rattle.std.specs.List.{list_all}
 use Rattle.std.proofs.lemmas.List.{get_or-take, length-take-le}
 use Rattle.pool.specs.Limits.{max_held}
 use Rattle.pool.specs.State.{no_client, number_of_clients, client}
-use Rattle.pool.specs.Choose.{choose, either, scan, every}
+use Rattle.pool.specs.Choose.{choose, either, scan}
 use Rattle.pool.specs.declared.Client.{Client}
 use Rattle.pool.specs.declared.Pool.{Pool}
 use Rattle.laws.specs.Elements.{client_in, client_element}

@@ -1,12 +1,12 @@
 -- What a call in place comes to, by what its code has tested. Assumes nothing.
-use Rattle.std.specs.Prelude.{◌≡◌, Bool, true, false, not, List, ℕ, ◌<◌, ◌≤◌, eqb, leb, Result, Ok, Err}
-use Rattle.std.proofs.Common.{◌∙◌, sym, ap, refl, arith, eq-eqb, ne_eqb, le-ltb, lt-ltb, le-leb}
+use Rattle.std.specs.Prelude.{◌≡◌, Bool, true, false, List, ℕ, ◌<◌, ◌≤◌, leb, Result, Ok, Err}
+use Rattle.std.proofs.Common.{◌∙◌, ap, refl, arith, le-ltb, lt-ltb, le-leb}
 use Rattle.pool.specs.Limits.{max_held, max_pins}
 use Rattle.pool.specs.Choose.{choose, both, either, every}
 use Rattle.pool.specs.State.{none, pinned, number_of_clients, total, resting, pins, client, within}
 use Rattle.pool.specs.Valid.{numbers_ok}
 use Rattle.pool.specs.Apply.{apply}
-use Rattle.pool.specs.Calls.{caller, refusal_at, turned_by, move_of}
+use Rattle.pool.specs.Calls.{caller, refusal_at, move_of}
 use Rattle.pool.specs.declared.Call.{Call}
 use Rattle.pool.specs.declared.Client.{Client}
 use Rattle.pool.specs.declared.Move.{Move}

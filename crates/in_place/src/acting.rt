@@ -56,7 +56,12 @@ fn turn(books: &Books, clients: &Clients, call: Call, store_pages: u16) -> Resul
 }
 
 /// A begin, step or release, beside a store of so many pages: SPECIFICATION 14.4, 14.5. Refused it changes nothing.
-pub fn act(call: Call, store_pages: u16, books: &mut BooksMut, clients: &mut ClientsMut) -> Result<Acted, Refusal>
+pub fn act(
+    call: Call,
+    store_pages: u16,
+    books: &mut BooksMut,
+    clients: &mut ClientsMut,
+) -> Result<Acted, Refusal>
     ensures books { SameLoans books.old books.new }
     ensures clients { SameClients clients.old clients.new }
     ensures held { held_by result (pool_of books.new (clients_of clients.new)) ≡ held_of (pool_of books.old (clients_of clients.old)) store_pages call }

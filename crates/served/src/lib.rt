@@ -158,7 +158,12 @@ pub fn foqheran_parts_begin(
         bytes: client_bytes,
         words: client_words,
     };
-    let acted = in_place::act(Call::Begin(client, page), store_pages, &mut books, &mut clients);
+    let acted = in_place::act(
+        Call::Begin(client, page),
+        store_pages,
+        &mut books,
+        &mut clients,
+    );
     word(acted.map(|acted| acted.answer))
 }
 

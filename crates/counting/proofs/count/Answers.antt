@@ -1,4 +1,4 @@
-use Rattle.std.proofs.Common.{◌≡◌, ◌∙◌, get_or, arith}
+use Rattle.std.proofs.Common.{◌∙◌, get_or}
 use Rattle.counting.proofs.GoesUp.{up_is, goes_up, stays}
 use Rattle.counting.proofs.count.Goals as goal
 

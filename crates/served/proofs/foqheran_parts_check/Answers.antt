@@ -1,5 +1,5 @@
 -- The whole check, and its answer as a number. Assumes nothing.
-use Rattle.std.proofs.Common.{◌≡◌, ◌∙◌, sym, ap, refl}
+use Rattle.std.proofs.Common.{◌∙◌, sym, ap, refl}
 use Rattle.pool.specs.declared.Answer.TheVariants.{Done}
 use Rattle.pool.specs.declared.Pool.{Pool}
 use Rattle.answers.specs.Numbers.{refusal_number}

@@ -1,5 +1,4 @@
 use Rattle.pool.specs.declared.Call.TheVariants.{Release}
-use Rattle.in_place.specs.Held.{pool_from}
 use Rattle.served.specs.Served.{calls_away}
 use Rattle.served.proofs.foqheran_parts_release.Goals as goal
 

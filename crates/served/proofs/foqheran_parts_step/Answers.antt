@@ -1,5 +1,5 @@
 -- A store of another length is refused; else the pool's own call comes first, and then what its write does to store, bytes and marks. Assumes nothing.
-use Rattle.std.proofs.Common.{◌≡◌, ◌∙◌, sym, refl, rules, arith, length, ◌*◌}
+use Rattle.std.proofs.Common.{◌≡◌, sym, refl, rules, arith, length, ◌*◌}
 use Rattle.memory.specs.Memory.{page_bytes}
 use Rattle.memory.specs.Requests.{State}
 use Rattle.pool.specs.declared.Call.TheVariants.{Step}

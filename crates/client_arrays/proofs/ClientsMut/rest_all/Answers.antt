@@ -2,7 +2,6 @@ use Rattle.std.proofs.Common.{◌∙◌, replicate, take, ap, sym, ◌+◌, arit
 use Rattle.std.proofs.lemmas.List.{get_or-replicate}
 use Rattle.pool.specs.Limits.{max_clients}
 use Rattle.pool.specs.State.{no_client, resting}
-use Rattle.pool.specs.declared.Client.{Client}
 use Rattle.client_arrays.specs.Arrays.{clients_long}
 use Rattle.client_arrays.specs.Loans.{clients_of}
 use Rattle.client_arrays.proofs.Prefix.{one_more, whole}
