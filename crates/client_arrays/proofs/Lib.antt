@@ -1,2 +1,1 @@
-pub mod Listing
-pub mod Resting
+pub mod Prefix

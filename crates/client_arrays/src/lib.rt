@@ -1,59 +1,75 @@
 // The clients' records as they lie in a pool that a program in another language keeps: two arrays of numbers, since an array of structs cannot be lent
-// to such a program's calls (SPECIFICATION 14.2). Internal.
+// to such a program's calls (SPECIFICATION 14.2). `Clients` are lent to be read, `ClientsMut` to be written, too. Internal.
 #![tactic(auto)]
 
-ghost use Rattle.std.specs.Prelude.{◌≡◌, ◌<◌, length, replicate};
+ghost use Rattle.std.specs.Prelude.{◌≡◌, ◌<◌, replicate, set};
 ghost use Rattle.pool.specs.Limits.{max_clients};
 ghost use Rattle.pool.specs.State.{resting};
-ghost use Rattle.client_arrays.specs.Arrays.{bytes_long, words_long, client_from, clients_from, bytes_with, words_with};
+ghost use Rattle.client_arrays.specs.Arrays.{client_from, clients_from, bytes_with, words_with};
+ghost use Rattle.client_arrays.specs.Loans.{clients_in, clients_of, SameClients};
 
+use actions::moves;
 use pool::{CLIENTS, Client};
 
-// How many numbers of a client are bytes, and how many are words of 32 bits; and the arrays.
+/// How many numbers of a client are bytes.
 pub const CLIENT_BYTES: usize = 8;
 
+/// How many are words of 32 bits.
 pub const CLIENT_WORDS: usize = 2;
 
 pub const ALL_BYTES: usize = CLIENTS * CLIENT_BYTES;
 
 pub const ALL_WORDS: usize = CLIENTS * CLIENT_WORDS;
 
-// That the arrays are as long as their types say: a proof is told this of an array by value alone. It compiles to nothing.
-pub fn long(bytes: [u8; ALL_BYTES], words: [u32; ALL_WORDS])
-    ensures { (length bytes ≡ bytes_long) × (length words ≡ words_long) }
-{}
+/// The clients, lent to be read.
+#[derive(Clone, Copy)]
+pub struct Clients<'a> {
+    pub bytes: &'a [u8; ALL_BYTES],
+    pub words: &'a [u32; ALL_WORDS],
+}
 
-// Client c.
-pub fn client_at<'a>(bytes: &'a [u8; ALL_BYTES], words: &'a [u32; ALL_WORDS], c: usize) -> Client
-    requires { c < max_clients }
-    ensures { result ≡ client_from bytes.now words.now c }
-{
-    let i = CLIENT_BYTES * c;
-    let j = CLIENT_WORDS * c;
-    Client {
-        stage: bytes[i],
-        page: words[j],
-        own: bytes[i + 1],
-        found: bytes[i + 2],
-        victim: bytes[i + 3],
-        seen: bytes[i + 4],
-        place: bytes[i + 5],
-        start: words[j + 1],
-        busy: bytes[i + 6],
-        held: bytes[i + 7],
+impl Clients<'_> {
+    /// Client c.
+    #[tactic(auto, unfolding(crate::specs::Arrays::client_from))]
+    pub fn get(&self, c: usize) -> Client
+        requires { c < max_clients }
+        ensures { result ≡ client_from self.now.bytes.now self.now.words.now c }
+    {
+        let i = CLIENT_BYTES * c;
+        let j = CLIENT_WORDS * c;
+        Client {
+            stage: self.bytes[i],
+            page: self.words[j],
+            own: self.bytes[i + 1],
+            found: self.bytes[i + 2],
+            victim: self.bytes[i + 3],
+            seen: self.bytes[i + 4],
+            place: self.bytes[i + 5],
+            start: self.words[j + 1],
+            busy: self.bytes[i + 6],
+            held: self.bytes[i + 7],
+        }
+    }
+
+    /// All of them, for what looks at every client.
+    pub fn all(&self) -> [Client; CLIENTS]
+        ensures { result ≡ clients_in self.now }
+    {
+        let mut clients = [moves::resting(0); CLIENTS];
+        for c in 0..CLIENTS {
+            clients[c] = self.get(c);
+        }
+        clients
     }
 }
 
-// Client c's record, put back.
-pub fn put_client(
-    bytes: &mut [u8; ALL_BYTES],
-    words: &mut [u32; ALL_WORDS],
-    c: usize,
-    client: Client,
-)
+/// A record, laid over client c's numbers.
+#[tactic(auto, unfolding(crate::specs::Arrays::bytes_with, crate::specs::Arrays::words_with, memory::specs::Memory::copied))]
+fn lay(bytes: &mut [u8; ALL_BYTES], words: &mut [u32; ALL_WORDS], c: usize, client: Client)
     requires { c < max_clients }
-    ensures { (bytes.new ≡ bytes_with bytes.old c client)
-        × (words.new ≡ words_with words.old c client) }
+    ensures bytes { bytes.new ≡ bytes_with bytes.old c client }
+    ensures words { words.new ≡ words_with words.old c client }
+    ensures clients { clients_from bytes.new words.new ≡ set (clients_from bytes.old words.old) c client }
 {
     let i = CLIENT_BYTES * c;
     let j = CLIENT_WORDS * c;
@@ -69,26 +85,52 @@ pub fn put_client(
     words[j + 1] = client.start;
 }
 
-// All of them, for what looks at every client.
-pub fn all_clients<'a>(bytes: &'a [u8; ALL_BYTES], words: &'a [u32; ALL_WORDS]) -> [Client; CLIENTS]
-    ensures { result ≡ clients_from bytes.now words.now }
-{
-    let first = client_at(bytes, words, 0);
-    let mut clients = [first; CLIENTS];
-    for c in 0..CLIENTS {
-        let client = client_at(bytes, words, c);
-        clients[c] = client;
-    }
-    clients
+/// The clients, lent to be written.
+#[derive(Drop)]
+pub struct ClientsMut<'a> {
+    pub bytes: &'a mut [u8; ALL_BYTES],
+    pub words: &'a mut [u32; ALL_WORDS],
 }
 
-// Every client at rest without grants, as a setup leaves them.
-pub fn rest_all(bytes: &mut [u8; ALL_BYTES], words: &mut [u32; ALL_WORDS])
-    ensures { clients_from bytes.new words.new ≡ replicate max_clients (resting 0) }
-{
-    long(*bytes, *words);
-    let resting = moves::resting(0);
-    for c in 0..CLIENTS {
-        put_client(bytes, words, c, resting);
+impl ClientsMut<'_> {
+    /// The same, to be read.
+    pub fn clients(&self) -> Clients<'_>
+        ensures bytes { result.bytes.now ≡ self.now.bytes.now }
+        ensures words { result.words.now ≡ self.now.words.now }
+    {
+        Clients {
+            bytes: self.bytes,
+            words: self.words,
+        }
     }
+
+    /// Client c's record, put back.
+    pub fn put(&mut self, c: usize, client: Client)
+        requires { c < max_clients }
+        ensures loans { SameClients self.old self.new }
+        ensures bytes { self.new.bytes.now ≡ bytes_with self.old.bytes.now c client }
+        ensures words { self.new.words.now ≡ words_with self.old.words.now c client }
+        ensures clients { clients_of self.new ≡ set (clients_of self.old) c client }
+    {
+        lay(self.bytes, self.words, c, client);
+    }
+
+    /// Every client at rest without grants, as a setup leaves them.
+    pub fn rest_all(&mut self)
+        ensures loans { SameClients self.old self.new }
+        ensures clients { clients_of self.new ≡ replicate max_clients (resting 0) }
+    {
+        let resting = moves::resting(0);
+        for c in 0..CLIENTS {
+            self.put(c, resting);
+        }
+    }
+}
+
+/// Client c, for crate `listing`.
+pub fn client_at<'a>(bytes: &'a [u8; ALL_BYTES], words: &'a [u32; ALL_WORDS], c: usize) -> Client
+    requires { c < max_clients }
+    ensures { result ≡ client_from bytes.now words.now c }
+{
+    Clients { bytes, words }.get(c)
 }

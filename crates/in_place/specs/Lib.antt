@@ -1,2 +1,4 @@
 pub mod Held
+pub mod Refused
+pub mod InRange
 pub mod Acts

@@ -1,13 +1,13 @@
 -- What each function for other languages promises, and how each way out of its code is that. Assumes nothing.
-use Rattle.std.specs.Prelude.{◌≡◌, ◌≢◌, Bool, true, false, List, ℕ, ◌*◌, ◌/◌, length, replicate}
+use Rattle.std.specs.Prelude.{◌≡◌, ◌≢◌, Bool, true, false, Ok, List, ℕ, ◌*◌, ◌/◌, length, replicate}
 use Rattle.std.proofs.Math.Path.{refl, sym, ap}
 use Rattle.std.proofs.Common.{◌∙◌}
 use borrow.Author.Tests.{eq-eqb, ne_eqb}
 use Rattle.pool.specs.Choose.{choose, both, either}
 use Rattle.pool.specs.Limits.{max_clients}
-use Rattle.pool.specs.State.{resting}
+use Rattle.pool.specs.State.{none, number_of_clients, resting}
 use Rattle.pool.specs.Calls.{fresh}
-use Rattle.pool.specs.Valid.{numbers_ok}
+use Rattle.pool.specs.Valid.{numbers_ok, valid}
 use Rattle.pool.specs.Tallies.{tallied}
 use Rattle.pool.specs.declared.Answer.{Answer}
 use Rattle.pool.specs.declared.Answer.TheVariants.{Done, Refused}
@@ -17,18 +17,17 @@ use Rattle.pool.specs.declared.Client.{Client}
 use Rattle.pool.specs.declared.Counted.TheVariants.{Nothing}
 use Rattle.pool.specs.declared.Pool.{Pool}
 use Rattle.pool.specs.declared.Tally.{Tally}
+use Rattle.pool.specs.declared.Write.TheVariants.{Keep}
 use Rattle.laws.specs.Choices.{chosen, passed}
 use Rattle.memory.specs.Memory.{page_bytes, blank, memory_after, store_after}
-use Rattle.memory.specs.Requests.{Request, Asks, ReadByte, WriteByte, State, Result, turned_back, lent, store_ok, length_ok, setup_on, action_on}
+use Rattle.memory.specs.Requests.{Request, Asks, ReadByte, WriteByte, State, Result, turned_back, lent, store_ok, length_ok, setup_on, held_frame, action_on}
 use Rattle.memory.specs.declared.Memory.{Memory}
-use Rattle.content.specs.Effects.{marks_after, bytes_after, store_in, memory_in_parts, store_in_parts}
+use Rattle.content.specs.Effects.{marks_after, bytes_after, store_in, replaced_in, replaced_of, memory_in_parts, store_in_parts}
 use Rattle.content.specs.Filling.{bytes_filled, marks_filled, byte_in, bytes_written, marks_written}
 use Rattle.content.specs.Acting.{reads_as, writes_as}
-use Rattle.holding.specs.Holds.{HeldBy}
-use Rattle.holding.specs.declared.Holder.{Holder}
-use Rattle.in_place.specs.Held.{Held, held_of, byte_held_refusal, byte_held, held_on, held_state, duty_of, duty_on, state_from}
-use Rattle.in_place.specs.Acts.{ActsTo}
-use Rattle.in_place.specs.declared.Acted.{Acted}
+use Rattle.in_place.specs.Held.{Held, turned_away, held_of, byte_held_refusal, byte_held, held_on, held_state, duty_of, duty_on, state_from}
+use Rattle.in_place.specs.Acts.{held_by, no_numbers}
+use Rattle.in_place.specs.declared.acting.Acted.{Acted}
 use Rattle.listing.specs.Listed.{HeldRows}
 use Rattle.checks.specs.Checked.{checked_of}
 use Rattle.play.specs.Parts.{pool_of}
@@ -61,6 +60,10 @@ ListsTo h r u = (r ≡ word_of h.answer) × (u ≡ h.numbers)
 abbrev pub checked_state : State → Answer
 checked_state x = checked_of x.pool x.memory x.store
 
+pub no_numbers_checked : (x : State) → numbers_ok x.pool.size (number_of_clients x.pool) x.pool.cap ≡ false → checked_state x ≡ Refused 8
+unfolding checked_of valid both choose
+no_numbers_checked x e = rw e refl
+
 -- a pool with other clients
 abbrev pub with_clients : Pool → List Client → Pool
 with_clients p clients =
@@ -69,8 +72,13 @@ with_clients p clients =
 
 -- ---- begin, release
 
-pub calls : {p : Pool} {n : ℕ} {call : Call} {a : Acted} {q : Pool} {r : ℕ} → ActsTo p n call a q → r ≡ word_of a.answer → CallsTo (held_of p n call) r q
-calls t e = (e ∙ ap (λ (h : Held). word_of h.answer) t.held, ap (λ (h : Held). h.pool) t.held)
+pub calls : {h k : Held} {r : ℕ} {q : Pool} → h ≡ k → r ≡ word_of h.answer → q ≡ h.pool → CallsTo k r q
+calls e f g = (f ∙ ap (λ (h : Held). word_of h.answer) e, g ∙ ap (λ (h : Held). h.pool) e)
+
+-- S, T or C is out of range
+pub calls_away : (p : Pool) (n : ℕ) (call : Call) {r : ℕ} → numbers_ok p.size (number_of_clients p) p.cap ≡ false → r ≡ word_of (Refused 8)
+    → CallsTo (held_of p n call) r p
+calls_away p n call e f = calls (sym (no_numbers p n call e)) f refl
 
 -- ---- setup
 
@@ -99,7 +107,9 @@ module _ (x : State) (c : ℕ) where
   unfolding held_on duty_on store_ok lent either choose tallied
   wrong_store e f g = rw (ne_eqb _ _ e) (f, refl, refl, g)
 
-  module _ (long : length x.store ≡ page_bytes * x.memory.pages) {a : Acted} {q : Pool} (acts : ActsTo x.pool x.memory.pages (Step c) a q) where
+  -- a call that does what a is, and leaves pool q
+  module _ (long : length x.store ≡ page_bytes * x.memory.pages) (a : Acted) (q : Pool) (held : held_by (Ok a) q ≡ held_of x.pool x.memory.pages (Step c))
+      (entry : a.entry ≡ replaced_of x.pool a.write) where
     abbrev p : Pool
     p = x.pool
 
@@ -118,19 +128,19 @@ module _ (x : State) (c : ℕ) where
     is_held = chosen _ _ _ right_store
 
     wrote : a.write ≡ h.write
-    wrote = ap (λ (o : Held). o.write) acts.held
+    wrote = ap (λ (o : Held). o.write) held
 
     memory_is : {bytes filled changed : List ℕ} → bytes ≡ bytes_after m.bytes a.entry a.write
         → filled ≡ marks_after m.filled a.entry a.write → changed ≡ marks_after m.changed a.entry a.write
         → record { pages = m.pages; bytes = bytes; filled = filled; changed = changed } ≡ memory_after p m h.write
-    memory_is eb ef ec = rw (eb, ef, ec, acts.entry) (memory_in_parts p m a.write) ∙ ap (memory_after p m) wrote
+    memory_is eb ef ec = rw (eb, ef, ec, entry) (memory_in_parts p m a.write) ∙ ap (memory_after p m) wrote
 
     store_is : {s : List ℕ} → s ≡ store_in m.pages m.bytes m.changed x.store a.entry a.write → s ≡ store_after p m x.store h.write
-    store_is e = e ∙ rw acts.entry (store_in_parts p m x.store a.write) ∙ ap (store_after p m x.store) wrote
+    store_is e = e ∙ rw entry (store_in_parts p m x.store a.write) ∙ ap (store_after p m x.store) wrote
 
     duty_is : {d : ℕ} → d ≡ duty_of a.entry a.write → d ≡ duty_on x c
     unfolding duty_on
-    duty_is e = e ∙ rw (acts.entry, wrote) refl ∙ sym (chosen _ _ _ right_store)
+    duty_is e = e ∙ rw (entry, wrote) refl ∙ sym (chosen _ _ _ right_store)
 
     pub steps : (t : Tally) {u : Tally} {r d : ℕ} {bytes filled changed s : List ℕ} → bytes ≡ bytes_after m.bytes a.entry a.write
         → filled ≡ marks_after m.filled a.entry a.write → changed ≡ marks_after m.changed a.entry a.write
@@ -138,9 +148,9 @@ module _ (x : State) (c : ℕ) where
         → u ≡ tallied a.counted t → d ≡ duty_of a.entry a.write → r ≡ word_of a.answer
         → StepsTo c r t u d x (record { pool = q; memory = record { pages = m.pages; bytes = bytes; filled = filled; changed = changed }; store = s })
     steps t eb ef ec es et ed er = (
-      er ∙ ap (λ (o : Held). word_of o.answer) acts.held ∙ sym (ap (λ (o : Result). word_of o.answer) is_held),
-      whole (ap (λ (o : Held). o.pool) acts.held) (memory_is eb ef ec) (store_is es) ∙ sym (ap (λ (o : Result). o.state) is_held),
-      et ∙ ap (λ (o : Held). tallied o.counted t) acts.held ∙ sym (ap (λ (o : Result). tallied o.counted t) is_held),
+      er ∙ ap (λ (o : Held). word_of o.answer) held ∙ sym (ap (λ (o : Result). word_of o.answer) is_held),
+      whole (ap (λ (o : Held). o.pool) held) (memory_is eb ef ec) (store_is es) ∙ sym (ap (λ (o : Result). o.state) is_held),
+      et ∙ ap (λ (o : Held). tallied o.counted t) held ∙ sym (ap (λ (o : Result). tallied o.counted t) is_held),
       duty_is ed,
     )
       where
@@ -148,38 +158,47 @@ module _ (x : State) (c : ℕ) where
             → ◌≡◌ {A = State} (record { pool = q; memory = m; store = s }) (record { pool = q'; memory = m'; store = s' })
         whole e f g = rw (e, f, g)
 
+  -- a call that is turned down by n, and leaves pool q
+  pub steps_away : (long : length x.store ≡ page_bytes * x.memory.pages) (n : ℕ) (q : Pool)
+      → turned_away n q ≡ held_of x.pool x.memory.pages (Step c) → (t : Tally) {r d : ℕ} → r ≡ word_of (Refused n) → d ≡ 0
+      → StepsTo c r t t d x (record { pool = q; memory = x.memory; store = x.store })
+  unfolding bytes_after marks_after store_in replaced_in duty_of tallied
+  steps_away long n q e t f g =
+      steps long (record { answer = Refused n; counted = Nothing; write = Keep; entry = none }) q e refl t refl refl refl refl refl g f
+
 -- ---- read, write
 
-module _ (x : State) (c g o : ℕ) {h : Holder} (held : HeldBy x c g o h) where
-  turned : (q : Request) → h.refusal ≢ 0 → byte_held x q (byte_held_refusal x c g o) ≡ turned_back h.refusal x
-  turned q z = ap (byte_held x q) (sym held.refusal) ∙ passed _ _ _ (ne_eqb _ _ z)
+module _ (x : State) (c g o : ℕ) where
+  turned : (q : Request) {n : ℕ} → byte_held_refusal x c g o ≡ n → n ≢ 0 → byte_held x q (byte_held_refusal x c g o) ≡ turned_back n x
+  turned q e z = ap (byte_held x q) e ∙ passed _ _ _ (ne_eqb _ _ z)
 
-  goes_on : (q : Request) → h.refusal ≡ 0 → byte_held x q (byte_held_refusal x c g o) ≡ action_on x q
-  goes_on q z = chosen _ _ _ (eq-eqb _ _ (sym held.refusal ∙ z))
+  goes_on : (q : Request) → byte_held_refusal x c g o ≡ 0 → byte_held x q (byte_held_refusal x c g o) ≡ action_on x q
+  goes_on q z = chosen _ _ _ (eq-eqb _ _ z)
 
   -- from what is done to what is promised
   done : {r : ℕ} {y : State} (a : Answer) {k : Result} (l : Result) → l ≡ k → r ≡ word_of a → record { answer = a; counted = Nothing; state = y } ≡ k
       → (r ≡ word_of l.answer) × (y ≡ l.state)
   done a l e f d = (f ∙ ap (λ (w : Result). word_of w.answer) (d ∙ sym e), ap (λ (w : Result). w.state) (d ∙ sym e))
 
-  pub read_turned : {r : ℕ} → h.refusal ≢ 0 → r ≡ word_of (Refused h.refusal) → BytesTo (ReadByte c g o) r x x
+  pub read_turned : {n r : ℕ} → byte_held_refusal x c g o ≡ n → n ≢ 0 → r ≡ word_of (Refused n) → BytesTo (ReadByte c g o) r x x
   unfolding held_on
-  read_turned z e = done (Refused h.refusal) _ (turned (ReadByte c g o) z) e refl
+  read_turned {n} e z f = done (Refused n) _ (turned (ReadByte c g o) e z) f refl
 
-  pub write_turned : (v : ℕ) {r : ℕ} → h.refusal ≢ 0 → r ≡ word_of (Refused h.refusal) → BytesTo (WriteByte c g o v) r x x
+  pub write_turned : (v : ℕ) {n r : ℕ} → byte_held_refusal x c g o ≡ n → n ≢ 0 → r ≡ word_of (Refused n) → BytesTo (WriteByte c g o v) r x x
   unfolding held_on
-  write_turned v z e = done (Refused h.refusal) _ (turned (WriteByte c g o v) z) e refl
+  write_turned v {n} e z f = done (Refused n) _ (turned (WriteByte c g o v) e z) f refl
 
-  module _ (z : h.refusal ≡ 0) {bytes filled : List ℕ}
-      (eb : bytes ≡ bytes_filled x.memory.filled x.memory.pages h.frame g x.memory.bytes x.store)
-      (em : filled ≡ marks_filled x.memory.filled x.memory.pages h.frame g) where
-    pub reads : {r v : ℕ} → v ≡ byte_in bytes h.frame o → r ≡ word_of (Done v)
+  -- f is the frame of the client's grant
+  module _ (z : byte_held_refusal x c g o ≡ 0) {f : ℕ} (h : f ≡ held_frame x.pool c g) {bytes filled : List ℕ}
+      (eb : bytes ≡ bytes_filled x.memory.filled x.memory.pages f g x.memory.bytes x.store)
+      (em : filled ≡ marks_filled x.memory.filled x.memory.pages f g) where
+    pub reads : {r v : ℕ} → v ≡ byte_in bytes f o → r ≡ word_of (Done v)
         → BytesTo (ReadByte c g o) r x (state_from x.pool x.memory.pages bytes filled x.memory.changed x.store)
     unfolding held_on
-    reads {v = v} ev e = done (Done v) _ (goes_on (ReadByte c g o) z) e (reads_as x c g o (held.frame z) eb em ev)
+    reads {v = v} ev e = done (Done v) _ (goes_on (ReadByte c g o) z) e (reads_as x c g o h eb em ev)
 
-    pub writes : (v : ℕ) {r : ℕ} {bytes' changed : List ℕ} → bytes' ≡ bytes_written bytes h.frame o v → changed ≡ marks_written x.memory.changed h.frame o
+    pub writes : (v : ℕ) {r : ℕ} {bytes' changed : List ℕ} → bytes' ≡ bytes_written bytes f o v → changed ≡ marks_written x.memory.changed f o
         → r ≡ word_of (Done g)
         → BytesTo (WriteByte c g o v) r x (state_from x.pool x.memory.pages bytes' filled changed x.store)
     unfolding held_on
-    writes v eb' ec e = done (Done g) _ (goes_on (WriteByte c g o v) z) e (writes_as x c g o (held.frame z) eb em v eb' ec)
+    writes v eb' ec e = done (Done g) _ (goes_on (WriteByte c g o v) z) e (writes_as x c g o h eb em v eb' ec)

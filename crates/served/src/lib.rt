@@ -13,25 +13,29 @@ ghost use Rattle.client_arrays.specs.Arrays.{clients_from};
 ghost use Rattle.holding.specs.Holds.{Keeps};
 ghost use Rattle.listing.specs.Listed.{held_listing};
 ghost use Rattle.in_place.specs.Held.{pool_from, held_of, state_from};
-ghost use Rattle.served.specs.Words.{word_of};
+ghost use Rattle.served.specs.Words.{answer_of, word_of};
 ghost use Rattle.served.specs.Served.{SetsUp, CallsTo, StepsTo, BytesTo, ListsTo, checked_state};
 
-use client_arrays::{ALL_BYTES, ALL_WORDS};
+use answers::Refusal;
+use books::{Books, BooksMut, Numbers};
+use checks::Marks;
+use client_arrays::{ALL_BYTES, ALL_WORDS, Clients, ClientsMut};
 use content::{Content, Frames};
 use counting::COUNTS;
+use holding::Grants;
 use memory::{BYTES, PAGE};
-use pool::{Answer, Call, FRAMES, GRANTS, NONE, SLOTS};
+use pool::{Answer, Call, EVICTED, FRAMES, GRANTS, NONE, SLOTS};
 
-// SPECIFICATION 14.3: an answer as one number, its code above its value.
-fn word(a: Answer) -> u64
-    ensures { result ≡ word_of a }
+/// SPECIFICATION 14.3: an answer, or a refusal, as one number, its code above its value.
+#[tactic(auto, unfolding(crate::specs::Words::word_of))]
+fn word(outcome: Result<Answer, Refusal>) -> u64
+    ensures { result ≡ word_of (answer_of outcome) }
 {
-    let code = answers::code_of(a);
-    let value = answers::value_of(a);
-    4294967296 * code as u64 + value as u64
+    let answer = outcome.unwrap_or_else(Answer::from);
+    (u64::from(answers::code_of(answer)) << 32) + u64::from(answers::value_of(answer))
 }
 
-// SPECIFICATION 13.3, 14.5; refused by 8 nothing is changed.
+/// SPECIFICATION 13.3, 14.5; refused by 8 nothing is changed.
 pub fn foqheran_parts_setup(
     s: u8,
     t: u8,
@@ -69,35 +73,39 @@ pub fn foqheran_parts_setup(
         client_words.new grant_pages.new grant_frames.new)
         store_pages.new bytes.new filled.new changed.new store.now) }
 {
-    if !range_tests::numbers_ok(s, t, c) {
-        return word(Answer::Refused(8));
-    }
-    let Some(pages_there) = content::pages_of(store.len()) else {
-        return word(Answer::Refused(8));
+    let Some(_) = Numbers::new(s, t, c) else {
+        return word(Err(Refusal::OutOfRange));
+    };
+    let Some(store_length) = content::pages_of(store.len()) else {
+        return word(Err(Refusal::OutOfRange));
     };
     *size = s;
     *client_count = t;
     *cap = c;
-    *store_pages = pages_there;
+    *store_pages = store_length;
     *hand = h;
     *free = s;
     *last = NONE;
     *slots = [NONE; SLOTS];
     *pages = [0; FRAMES];
-    *pins = [0; FRAMES];
+    *pins = [EVICTED; FRAMES];
     *counts = [0; FRAMES];
     *table_pages = [0; FRAMES];
     *table_frames = [NONE; FRAMES];
-    client_arrays::rest_all(client_bytes, client_words);
     *grant_pages = [0; GRANTS];
     *grant_frames = [0; GRANTS];
     *bytes = [0; BYTES];
     *filled = [0; FRAMES];
     *changed = [0; FRAMES];
-    word(Answer::Done(s as u32))
+    let mut clients = ClientsMut {
+        bytes: client_bytes,
+        words: client_words,
+    };
+    clients.rest_all();
+    word(Ok(Answer::Done(u32::from(s))))
 }
 
-// SPECIFICATION 3.2, 14.5; refused by 16 where the store has no such page, and by 18 where the client holds it.
+/// SPECIFICATION 3.2, 14.5; refused by 16 where the store has no such page, and by 18 where the client holds it.
 pub fn foqheran_parts_begin(
     client: u8,
     page: u32,
@@ -129,12 +137,11 @@ pub fn foqheran_parts_begin(
         pins.new counts.new table_pages.new table_frames.new client_bytes.new
         client_words.new grant_pages.new grant_frames.new) }
 {
-    let acted = in_place::act(
-        Call::Begin(client, page),
-        store_pages,
-        size,
-        client_count,
-        cap,
+    let Some(numbers) = Numbers::new(size, client_count, cap) else {
+        return word(Err(Refusal::OutOfRange));
+    };
+    let mut books = BooksMut {
+        numbers,
         hand,
         free,
         last,
@@ -144,16 +151,23 @@ pub fn foqheran_parts_begin(
         counts,
         table_pages,
         table_frames,
-        client_bytes,
-        client_words,
         grant_pages,
         grant_frames,
+    };
+    let mut clients = ClientsMut {
+        bytes: client_bytes,
+        words: client_words,
+    };
+    let acted = in_place::act(
+        Call::Begin(client, page),
+        store_pages,
+        &mut books,
+        &mut clients,
     );
-    let answer = acted.answer;
-    word(answer)
+    word(acted.map(|acted| acted.answer))
 }
 
-// SPECIFICATION 3.4, 14.5.
+/// SPECIFICATION 3.4, 14.5.
 pub fn foqheran_parts_release(
     client: u8,
     page: u32,
@@ -184,12 +198,11 @@ pub fn foqheran_parts_release(
         pins.new counts.new table_pages.new table_frames.new client_bytes.new
         client_words.new grant_pages.new grant_frames.new) }
 {
-    let acted = in_place::act(
-        Call::Release(client, page),
-        0,
-        size,
-        client_count,
-        cap,
+    let Some(numbers) = Numbers::new(size, client_count, cap) else {
+        return word(Err(Refusal::OutOfRange));
+    };
+    let mut books = BooksMut {
+        numbers,
         hand,
         free,
         last,
@@ -199,17 +212,19 @@ pub fn foqheran_parts_release(
         counts,
         table_pages,
         table_frames,
-        client_bytes,
-        client_words,
         grant_pages,
         grant_frames,
-    );
-    let answer = acted.answer;
-    word(answer)
+    };
+    let mut clients = ClientsMut {
+        bytes: client_bytes,
+        words: client_words,
+    };
+    let acted = in_place::act(Call::Release(client, page), 0, &mut books, &mut clients);
+    word(acted.map(|acted| acted.answer))
 }
 
-// SPECIFICATION 3.3, 13.4, 14.5. The action's effect on store, bytes and marks is put into them after the pool's own, which no other call can come
-// between.
+/// SPECIFICATION 3.3, 13.4, 14.5. The action's effect on store, bytes and marks is put into them after the pool's own, which no other call can come
+/// between.
 pub fn foqheran_parts_step(
     client: u8,
     tally: &mut [u32; COUNTS],
@@ -246,16 +261,15 @@ pub fn foqheran_parts_step(
         client_words.new grant_pages.new grant_frames.new)
         store_pages bytes.new filled.new changed.new store.new) }
 {
-    if store.len() != PAGE * store_pages as usize {
-        *duty = 0;
-        return word(Answer::Refused(8));
+    *duty = 0;
+    if store.len() != PAGE * usize::from(store_pages) {
+        return word(Err(Refusal::OutOfRange));
     }
-    let acted = in_place::act(
-        Call::Step(client),
-        store_pages,
-        size,
-        client_count,
-        cap,
+    let Some(numbers) = Numbers::new(size, client_count, cap) else {
+        return word(Err(Refusal::OutOfRange));
+    };
+    let mut books = BooksMut {
+        numbers,
         hand,
         free,
         last,
@@ -265,30 +279,33 @@ pub fn foqheran_parts_step(
         counts,
         table_pages,
         table_frames,
-        client_bytes,
-        client_words,
         grant_pages,
         grant_frames,
-    );
-    let write = acted.write;
-    let entry = acted.entry;
-    let mut held = Content {
-        frames: Frames {
-            pages: store_pages,
-            bytes,
-            filled,
-        },
-        changed,
     };
-    held.follow(store, entry, write);
-    let counted = acted.counted;
-    counting::count(tally, counted);
-    *duty = in_place::duty(entry, write);
-    let answer = acted.answer;
-    word(answer)
+    let mut clients = ClientsMut {
+        bytes: client_bytes,
+        words: client_words,
+    };
+    match in_place::act(Call::Step(client), store_pages, &mut books, &mut clients) {
+        Ok(acted) => {
+            let mut content = Content {
+                frames: Frames {
+                    pages: store_pages,
+                    bytes,
+                    filled,
+                },
+                changed,
+            };
+            content.follow(store, acted.entry, acted.write);
+            counting::count(tally, acted.counted);
+            *duty = in_place::duty(acted.entry, acted.write);
+            word(Ok(acted.answer))
+        }
+        Err(refusal) => word(Err(refusal)),
+    }
 }
 
-// SPECIFICATION 13.9, 14.6: of every pool whose clients and grants lie there.
+/// SPECIFICATION 13.9, 14.6: of every pool whose clients and grants lie there.
 pub fn foqheran_parts_read<'a>(
     client: u8,
     page: u32,
@@ -309,34 +326,30 @@ pub fn foqheran_parts_read<'a>(
         (state_from p store_pages bytes.old filled.old changed store.now)
         (state_from p store_pages bytes.new filled.new changed store.now) }
 {
-    let holder = holding::holder_of(
-        client,
-        page,
-        offset,
-        store.len(),
-        store_pages,
+    let grants = Grants {
         client_count,
-        client_bytes,
-        client_words,
-        grant_pages,
-        grant_frames,
-    );
-    let n = holder.refusal;
-    if n != 0 {
-        return word(Answer::Refused(n));
-    }
-    let frame = holder.frame;
-    let mut frames = Frames {
-        pages: store_pages,
-        bytes,
-        filled,
+        clients: Clients {
+            bytes: client_bytes,
+            words: client_words,
+        },
+        pages: grant_pages,
+        frames: grant_frames,
     };
-    frames.fill(store, frame, page);
-    let byte = frames.byte(frame, offset);
-    word(Answer::Done(byte as u32))
+    match grants.frame_of(client, page, offset, store.len(), store_pages) {
+        Ok(frame) => {
+            let mut frames = Frames {
+                pages: store_pages,
+                bytes,
+                filled,
+            };
+            frames.fill(store, frame, page);
+            word(Ok(Answer::Done(u32::from(frames.byte(frame, offset)))))
+        }
+        Err(refusal) => word(Err(refusal)),
+    }
 }
 
-// SPECIFICATION 13.9, 14.6: of every pool whose clients and grants lie there.
+/// SPECIFICATION 13.9, 14.6: of every pool whose clients and grants lie there.
 pub fn foqheran_parts_write<'a>(
     client: u8,
     page: u32,
@@ -359,37 +372,32 @@ pub fn foqheran_parts_write<'a>(
         (state_from p store_pages bytes.old filled.old changed.old store.now)
         (state_from p store_pages bytes.new filled.new changed.new store.now) }
 {
-    let holder = holding::holder_of(
-        client,
-        page,
-        offset,
-        store.len(),
-        store_pages,
+    let grants = Grants {
         client_count,
-        client_bytes,
-        client_words,
-        grant_pages,
-        grant_frames,
-    );
-    let n = holder.refusal;
-    if n != 0 {
-        return word(Answer::Refused(n));
-    }
-    let frame = holder.frame;
-    let mut held = Content {
-        frames: Frames {
-            pages: store_pages,
-            bytes,
-            filled,
+        clients: Clients {
+            bytes: client_bytes,
+            words: client_words,
         },
-        changed,
+        pages: grant_pages,
+        frames: grant_frames,
     };
-    held.frames.fill(store, frame, page);
-    held.write(frame, offset, byte);
-    word(Answer::Done(page))
+    match grants.frame_of(client, page, offset, store.len(), store_pages) {
+        Ok(frame) => {
+            let frames = Frames {
+                pages: store_pages,
+                bytes,
+                filled,
+            };
+            let mut content = Content { frames, changed };
+            content.frames.fill(store, frame, page);
+            content.write(frame, offset, byte);
+            word(Ok(Answer::Done(page)))
+        }
+        Err(refusal) => word(Err(refusal)),
+    }
 }
 
-// SPECIFICATION 8.2, 14.6: of every pool whose clients and grants lie there.
+/// SPECIFICATION 8.2, 14.6: of every pool whose clients and grants lie there.
 pub fn foqheran_parts_holdings<'a>(
     client: u8,
     rows: &mut [u32],
@@ -411,10 +419,10 @@ pub fn foqheran_parts_holdings<'a>(
         client_words,
         grant_pages,
     );
-    word(answer)
+    word(Ok(answer))
 }
 
-// SPECIFICATION 13.11, 14.8: the whole check 8, whatever the hand and the bytes are.
+/// SPECIFICATION 13.11, 14.8: the whole check 8, whatever the hand and the bytes are.
 pub fn foqheran_parts_check<'a>(
     store: &'a [u8],
     store_pages: u16,
@@ -443,14 +451,12 @@ pub fn foqheran_parts_check<'a>(
         grant_pages.now grant_frames.now)
         store_pages bytes filled.now changed.now store.now)) }
 {
-    let answer = whole_check::check_in_place(
-        store.len(),
-        store_pages,
-        filled,
-        changed,
-        size,
-        client_count,
-        cap,
+    let Some(numbers) = Numbers::new(size, client_count, cap) else {
+        return word(Err(Refusal::OutOfRange));
+    };
+    let books = Books {
+        numbers,
+        hand: 0,
         free,
         last,
         slots,
@@ -459,10 +465,20 @@ pub fn foqheran_parts_check<'a>(
         counts,
         table_pages,
         table_frames,
-        client_bytes,
-        client_words,
         grant_pages,
         grant_frames,
-    );
-    word(answer)
+    };
+    let clients = Clients {
+        bytes: client_bytes,
+        words: client_words,
+    };
+    let marks = Marks {
+        pages: store_pages,
+        filled,
+        changed,
+    };
+    match checks::check(&books, &clients.all(), &marks, store.len()) {
+        Ok(()) => word(Ok(Answer::Done(u32::from(size)))),
+        Err(refusal) => word(Err(refusal)),
+    }
 }

@@ -32,8 +32,6 @@ use Rattle.memory.specs.Requests.{Request, Asks, ReadByte, WriteByte, State, Res
 use Rattle.memory.specs.declared.Memory.{Memory}
 use Rattle.client_arrays.specs.Arrays.{client_bytes, client_words, client_from, clients_from, bytes_with, words_with, put_back, bytes_stay, words_stay}
 use Rattle.content.specs.Filling.{bytes_filled, marks_filled, byte_in, bytes_written, marks_written}
-use Rattle.holding.specs.Holds.{HeldBy}
-use Rattle.holding.specs.declared.Holder.{Holder}
 use Rattle.play.specs.Turn.{is_client}
 use Rattle.play.specs.Parts.{same_clients}
 use Rattle.in_place.specs.Held.{Held, fits, held_refusal, held_of, holder_fits, byte_held_refusal, held_on, duty_on, state_from}
@@ -164,13 +162,6 @@ record Answered (x : Server) (t : List ℕ) (q : Request) : Type 0 where
   as_long : Long left
 
 module _ (spans : Spans) (l : Loans) (x : Server) (long : Long x) (t : List ℕ) where
-  abbrev its_holder : (c g o : ℕ) → Holder
-  its_holder c g o = record { refusal = byte_held_refusal (state_in x) c g o; frame = held_frame (pool_in x) c g }
-
-  held_by : (c g o : ℕ) (p : Pool) (changed : List ℕ) → KeptBy p x
-      → HeldBy (state_from p x.pages x.frames.bytes x.frames.filled changed x.store) c g o (its_holder c g o)
-  held_by c g o p changed k = record { refusal = sym (same_number x p k c g o changed); frame = λ _. sym (same_frame x p k c g) }
-
   read_answered : (c g o : ℕ) → Dec (byte_held_refusal (state_in x) c g o ≡ 0) → Answered x t (ReadByte c g o)
   read_answered c g o (yes z) =
       let f = held_frame (pool_in x) c g in
@@ -180,7 +171,7 @@ module _ (spans : Spans) (l : Loans) (x : Server) (long : Long x) (t : List ℕ)
         answer = word_of (Done (byte_in bytes f o));
         left = _;
         tally = t;
-        allowed = read spans.reads l bytes filled (λ p changed k. reads _ c g o (held_by c g o p changed k) z refl refl refl refl);
+        allowed = read spans.reads l bytes filled (λ p changed k. reads _ c g o (same_number x p k c g o changed ∙ z) (sym (same_frame x p k c g)) refl refl refl refl);
         as_long = long;
       }
   read_answered c g o (no z) =
@@ -188,7 +179,7 @@ module _ (spans : Spans) (l : Loans) (x : Server) (long : Long x) (t : List ℕ)
         answer = word_of (Refused (byte_held_refusal (state_in x) c g o));
         left = _;
         tally = t;
-        allowed = read spans.reads l x.frames.bytes x.frames.filled (λ p changed k. read_turned _ c g o (held_by c g o p changed k) z refl);
+        allowed = read spans.reads l x.frames.bytes x.frames.filled (λ p changed k. read_turned _ c g o (same_number x p k c g o changed) z refl);
         as_long = long;
       }
 
@@ -202,7 +193,7 @@ module _ (spans : Spans) (l : Loans) (x : Server) (long : Long x) (t : List ℕ)
         answer = word_of (Done g);
         left = _;
         tally = t;
-        allowed = write spans.writes l frames (λ p k. writes _ c g o (held_by c g o p x.frames.changed k) z refl refl v refl refl refl);
+        allowed = write spans.writes l frames (λ p k. writes _ c g o (same_number x p k c g o x.frames.changed ∙ z) (sym (same_frame x p k c g)) refl refl v refl refl refl);
         as_long = long;
       }
   write_answered c g o v (no z) =
@@ -210,7 +201,7 @@ module _ (spans : Spans) (l : Loans) (x : Server) (long : Long x) (t : List ℕ)
         answer = word_of (Refused (byte_held_refusal (state_in x) c g o));
         left = _;
         tally = t;
-        allowed = write spans.writes l x.frames (λ p k. write_turned _ c g o (held_by c g o p x.frames.changed k) v z refl);
+        allowed = write spans.writes l x.frames (λ p k. write_turned _ c g o v (same_number x p k c g o x.frames.changed) z refl);
         as_long = long;
       }
 

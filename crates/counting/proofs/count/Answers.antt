@@ -1,13 +1,12 @@
--- The number at the place of what is counted goes up, and nothing where there is no such place. Assumes nothing.
-use Rattle.counting.proofs.GoesUp.{up_as, stays}
+use Rattle.std.proofs.Common.{◌∙◌, get_or}
+use Rattle.counting.proofs.GoesUp.{up_is, goes_up, stays}
 use Rattle.counting.proofs.count.Goals as goal
 
-pub returns-then-i-lt-COUNTS : goal.returns-then-i-lt-COUNTS
-returns-then-i-lt-COUNTS c =
-    let a = c.args in
-    up_as a.tally.now c.long.ensures a.counted c.place_of-i.ensures c.if-i-lt-COUNTS.true c.up.ensures
+pub returns-in-Some : goal.returns-in-Some
+returns-in-Some c =
+    let i = c.in-Some.i in
+    goes_up c.args.tally.now c.args.counted i _ c.told-tally c.in-Some.ensures.place c.in-Some.ensures.bound
+    (c.saturating_add.ensures ∙ up_is (get_or c.args.tally.now i 0) (c.fits-tally i))
 
-pub returns-else-i-lt-COUNTS : goal.returns-else-i-lt-COUNTS
-returns-else-i-lt-COUNTS c =
-    let a = c.args in
-    stays a.tally.now a.counted c.place_of-i.ensures c.if-i-lt-COUNTS.false
+pub returns-in_default : goal.returns-in_default
+returns-in_default c = stays c.args.tally.now c.args.counted c.in_default.ensures.place

@@ -1,34 +1,26 @@
 -- What turns the call down is told first; a call that is not turned down fills the frame of the client's grant. Assumes nothing.
-use mathlib.Core.Path.{refl}
-use Rattle.std.proofs.Common.{rules}
-use mathlib.Core.List.{List}
-use Prim.Native.Nat.{ℕ}
-use Rattle.pool.specs.declared.Pool.{Pool}
-use Rattle.memory.specs.Requests.{State}
+use Rattle.std.proofs.Common.{◌∙◌, sym, ap, refl, rules}
+use Rattle.pool.specs.declared.Answer.TheVariants.{Done}
 use Rattle.in_place.specs.Held.{state_from}
+use Rattle.in_place.specs.Refused.{not_none}
+use Rattle.served.specs.Words.{word_of}
 use Rattle.served.specs.Served.{read_turned, reads}
 use Rattle.served.proofs.foqheran_parts_read.Goals as goal
 
-pub returns-then-n-ne0 : goal.returns-then-n-ne0
-returns-then-n-ne0 c =
-    let state_of : Pool → List ℕ → State = λ p changed. let a = c.args in state_from p a.store_pages a.bytes.now a.filled.now changed a.store.now in
-    let a = c.args in
+pub returns-in-Ok : goal.returns-in-Ok
+returns-in-Ok c =
     λ p changed k.
-    let x = state_of p changed in
-    read_turned x a.client a.page a.offset (c.holder_of-holder.ensures.held_by x k refl refl) c.if-n-ne0.true c.word.ensures
-
-pub fill-requires : goal.fill-requires
-fill-requires c = (c.holder_of-holder.ensures.lent_value c.if-n-ne0.false).0
-
-pub byte-byte-requires : goal.byte-byte-requires
-byte-byte-requires c = (c.holder_of-holder.ensures.lent_value c.if-n-ne0.false).1
-
-pub returns : goal.returns
-returns c =
-    let state_of : Pool → List ℕ → State = λ p changed. let a = c.args in state_from p a.store_pages a.bytes.now a.filled.now changed a.store.now in
     let a = c.args in
-    λ p changed k.
-    let x = state_of p changed in
-    let done = reads x a.client a.page a.offset (c.holder_of-holder.ensures.held_by x k refl refl) c.if-n-ne0.false c.fill.ensures.bytes c.fill.ensures.filled
-    c.byte-byte.ensures c.word-2.ensures in
+    let x = state_from p a.store_pages a.bytes.now a.filled.now changed a.store.now in
+    let h = c.in-Ok.ensures.held_by x k refl refl in
+    let done = reads x a.client a.page a.offset (sym h.refusal) h.frame c.fill.ensures.bytes c.fill.ensures.filled c.byte.ensures
+    (c.word.ensures ∙ ap (λ v. word_of (Done v)) c.from.ensures) in
     search (rules, done)
+
+pub returns-in-Err : goal.returns-in-Err
+returns-in-Err c =
+    λ p changed k.
+    let a = c.args in
+    let x = state_from p a.store_pages a.bytes.now a.filled.now changed a.store.now in
+    let h = c.in-Err.ensures.held_by x k refl refl in
+    read_turned x a.client a.page a.offset (sym h.refusal) (not_none c.in-Err.refusal) c.word-in-Err.ensures

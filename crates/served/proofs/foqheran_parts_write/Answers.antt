@@ -1,29 +1,23 @@
 -- What turns the call down is told first; a call that is not turned down fills the frame of the client's grant. Assumes nothing.
-use mathlib.Core.Path.{refl}
-use Rattle.std.proofs.Common.{rules}
-use Rattle.pool.specs.declared.Pool.{Pool}
-use Rattle.memory.specs.Requests.{State}
+use Rattle.std.proofs.Common.{sym, refl, rules}
 use Rattle.in_place.specs.Held.{state_from}
+use Rattle.in_place.specs.Refused.{not_none}
 use Rattle.served.specs.Served.{write_turned, writes}
 use Rattle.served.proofs.foqheran_parts_write.Goals as goal
 
-pub returns-then-n-ne0 : goal.returns-then-n-ne0
-returns-then-n-ne0 c =
-    let state_of : Pool → State = λ p. let a = c.args in state_from p a.store_pages a.bytes.now a.filled.now a.changed.now a.store.now in
-    let a = c.args in
+pub returns-in-Ok : goal.returns-in-Ok
+returns-in-Ok c =
     λ p k.
-    let x = state_of p in
-    write_turned x a.client a.page a.offset (c.holder_of-holder.ensures.held_by x k refl refl) a.byte c.if-n-ne0.true c.word.ensures
-
-pub fill-requires : goal.fill-requires
-fill-requires c = (c.holder_of-holder.ensures.lent_value c.if-n-ne0.false).0
-
-pub returns : goal.returns
-returns c =
-    let state_of : Pool → State = λ p. let a = c.args in state_from p a.store_pages a.bytes.now a.filled.now a.changed.now a.store.now in
     let a = c.args in
-    λ p k.
-    let x = state_of p in
-    let done = writes x a.client a.page a.offset (c.holder_of-holder.ensures.held_by x k refl refl) c.if-n-ne0.false c.fill.ensures.bytes c.fill.ensures.filled
-    a.byte c.write.ensures.bytes c.write.ensures.changed c.word-2.ensures in
+    let x = state_from p a.store_pages a.bytes.now a.filled.now a.changed.now a.store.now in
+    let h = c.in-Ok.ensures.held_by x k refl refl in
+    let done = writes x a.client a.page a.offset (sym h.refusal) h.frame c.fill.ensures.bytes c.fill.ensures.filled a.byte c.write.ensures.bytes c.write.ensures.changed c.word.ensures in
     search (rules, done)
+
+pub returns-in-Err : goal.returns-in-Err
+returns-in-Err c =
+    λ p k.
+    let a = c.args in
+    let x = state_from p a.store_pages a.bytes.now a.filled.now a.changed.now a.store.now in
+    let h = c.in-Err.ensures.held_by x k refl refl in
+    write_turned x a.client a.page a.offset a.byte (sym h.refusal) (not_none c.in-Err.refusal) c.word-in-Err.ensures
