@@ -9,6 +9,7 @@ ghost use Rattle.in_place.specs.Held.{held_refusal, held_of};
 ghost use Rattle.in_place.specs.Acts.{held_by, IsMove};
 
 use crate::fitting::{client_fits, fresh_frame};
+use actions::Actor;
 use answers::Refusal;
 use books::{Books, BooksMut};
 use client_arrays::{Clients, ClientsMut};
@@ -48,7 +49,13 @@ fn turn(books: &Books, clients: &Clients, call: Call, store_pages: u16) -> Resul
         return Err(Refusal::OutOfRange);
     }
     let fresh = fresh_frame(books, clients, &client)?;
-    let turn = play::decide(books, call, client, fresh);
+    let actor = Actor {
+        books: *books,
+        number: caller,
+        client,
+        fresh,
+    };
+    let turn = play::decide(&actor, call);
     if is_outside(store_pages, call) {
         return Err(checks::outside(turn));
     }

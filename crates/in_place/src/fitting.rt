@@ -8,7 +8,7 @@ ghost use Rattle.pool.specs.declared.Client.{Client};
 ghost use Rattle.answers.specs.declared.refusal.Refusal.TheVariants.{OutOfRange};
 ghost use Rattle.books.specs.Books.{pool_in};
 ghost use Rattle.books.specs.Optional.{IsNumber};
-ghost use Rattle.actions.specs.Ready.{Ready};
+ghost use Rattle.play.specs.Playable.{CanAct};
 ghost use Rattle.client_arrays.specs.Loans.{clients_in};
 ghost use Rattle.in_place.specs.Held.{client_fits, search_fits};
 ghost use Rattle.in_place.specs.Acts.{helds};
@@ -22,7 +22,7 @@ use pool::{Client, MAX_HELD, MAX_PINS};
 #[tactic(auto, unfolding(crate::specs::Held::client_fits, pool::specs::Choose::both, pool::specs::Choose::choose))]
 pub fn client_fits(books: &Books, client: &Client) -> bool
     ensures value { (clients : List Client) → result ≡ client_fits books.now.numbers.size (pins (pool_in books.now clients) client.now.found) client.now }
-    ensures ready { result ≡ true → Ready books.now client.now }
+    ensures ready { result ≡ true → CanAct books.now client.now }
 {
     let size = books.numbers.size;
     client.place < size

@@ -289,11 +289,9 @@ pub fn foqheran_parts_step(
     match in_place::act(Call::Step(client), store_pages, &mut books, &mut clients) {
         Ok(acted) => {
             let mut content = Content {
-                frames: Frames {
-                    pages: store_pages,
-                    bytes,
-                    filled,
-                },
+                pages: store_pages,
+                bytes,
+                filled,
                 changed,
             };
             content.follow(store, acted.entry, acted.write);
@@ -383,13 +381,18 @@ pub fn foqheran_parts_write<'a>(
     };
     match grants.frame_of(client, page, offset, store.len(), store_pages) {
         Ok(frame) => {
-            let frames = Frames {
+            let mut frames = Frames {
+                pages: store_pages,
+                bytes: &mut *bytes,
+                filled: &mut *filled,
+            };
+            frames.fill(store, frame, page);
+            let mut content = Content {
                 pages: store_pages,
                 bytes,
                 filled,
+                changed,
             };
-            let mut content = Content { frames, changed };
-            content.frames.fill(store, frame, page);
             content.write(frame, offset, byte);
             word(Ok(Answer::Done(page)))
         }

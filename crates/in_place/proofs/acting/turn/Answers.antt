@@ -2,6 +2,7 @@
 use Rattle.std.proofs.Common.{◌≡◌, ◌∙◌, sym, ap, arith}
 use Rattle.std.proofs.lemmas.Result.{err_from_is_err_and}
 use Rattle.pool.specs.Choose.{choose}
+use Rattle.pool.specs.State.{client}
 use Rattle.pool.specs.declared.Pool.{Pool}
 use Rattle.answers.specs.Numbers.{refused_by, refusal_number}
 use Rattle.memory.specs.Orders.{order_alone}
@@ -49,7 +50,8 @@ its_pool c = pool_in c.args.books.now (clients_in c.args.clients.now)
 decided : (c : After-decide-turn) → Answers (its_pool c) c.args.call c.get-client.result c.decide-turn.result
 decided c =
     let its = its_record c.args.books.now c.args.clients.now c.args.call c.from.ensures c.caller-caller.ensures c.if-caller-books.false c.get-client.ensures in
-    c.decide-turn.ensures (clients_in c.args.clients.now) (record { client = its; fresh = c.in_ok-fresh.ensures.frame })
+    c.decide-turn.ensures (clients_in c.args.clients.now)
+    (record { client = ap (client (its_pool c)) c.caller-caller.ensures ∙ its; fresh = c.in_ok-fresh.ensures.frame })
 
 -- by the numbers of the turn and of the store
 number : (c : After-decide-turn) → in_order (refused_by c.decide-turn.result) (outside_at c.args.store_pages c.args.call)
