@@ -85,18 +85,13 @@ pub fn write(
         Err(refusal) => return buffered::turned_back(refusal, pool),
     };
     let pages = pool.memory.pages;
-    let mut lent = Frames {
-        pages,
-        bytes: &mut pool.memory.bytes,
-        filled: &mut pool.memory.filled,
-    };
-    lent.fill(store, frame, page);
     let mut content = Content {
         pages,
         bytes: &mut pool.memory.bytes,
         filled: &mut pool.memory.filled,
         changed: &mut pool.memory.changed,
     };
+    content.fill(store, frame, page);
     content.write(frame, offset, byte);
     Reply {
         answer: Answer::Done(page),

@@ -21,6 +21,26 @@ pub fn replaced(frames: &[u8; FRAMES], total: u8, write: Write) -> u8
     }
 }
 
+/// Frame f gets a page of a store of so many, unless it is filled or there is no such page.
+fn fill(
+    bytes: &mut [u8; BYTES],
+    filled: &mut [u8; FRAMES],
+    pages: u16,
+    store: &[u8],
+    f: u8,
+    page: u32,
+)
+    requires { length store.now ≡ page_bytes * pages }
+    ensures bytes { bytes.new ≡ bytes_filled filled.old pages f page bytes.old store.now }
+    ensures filled { filled.new ≡ marks_filled filled.old pages f page }
+{
+    let at = usize::from(f);
+    if at < FRAMES && filled[at] == 0 && page < u32::from(pages) {
+        copy_page(bytes, at, store, page as usize);
+        filled[at] = 1;
+    }
+}
+
 /// The frames' bytes, and the marks of the frames that have their page's bytes: what a read is lent.
 #[derive(Drop)]
 pub struct Frames<'a> {
@@ -38,11 +58,7 @@ impl Frames<'_> {
         ensures bytes { self.new.bytes.now ≡ bytes_filled self.old.filled.now self.old.pages f page self.old.bytes.now store.now }
         ensures filled { self.new.filled.now ≡ marks_filled self.old.filled.now self.old.pages f page }
     {
-        let at = usize::from(f);
-        if at < FRAMES && self.filled[at] == 0 && page < u32::from(self.pages) {
-            copy_page(self.bytes, at, store, page as usize);
-            self.filled[at] = 1;
-        }
+        fill(self.bytes, self.filled, self.pages, store, f, page);
     }
 
     /// Frame f's byte at an offset; 0 where there is no such frame.
@@ -101,6 +117,17 @@ impl Content<'_> {
             }
             _ => {}
         }
+    }
+
+    /// As `Frames::fill`.
+    pub fn fill(&mut self, store: &[u8], f: u8, page: u32)
+        requires { length store.now ≡ page_bytes * self.old.pages }
+        ensures loans { SameContent self.old self.new }
+        ensures bytes { self.new.bytes.now ≡ bytes_filled self.old.filled.now self.old.pages f page self.old.bytes.now store.now }
+        ensures filled { self.new.filled.now ≡ marks_filled self.old.filled.now self.old.pages f page }
+        ensures changed { self.new.changed.now ≡ self.old.changed.now }
+    {
+        fill(self.bytes, self.filled, self.pages, store, f, page);
     }
 
     /// Frame f gets a byte at an offset, and is changed: SPECIFICATION 13.9.

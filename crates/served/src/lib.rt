@@ -381,18 +381,13 @@ pub fn foqheran_parts_write<'a>(
     };
     match grants.frame_of(client, page, offset, store.len(), store_pages) {
         Ok(frame) => {
-            let mut frames = Frames {
-                pages: store_pages,
-                bytes: &mut *bytes,
-                filled: &mut *filled,
-            };
-            frames.fill(store, frame, page);
             let mut content = Content {
                 pages: store_pages,
                 bytes,
                 filled,
                 changed,
             };
+            content.fill(store, frame, page);
             content.write(frame, offset, byte);
             word(Ok(Answer::Done(page)))
         }

@@ -1,6 +1,7 @@
 -- What turns the call down is what `holder` found; one that is not fills the frame of the client's grant, and writes there. Assumes nothing.
-use Rattle.std.proofs.Common.{refl, ◌∙◌}
+use Rattle.std.proofs.Common.{refl, ap, ◌∙◌}
 use Rattle.pool.specs.Answers.{refusal_of}
+use Rattle.content.specs.Filling.{marks_written}
 use Rattle.memory.specs.Requests.{state_of}
 use Rattle.buffered.specs.Refusals.{write_refusals}
 use Rattle.byte_calls.specs.Passed.{write_refused, writes}
@@ -21,7 +22,8 @@ pub returns-clause-value : goal.returns-clause-value
 returns-clause-value c =
     let a = c.args in
     writes a.pool a.store.now a.client a.page a.offset c.in-Ok.ensures.frame c.fill.ensures.bytes c.fill.ensures.filled a.byte
-    c.write.ensures.bytes c.write.ensures.filled c.write.ensures.changed
+    c.write.ensures.bytes c.write.ensures.filled
+    (c.write.ensures.changed ∙ ap (λ l. marks_written l c.in-Ok.frame a.offset) c.fill.ensures.changed)
 
 pub returns-clause-among : goal.returns-clause-among
 unfolding refusal_of
