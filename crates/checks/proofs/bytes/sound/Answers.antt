@@ -1,5 +1,5 @@
 -- What passed as a pool has its bytes tested by its own books. Assumes nothing.
-use Rattle.std.proofs.Common.{rules, tests, ◌≡◌, ◌∙◌, sym, ap, refl, ℕ, Bool, true, false, List}
+use Rattle.std.proofs.Common.{rules, tests, ◌≡◌, ◌∙◌, sym, ap, refl, ℕ, Bool, false, List}
 use Rattle.pool.specs.Choose.{choose, both}
 use Rattle.pool.specs.State.{number_of_clients}
 use Rattle.pool.specs.Valid.{valid}
@@ -44,7 +44,7 @@ bytes_ok-requires c =
 
 pub returns-then-bytes_ok : goal.returns-then-bytes_ok
 returns-then-bytes_ok c =
-    (c.in_ok-checked.ensures, sound_is c.in_ok-checked.checked c.books.result c.of.result c.in_ok-checked.ensures c.books.ensures.pool c.of.ensures c.bytes_ok.ensures ∙ c.if-bytes_ok.true)
+    (search rules, sound_is c.in_ok-checked.checked c.books.result c.of.result c.in_ok-checked.ensures c.books.ensures.pool c.of.ensures c.bytes_ok.ensures ∙ c.if-bytes_ok.true)
 
 pub returns-else-bytes_ok : goal.returns-else-bytes_ok
 returns-else-bytes_ok c =
