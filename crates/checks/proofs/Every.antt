@@ -1,9 +1,10 @@
 -- The definitions' `every` over the first numbers of a list, or of two side by side, is the library's `list_all`, and so what a `fold` with `&&` comes
 -- to. Assumes nothing.
 use Rattle.std.proofs.Common.{◌≡◌, ◌∙◌, sym, ap, refl, ℕ, suc, ◌+◌, ◌*◌, ◌<◌, ◌≤◌, Bool, true, false, not, ◌&&◌, List, [], ◌∷◌, length, get_or, take, drop, arith, length-drop}
-use Rattle.std.specs.List.{fold, list_all, zip}
+use Rattle.std.specs.List.{fold, list_all, zip, range_with_len}
 use Rattle.std.proofs.lemmas.List.{get_or-take, get_or-drop, length-take-le}
 use Rattle.std.proofs.lemmas.List.Folds.{fold_stays}
+use Rattle.std.proofs.lemmas.List.FromFn.{length-range_with_len, get_or-range_with_len}
 use Rattle.std.proofs.lemmas.Slice.Zip.{get_or-zip, length-zip}
 use Rattle.pool.specs.Choose.{choose, scan, every}
 use Rattle.pool.specs.State.{within, of_client}
@@ -37,6 +38,11 @@ module _ {X : Type 0} (q : X → Bool) where
     pub every_is : (xs : List X) (d : X) (n : ℕ) → length xs ≡ n → ((j : ℕ) → j < n → test j ≡ q (get_or xs j d)) → every test n ≡ list_all q xs
     every_is xs d n long e =
         ap (λ k. every test k) (sym long) ∙ from_place xs d 0 (λ j b. let h : j < n = omega (arith, long) in ap test (omega arith) ∙ e j h)
+
+pub every_range : (q : ℕ → Bool) (n : ℕ) → every q n ≡ list_all q (range_with_len 0 n)
+every_range q n =
+    every_is q q (range_with_len 0 n) 0 n (length-range_with_len 0 n)
+    (λ j b. let at : j ≡ get_or (range_with_len 0 n) j 0 = omega (arith, get_or-range_with_len 0 n j 0 b) in ap q at)
 
 pub every_of : (q : ℕ → Bool) (l : List ℕ) (n d : ℕ) → n ≤ length l → every (λ i. q (within l n d i)) n ≡ list_all q (take n l)
 every_of q l n d h =

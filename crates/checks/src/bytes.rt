@@ -18,7 +18,7 @@ ghost use Rattle.checks.specs.Lent.{memory_in};
 
 use crate::whole;
 use answers::Refusal;
-use books::{Books, Checked, Numbers};
+use books::{Books, Checked};
 use memory::{BufferPool, MAX_PAGES, Memory, PAGE};
 use pool::{CLIENTS, Client, FRAMES, GRANTS, HELD, NONE};
 
@@ -144,13 +144,7 @@ fn clients_inside(books: &Books, clients: &[Client; CLIENTS], store: u16) -> boo
     requires { FewGrants books.now.numbers.client_count clients.now }
     ensures { result ≡ every (client_inside (pool_in books.now clients.now) store) books.now.numbers.client_count }
 {
-    // By number, which is no plainer otherwise: it says where the client's grants are.
-    for c in 0..books.numbers.client_count as usize {
-        if !client_inside(books, clients, c, store) {
-            return false;
-        }
-    }
-    true
+    (0..usize::from(books.numbers.client_count)).all(|c| client_inside(books, clients, c, store))
 }
 
 /// Every page number of the pool.
@@ -204,13 +198,13 @@ pub fn sound(pool: &BufferPool) -> Result<Checked<'_>, Refusal>
         (λ c. (c.pool.now ≡ pool.now.pool) × (both (valid pool.now.pool) (bytes_ok pool.now.pool pool.now.memory) ≡ true))
         (λ e. (e ≡ OutOfRange) × (both (valid pool.now.pool) (bytes_ok pool.now.pool pool.now.memory) ≡ false)) }
 {
-    let memory = &pool.memory;
-    let pool = &pool.pool;
-    let Some(numbers) = Numbers::new(pool.size, pool.client_count, pool.cap) else {
-        return Err(Refusal::OutOfRange);
-    };
-    if parts_sound(&Books::of(numbers, pool), &pool.clients, &Marks::of(memory)) {
-        Ok(Checked { pool, numbers })
+    let checked = whole::checked(&pool.pool)?;
+    if bytes_ok(
+        &checked.books(),
+        &pool.pool.clients,
+        &Marks::of(&pool.memory),
+    ) {
+        Ok(checked)
     } else {
         Err(Refusal::OutOfRange)
     }

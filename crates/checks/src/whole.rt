@@ -64,13 +64,7 @@ fn client_ok(books: &Books, clients: &[Client; CLIENTS], c: usize) -> bool
 fn clients_ok(books: &Books, clients: &[Client; CLIENTS]) -> bool
     ensures { result ≡ every (client_ok (pool_in books.now clients.now)) books.now.numbers.client_count }
 {
-    // By number, which is no plainer otherwise: it says where the client's grants are.
-    for c in 0..books.numbers.client_count as usize {
-        if !client_ok(books, clients, c) {
-            return false;
-        }
-    }
-    true
+    (0..usize::from(books.numbers.client_count)).all(|c| client_ok(books, clients, c))
 }
 
 /// All of section 5, of the pool with these books and clients. Its numbers are in range, or they were no `Numbers`.

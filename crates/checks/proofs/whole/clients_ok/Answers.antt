@@ -1,12 +1,15 @@
-use Rattle.std.proofs.Common.{ap, not, arith}
-use Rattle.laws.specs.Loops.{fails, passes, all_pass}
+use Rattle.std.proofs.Common.{rules, tests, ◌∙◌, sym, arith}
+use Rattle.std.proofs.lemmas.Iterator.{YieldsList-from_range}
+use Rattle.std.proofs.lemmas.Iterator.Search.{all_from_yields_List}
+use Rattle.pool.specs.Valid.{client_ok}
+use Rattle.books.specs.Books.{pool_in}
+use Rattle.checks.proofs.Every.{every_range}
 use Rattle.checks.proofs.whole.clients_ok.Goals as goal
 
-pub returns-then-not-client_ok : goal.returns-then-not-client_ok
-returns-then-not-client_ok c = fails c.loop-c.invariant (omega arith) c.client_ok.ensures (ap not c.if-not-client_ok.true)
-
-pub loop-c-preserved : goal.loop-c-preserved
-loop-c-preserved c = passes c.loop-c.invariant (omega arith) c.client_ok.ensures (ap not c.if-not-client_ok.false)
-
 pub returns : goal.returns
-returns c = all_pass c.loop-c.invariant (omega arith)
+returns c =
+    let a = c.args in
+    let p = pool_in a.books.now a.clients.now in
+    let n = a.books.now.numbers.client_count in
+    all_from_yields_List (client_ok p) _ _ _ c.all.ensures.ran (YieldsList-from_range 0 n n (cc) (omega arith)) (λ x b q k. search (rules, tests))
+    ∙ sym (every_range (client_ok p) n)
