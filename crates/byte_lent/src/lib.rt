@@ -12,7 +12,7 @@ ghost use Rattle.byte_lent.specs.Lent.{step_on, tally_on, store_on};
 use memory::{BufferPool, Reply};
 use pool::Tally;
 
-// SPECIFICATION 13.5: its reply, and what it leaves of the tally and of the store, whole.
+/// SPECIFICATION 13.5: its reply, and what it leaves of the tally and of the store, whole.
 pub fn step(pool: BufferPool, client: u8, tally: &mut Tally, store: &mut [u8]) -> Reply
     ensures value { (result ≡ step_on pool client store.old)
         × (tally.new ≡ tally_on pool client store.old tally.old)
