@@ -1,6 +1,5 @@
 -- The first record: what ends the run before it, at it, and what is left of the run where it sets a pool up. Assumes nothing.
 use mathlib.Core.Path.{◌≡◌, refl, sym, ap, ◌∙◌}
-use mathlib.Core.Logic.{◌≢◌}
 use mathlib.Core.Bool.{true, false}
 use mathlib.Core.List.{List}
 use Prim.Native.Nat.{ℕ, suc, ◌+◌, ◌-◌, ◌≤◌, ◌<◌}
@@ -27,19 +26,24 @@ use Rattle.schedule.proofs.Runs.{before, stop_line, no_space, stops, goes_on}
 -- ---- a setup's answer
 
 module _ (size clients cap hand : ℕ) where
-  refuses : (refusal : ℕ) → refusal ≡ refusal_of (setup_of size clients cap hand).answer → refusal ≢ 0 → ((setup_of size clients cap hand).answer ≡ Refused refusal) × (ends_run (Refused refusal) ≡ true)
-  unfolding setup_of refusal_of
-  refuses refusal =
-      by_test (λ (o : Outcome). refusal ≡ refusal_of o.answer → refusal ≢ 0 → (o.answer ≡ Refused refusal) × (ends_run (Refused refusal) ≡ true))
-      (λ _ u z. absurd (z u)) (λ _ u _. (ap Refused (sym u), refused_ends refusal (omega arith) (omega arith)))
+  refuses : ((n : ℕ) → (setup_of size clients cap hand).answer ≡ Done n → ⊥) → (setup_of size clients cap hand).answer ≡ Refused 8
+  unfolding setup_of
+  refuses =
+      by_test (λ (o : Outcome). ((n : ℕ) → o.answer ≡ Done n → ⊥) → o.answer ≡ Refused 8) (λ _ never. absurd (never _ refl)) (λ _ _. refl)
 
-  not_refused : refusal_of (setup_of size clients cap hand).answer ≡ 0 → SetUp (setup_of size clients cap hand).pool
-  unfolding setup_of refusal_of
-  not_refused e = set_up size clients cap hand (done e)
-    where
-      done : refusal_of (setup_of size clients cap hand).answer ≡ 0 → (setup_of size clients cap hand).answer ≡ Done size
-      done =
-          by_test (λ (o : Outcome). refusal_of o.answer ≡ 0 → o.answer ≡ Done size) (λ _ _. refl) (λ _ e. let z : ⊥ = omega arith in absurd z)
+  module _ {n : ℕ} (e : (setup_of size clients cap hand).answer ≡ Done n) where
+    accepts : SetUp (setup_of size clients cap hand).pool
+    unfolding setup_of
+    accepts = set_up size clients cap hand (done e)
+      where
+        done : (setup_of size clients cap hand).answer ≡ Done n → (setup_of size clients cap hand).answer ≡ Done size
+        done =
+            by_test (λ (o : Outcome). o.answer ≡ Done n → o.answer ≡ Done size) (λ _ _. refl)
+            (λ _ e. let z : ◌≡◌ {A = ℕ} 0 1 = cc in absurd (omega arith))
+
+    is_accepted : refusal_of (setup_of size clients cap hand).answer ≡ 0
+    unfolding refusal_of
+    is_accepted = ap refusal_of e
 
 -- an answer that is no refusal does not end the run
 no_refusal : (x : Answer) → refusal_of x ≡ 0 → ends_run x ≡ false
@@ -83,31 +87,33 @@ module _ (s : List ℕ) (space : ℕ) where
         setup_whole = rw e at (read_fits true s)
 
         -- what a setup made
-        module _ {made : Outcome} (is_made : made ≡ setup_of size clients cap hand) {refusal : ℕ} (is_refusal : refusal ≡ refusal_of made.answer) where
-          told : refusal ≡ refusal_of (setup_of size clients cap hand).answer
-          told = rw is_made at is_refusal
+        module _ {made : Outcome} (is_made : made ≡ setup_of size clients cap hand) where
+          made_answer : {a : Answer} → made.answer ≡ a → (setup_of size clients cap hand).answer ≡ a
+          made_answer e = sym (ap (λ (o : Outcome). o.answer) is_made) ∙ e
 
-          pub refused_first : refusal ≢ 0 → ran s space ≡ stopped 0 refusal
+          pub refused_first : ((n : ℕ) → made.answer ≡ Done n → ⊥) → ran s space ≡ stopped 0 8
           unfolding performed
-          refused_first z =
-              let r = refuses size clients cap hand refusal told z in
+          refused_first never =
+              let r = refuses size clients cap hand (λ n e. never n (ap (λ (o : Outcome). o.answer) is_made ∙ e)) in
+              let last : ends_run (Refused 8) ≡ true = refused_ends 8 (omega arith) (omega arith) in
               started
-              ∙ stops (length s) no_pool 0 s space begins (Setup size clients cap hand) (setup_of size clients cap hand) room e refl (ap ends_run r.0 ∙ r.1)
-              ∙ ap (λ (x : Answer). record { records = 0; refusal = refusal_of x; lines = line_for 0 (Setup size clients cap hand) x }) r.0
-              ∙ stop_line 0 refusal (Setup size clients cap hand) r.1
+              ∙ stops (length s) no_pool 0 s space begins (Setup size clients cap hand) (setup_of size clients cap hand) room e refl (ap ends_run r ∙ last)
+              ∙ ap (λ (x : Answer). record { records = 0; refusal = refusal_of x; lines = line_for 0 (Setup size clients cap hand) x }) r
+              ∙ stop_line 0 8 (Setup size clients cap hand) last
 
-          pub set_up_first : refusal ≡ 0 → SetUp made.pool
-          set_up_first z = rw is_made (not_refused size clients cap hand (sym told ∙ z))
+          module _ {n : ℕ} (done : made.answer ≡ Done n) where
+            pub set_up_first : SetUp made.pool
+            set_up_first = rw is_made (accepts size clients cap hand (made_answer done))
 
-          pub accepted_first : refusal ≡ 0 → let w = answer_line 0 0 made.answer in
-              ran s space ≡ before w (run_from (length s) made.pool 1 (drop 10 s) (space - length w))
-          unfolding performed length_of
-          accepted_first z =
-              let goes = no_refusal (setup_of size clients cap hand).answer (sym told ∙ z) in
-              rw is_made
-              (started
-              ∙ goes_on (length s) no_pool 0 s space begins (Setup size clients cap hand) (setup_of size clients cap hand) room e refl goes
-              ∙ rw (setup_line size clients cap hand (setup_of size clients cap hand).answer goes))
+            pub accepted_first : let w = answer_line 0 0 made.answer in
+                ran s space ≡ before w (run_from (length s) made.pool 1 (drop 10 s) (space - length w))
+            unfolding performed length_of
+            accepted_first =
+                let goes = no_refusal (setup_of size clients cap hand).answer (is_accepted size clients cap hand (made_answer done)) in
+                rw is_made
+                (started
+                ∙ goes_on (length s) no_pool 0 s space begins (Setup size clients cap hand) (setup_of size clients cap hand) room e refl goes
+                ∙ rw (setup_line size clients cap hand (setup_of size clients cap hand).answer goes))
 
 -- the rest of the run, as it is told from the first call on
 pub from_first : (s : List ℕ) (p : Pool) {left space : ℕ} → left ≡ space → rest s p 1 10 left ≡ run_from (length s) p 1 (drop 10 s) space

@@ -1,4 +1,3 @@
-pub mod Readings
 pub mod Runs
 pub mod Turned
 pub mod Going

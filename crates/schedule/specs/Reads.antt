@@ -1,8 +1,5 @@
--- A record that is read, or the refusal by which it cannot be. Assumes nothing.
-use Rattle.std.specs.Prelude.{◌≡◌, ◌<◌, ℕ, Result, Ok, Err, MatchResult}
-use Rattle.pool.specs.declared.Reading.{Reading}
-use Rattle.pool.specs.declared.Reading.TheVariants.{Unreadable}
-use Rattle.answers.specs.Numbers.{refusal_number}
+-- The kinds of records by their bytes. Assumes nothing.
+use Rattle.std.specs.Prelude.{◌≡◌, ◌<◌, ℕ, Result, MatchResult}
 use Rattle.answers.specs.declared.refusal.Refusal.{Refusal}
 use Rattle.answers.specs.declared.refusal.Refusal.TheVariants.{NoSuchKind}
 use Rattle.schedule.specs.declared.records.Kind.{Kind}
@@ -18,8 +15,3 @@ kind_number Release = 3
 -- the kind with a number; refusal 5 where there is none
 abbrev pub Numbered : ℕ → Result Kind Refusal → Type 0
 Numbered n found = MatchResult found (λ kind. kind_number kind ≡ n) (λ refusal. (3 < n) × (refusal ≡ NoSuchKind))
-
--- what `read` says of it
-abbrev pub reading_of : Result Reading Refusal → Reading
-reading_of (Ok reading) = reading
-reading_of (Err refusal) = Unreadable (refusal_number refusal)

@@ -13,7 +13,7 @@ mod run_loop;
 
 use answers::Refusal;
 use lines::{LINE, Report};
-use pool::{Ended, Reading};
+use pool::{Answer, Ended};
 
 /// The bytes of the longest file that is played (refusal 1).
 const LONGEST: usize = 16384;
@@ -34,15 +34,14 @@ pub fn run(schedule: &[u8], report: &mut [u8]) -> Ended
     if report.left() < LINE {
         return report.end(Err(Refusal::ReportFull));
     }
-    let reading = records::read(schedule, true);
-    let Reading::Setup(size, client_count, cap, hand) = reading else {
-        return report.stop(answers::unread_of(reading));
+    let (size, client_count, cap, hand) = match records::setup(schedule) {
+        Ok(numbers) => numbers,
+        Err(refusal) => return report.stop(refusal),
     };
     let made = calls::setup(size, client_count, cap, hand);
-    let refusal = answers::refusal_of(made.answer);
-    if refusal != 0 {
-        return report.stop(refusal);
-    }
+    let Answer::Done(_) = made.answer else {
+        return report.stop(Refusal::OutOfRange);
+    };
     report.answer(0, made.answer);
     let Report { space, bytes, .. } = report;
     run_loop::run_calls(schedule, space, made.pool, bytes)

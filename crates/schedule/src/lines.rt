@@ -3,7 +3,7 @@
 
 ghost use Rattle.std.specs.Prelude.{◌≡◌, ◌+◌, ◌-◌, ◌≤◌, ◌<◌, ◌∷◌, ◌++◌, [], length};
 ghost use Rattle.pool.specs.Schedule.{decimal, ends};
-ghost use Rattle.answers.specs.Numbers.{refused_by};
+ghost use Rattle.answers.specs.Numbers.{refusal_number, refused_by};
 ghost use Rattle.schedule.specs.Rest.{answer_line, end_after, report_after, stopped};
 
 use answers::Refusal;
@@ -107,21 +107,17 @@ impl Report<'_> {
         self.records += 1;
     }
 
-    /// A record ends the run by the refusal with this number, as public types have it; its line names client 0.
+    /// A record ends the run by a refusal; its line names client 0.
     #[tactic(auto, unfolding(crate::specs::Rest::end_after, crate::specs::Rest::report_after, pool::specs::Answers::code_of, pool::specs::Answers::value_of))]
-    pub fn stop(&mut self, refusal: u8) -> Ended
+    pub fn stop(&mut self, refusal: Refusal) -> Ended
         requires room { self.old.bytes + 24 ≤ length self.old.space.now }
         requires few { self.old.records ≤ 9999 }
         ensures loan { self.new.space.ghost_name ≡ self.old.space.ghost_name }
-        ensures ended { result ≡ end_after self.old.bytes (stopped self.old.records refusal) }
-        ensures report { self.new.space.now ≡ report_after self.old.bytes (stopped self.old.records refusal) self.old.space.now }
+        ensures ended { result ≡ end_after self.old.bytes (stopped self.old.records (refusal_number refusal)) }
+        ensures report { self.new.space.now ≡ report_after self.old.bytes (stopped self.old.records (refusal_number refusal)) self.old.space.now }
     {
-        self.line(0, Answer::Refused(refusal));
-        Ended {
-            records: self.records,
-            bytes: self.bytes,
-            refusal,
-        }
+        self.line(0, refusal.into());
+        self.end(Err(refusal))
     }
 
     /// The run ends without a line.

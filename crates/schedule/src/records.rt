@@ -1,12 +1,13 @@
 // Reading one record at the start of the schedule bytes that are left: SPECIFICATION 9.1 and 9.2.
 
-ghost use Rattle.std.specs.Prelude.{◌≡◌, ◌+◌, ◌≤◌, length, IfOk, IfErr};
+ghost use Rattle.std.specs.Prelude.{◌≡◌, ◌+◌, ◌≤◌, Bool, true, false, length, IfOk, IfErr};
 ghost use Rattle.pool.specs.Answers.{unread_of};
 ghost use Rattle.answers.specs.Among.{Among};
 ghost use Rattle.answers.specs.Numbers.{refusal_number};
 ghost use Rattle.answers.specs.Refusals.{by_record};
-ghost use Rattle.pool.specs.Schedule.{number, cut, marked, read};
-ghost use Rattle.schedule.specs.Reads.{Numbered, reading_of};
+ghost use Rattle.pool.specs.Schedule.{byte, number, cut, marked, read};
+ghost use Rattle.pool.specs.declared.Reading.TheVariants.{Setup, Asked, Unreadable};
+ghost use Rattle.schedule.specs.Reads.{kind_number, Numbered};
 
 use answers::Refusal;
 use pool::{Call, Reading};
@@ -65,12 +66,14 @@ fn is_marked(rest: &[u8]) -> bool
     rest.starts_with(&MARK)
 }
 
-/// The record, or why it cannot be read: the checks in the order of SPECIFICATION 9.2.
-#[tactic(auto, unfolding(pool::specs::Schedule::read, pool::specs::Schedule::content, pool::specs::Schedule::cut, pool::specs::Answers::unread_of, pool::specs::Choose::both, pool::specs::Choose::either, pool::specs::Choose::choose))]
-fn record(rest: &[u8], first: bool) -> Result<Reading, Refusal>
-    ensures value { reading_of result ≡ read first rest.now }
-    ensures read { IfOk result (λ reading. unread_of reading ≡ 0) }
-    ensures refused { IfErr result (λ refusal. Among by_record (refusal_number refusal)) }
+/// The kind of the record: the checks 3, 4 and 5 in the order of SPECIFICATION 9.2.
+#[tactic(auto, unfolding(pool::specs::Schedule::read, pool::specs::Schedule::cut, pool::specs::Choose::both, pool::specs::Choose::either, pool::specs::Choose::choose))]
+fn kind_of(rest: &[u8]) -> Result<Kind, Refusal>
+    ensures read { IfOk result (λ kind. (cut rest.now ≡ false) × (marked rest.now ≡ true) × (byte rest.now 2 ≡ kind_number kind)) }
+    ensures whole { IfOk result (λ kind. 8 ≤ length rest.now) }
+    ensures setup_whole { IfOk result (λ kind. kind_number kind ≡ 0 → 10 ≤ length rest.now) }
+    ensures refused { IfErr result (λ refusal. (first : Bool) → read first rest.now ≡ Unreadable (refusal_number refusal)) }
+    ensures among { IfErr result (λ refusal. Among by_record (refusal_number refusal)) }
 {
     if is_cut(rest) {
         return Err(Refusal::Cut);
@@ -78,17 +81,37 @@ fn record(rest: &[u8], first: bool) -> Result<Reading, Refusal>
     if !is_marked(rest) {
         return Err(Refusal::NoMark);
     }
-    let kind = Kind::try_from(rest[2])?;
-    if first != (kind == Kind::Setup) {
-        return Err(Refusal::SetupMisplaced);
+    Kind::try_from(rest[2])
+}
+
+/// The first record, a setup's numbers, or why it cannot be read.
+#[tactic(auto, unfolding(pool::specs::Schedule::read, pool::specs::Schedule::content, pool::specs::Choose::choose))]
+pub fn setup(rest: &[u8]) -> Result<(u8, u8, u8, u32), Refusal>
+    ensures value { IfOk result (λ s. read true rest.now ≡ Setup s.0 s.1 s.2 s.3) }
+    ensures refused { IfErr result (λ refusal. read true rest.now ≡ Unreadable (refusal_number refusal)) }
+    ensures among { IfErr result (λ refusal. Among by_record (refusal_number refusal)) }
+{
+    match kind_of(rest)? {
+        Kind::Setup => Ok((rest[3], rest[4], rest[5], number(rest, 6))),
+        Kind::Begin | Kind::Step | Kind::Release => Err(Refusal::SetupMisplaced),
     }
+}
+
+/// A later record, a call, or why it cannot be read.
+#[tactic(auto, unfolding(pool::specs::Schedule::read, pool::specs::Schedule::content, pool::specs::Choose::choose))]
+pub fn call(rest: &[u8]) -> Result<Call, Refusal>
+    ensures value { IfOk result (λ call. read false rest.now ≡ Asked call) }
+    ensures refused { IfErr result (λ refusal. read false rest.now ≡ Unreadable (refusal_number refusal)) }
+    ensures among { IfErr result (λ refusal. Among by_record (refusal_number refusal)) }
+{
+    let kind = kind_of(rest)?;
     let client = rest[3];
     let page = number(rest, 4);
     match kind {
-        Kind::Setup => Ok(Reading::Setup(client, rest[4], rest[5], number(rest, 6))),
-        Kind::Begin => Ok(Reading::Asked(Call::Begin(client, page))),
-        Kind::Release => Ok(Reading::Asked(Call::Release(client, page))),
-        Kind::Step if page == 0 => Ok(Reading::Asked(Call::Step(client))),
+        Kind::Setup => Err(Refusal::SetupMisplaced),
+        Kind::Begin => Ok(Call::Begin(client, page)),
+        Kind::Release => Ok(Call::Release(client, page)),
+        Kind::Step if page == 0 => Ok(Call::Step(client)),
         Kind::Step => Err(Refusal::StepNamesPage),
     }
 }
@@ -100,8 +123,15 @@ pub fn read(rest: &[u8], first: bool) -> Reading
     ensures value { result ≡ read first rest.now }
     ensures among { Among by_record (unread_of result) }
 {
-    match record(rest, first) {
-        Ok(reading) => reading,
-        Err(refusal) => Reading::Unreadable(refusal.number()),
+    if first {
+        match setup(rest) {
+            Ok((size, client_count, cap, hand)) => Reading::Setup(size, client_count, cap, hand),
+            Err(refusal) => Reading::Unreadable(refusal.number()),
+        }
+    } else {
+        match call(rest) {
+            Ok(call) => Reading::Asked(call),
+            Err(refusal) => Reading::Unreadable(refusal.number()),
+        }
     }
 }

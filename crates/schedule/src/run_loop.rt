@@ -18,7 +18,7 @@ use crate::lines::{LINE, Report};
 use crate::records;
 use answers::Refusal;
 use books::{Checked, Numbers};
-use pool::{Answer, Call, Ended, Pool, Reading};
+use pool::{Answer, Call, Ended, Pool};
 
 /// A call, played on the pool where it lies, with no check 8 after it.
 #[tactic(auto, unfolding(pool::specs::Apply::apply))]
@@ -76,9 +76,9 @@ pub fn run_calls(schedule: &[u8], report: &mut [u8], first: Pool, start: usize) 
         if report.left() < LINE {
             return report.end(Err(Refusal::ReportFull));
         }
-        let reading = records::read(&schedule[place..], false);
-        let Reading::Asked(call) = reading else {
-            return report.stop(answers::unread_of(reading));
+        let call = match records::call(&schedule[place..]) {
+            Ok(call) => call,
+            Err(refusal) => return report.stop(refusal),
         };
         place += 8;
         let caller = answers::caller(call);

@@ -15,7 +15,7 @@ use calls::Stepped;
 use pool::{Answer, Pool, Tally};
 
 /// What a step returns: its answer and the pool.
-#[derive(Clone, Copy)]
+#[derive(Clone, Copy, Debug, PartialEq, Eq)]
 pub struct Answered {
     pub answer: Answer,
     pub pool: Pool,

@@ -1,5 +1,6 @@
 -- Holdings of a pool that passes check 8, its own and that of the bytes, are those of the pool within. One that does not is turned down by 8 and leaves
 -- the list. Assumes nothing.
+use Rattle.std.specs.Prelude.{Result, Ok, Err, IfErr}
 use Rattle.std.proofs.Common.{◌≡◌, Bool, true, false, List, ℕ, refl, sym, true≢false}
 use Rattle.pool.specs.Choose.{choose, both}
 use Rattle.pool.specs.Holdings.{holdings_refusal, listed, holdings_of}
@@ -7,6 +8,7 @@ use Rattle.pool.specs.Valid.{valid}
 use Rattle.pool.specs.declared.Answer.TheVariants.{Refused}
 use Rattle.pool.specs.declared.Pool.{Pool}
 use Rattle.pool.specs.declared.Row.{Row}
+use Rattle.answers.specs.declared.refusal.Refusal.{Refusal}
 use Rattle.laws.specs.Choices.{chosen}
 use Rattle.laws.specs.Scans.{both_second}
 use Rattle.memory.specs.Requests.{bytes_ok, holdings_on}
@@ -30,9 +32,16 @@ refused b c rows e = go (valid b.pool) (bytes_ok b.pool b.memory) refl e
     go false true v _ = sym (by_own b.pool c rows v)
     go false false _ _ = refl
 
-pub returns-in-Ok : goal.returns-in-Ok
+pub returns-clause-found : goal.returns-clause-found
 unfolding holdings_on
-returns-in-Ok c = λ client rows. sym (chosen _ _ _ (both_second _ _ (c.in-Ok.ensures).1))
+returns-clause-found c = λ client rows. sym (chosen _ _ _ (both_second _ _ (c.in_ok-sound.ensures).1))
 
-pub returns-in-Err : goal.returns-in-Err
-returns-in-Err c = λ client rows. refused c.args.pool client rows (c.in-Err.ensures).1
+if_refused : {A : Type 0} {P : Type 0} (r : Result A Refusal) → P → IfErr r (λ _. P)
+if_refused (Ok _) p = tt
+if_refused (Err _) p = p
+
+pub returns-in_err-sound-clause-refused : goal.returns-in_err-sound-clause-refused
+returns-in_err-sound-clause-refused c =
+    let b = c.args.pool in
+    let all : (client : ℕ) (rows : List Row) → listed (Refused 8) rows ≡ holdings_on b client rows = λ client rows. refused b client rows c.in_err-sound.ensures.1 in
+    if_refused _ all

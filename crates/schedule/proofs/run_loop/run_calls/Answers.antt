@@ -1,15 +1,11 @@
 use borrow.Author.Rules.{rules}
 use native.Mathlib.Omega.{arith}
-use mathlib.Core.Path.{◌≡◌, refl, sym, subst, ◌∙◌}
-use mathlib.Core.Bool.{false}
+use mathlib.Core.Path.{refl, sym, subst, ◌∙◌}
 use Prim.Native.Nat.{ℕ}
-use Rattle.pool.specs.Schedule.{read}
-use Rattle.pool.specs.declared.Reading.TheVariants.{Asked}
 use Rattle.schedule.specs.Reports.{Wrote}
 use Rattle.invariant.proofs.Valid.{valid_reached}
 use Rattle.schedule.specs.Rest.{answer_line}
-use Rattle.schedule.proofs.Readings.{later_unread}
-use Rattle.schedule.proofs.Runs.{from, report_here}
+use Rattle.schedule.proofs.Runs.{report_here}
 use Rattle.schedule.proofs.Turned.{is_call}
 use Rattle.schedule.proofs.Going.{at_start, few, place_fits, falls, comes_to, all_read, full, unread, next}
 use Rattle.schedule.proofs.run_loop.run_calls.Goals as goal
@@ -30,11 +26,10 @@ returns-then-left-lt-LINE c =
 pub stop-requires : goal.stop-requires
 stop-requires c = record { room = omega arith; few = few c.loop-place.invariant }
 
-pub returns-in_default : goal.returns-in_default
-returns-in_default c =
+pub returns-in-Err : goal.returns-in-Err
+returns-in-Err c =
     let g = c.loop-place.invariant in
-    let e = later_unread _ c.read-reading.ensures.value c.in_default.not-Asked c.unread_of.ensures in
-    let rest = comes_to g _ (unread g (omega arith) (omega arith) _ e) in
+    let rest = comes_to g _ (unread g (omega arith) (omega arith) _ c.in-Err.ensures.refused) in
     (c.stop.ensures.ended ∙ rest.0, (search rules) ∙ c.stop.ensures.report ∙ rest.1)
 
 pub overflow_add-place : goal.overflow_add-place
@@ -52,12 +47,10 @@ loop-place-smaller c = falls c.loop-place.invariant (omega arith)
 pub loop-place-preserved : goal.loop-place-preserved
 loop-place-preserved c =
     let l = c.loop-place in
-    let call = c.in-Asked.call in
-    let is_call_read : read false (from l.place c.args.schedule.now) ≡ Asked call = sym c.read-reading.ensures.value ∙ c.in-Asked.is in
     let done = c.perform-answer.ensures in
     let wrote = c.answer.ensures in
     let its_line : ℕ → Type 0 = λ client. Wrote (answer_line l.report.records client c.perform-answer.result) l.report c.answer.new.self in
-    next l.invariant (omega arith) (omega arith) call is_call_read (is_call l.pool call l.invariant.reached done.moved done.turned) done.numbers
+    next l.invariant (omega arith) (omega arith) _ c.in-Ok.ensures.value (is_call l.pool _ l.invariant.reached done.moved done.turned) done.numbers
     (subst its_line c.caller-caller.ensures wrote.answered) wrote.records
 
 pub returns-then-place-schedule : goal.returns-then-place-schedule
