@@ -12,7 +12,7 @@ use answers::Stage;
 use pool::Move;
 
 impl Actor<'_> {
-    /// Its move at a stage.
+    /// Its move at a stage. One `match` on a closed enum: a closure or a `dyn` for each stage would say less.
     fn turn(&self, stage: Stage) -> Move
         ensures { (clients : List Client) →
             (stage ≡ TakeFrame → unwrap_or self.now.fresh none ≡ free_frame (pool_in self.now.books clients)) →

@@ -39,7 +39,8 @@ pub fn value_of(a: Answer) -> u32
     }
 }
 
-/// The refusal number of an answer, 0 for one that is no refusal.
+/// The refusal number of an answer, 0 for one that is no refusal. A number and no option: the calls' promises list by which numbers they can be refused
+/// (`Among`), and a handed answer may have any.
 pub fn refusal_of(a: Answer) -> u8
     ensures { result ≡ refusal_of a }
 {
@@ -51,7 +52,7 @@ pub fn refusal_of(a: Answer) -> u8
     }
 }
 
-/// The refusal by which a record cannot be read, 0 for one that is read whole.
+/// The refusal by which a record cannot be read, 0 for one that is read whole. A number, as `refusal_of`.
 pub fn unread_of(r: Reading) -> u8
     ensures { result ≡ unread_of r }
 {

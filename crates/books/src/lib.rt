@@ -1,6 +1,6 @@
 // A pool's books where they lie: what the pool keeps of its slots, frames, table and grants, lent by whoever has it, an owned pool or a C program's
 // memory. `Books` are lent to be read, `BooksMut` to be written, too. The clients' records are no part of them, since the two owners keep those in
-// different forms. Internal.
+// different forms. What only lends has no derives for comparing or printing, as nobody does that with what is lent. Internal.
 #![tactic(auto)]
 
 pub mod checked;

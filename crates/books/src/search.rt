@@ -48,6 +48,7 @@ impl Books<'_> {
     fn in_slot(&self, f: u8) -> bool
         ensures { (clients : List Client) → result ≡ some (λ i. eqb (slot (pool_in self.now clients) i) f) self.now.numbers.size }
     {
+        // By a local: the array behind a field is lent on as a slice only so.
         let slots = self.slots;
         searches::has(slots, self.numbers.size as usize, f)
     }

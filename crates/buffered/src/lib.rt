@@ -1,6 +1,7 @@
 // The calls of a pool that has bytes: setup, begin and release (SPECIFICATION, section 13). Each takes any pool, numbers and store, and its promise says
 // what it answers and what it leaves, whole. The second clause of a promise lists by which refusals the call can be refused; 0 is no refusal. Public,
-// through crate `foqheran`; the step is in crate `byte_step`, reads and writes are in crate `byte_calls`.
+// through crate `foqheran`; the step is in crate `byte_step`, reads and writes are in crate `byte_calls`. By value, as the theorems of crate `byte_tie`
+// name these promises.
 #![tactic(auto)]
 
 ghost use Rattle.std.specs.Prelude.{◌≡◌, List, ℕ, MatchOption};

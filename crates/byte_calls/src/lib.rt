@@ -1,6 +1,6 @@
 // A read and a write of one byte of a page that a resting client holds: SPECIFICATION 13.9, 13.10. Each takes any pool, numbers and store, and its promise
 // says what it answers and what it leaves, whole; the store is only read. The second clause of a promise lists by which refusals the call can be
-// refused; 0 is no refusal. Public, through crate `foqheran`.
+// refused; 0 is no refusal. Public, through crate `foqheran`. By value, as the theorems of crate `byte_tie` name these promises.
 #![tactic(auto)]
 
 ghost use Rattle.std.specs.Prelude.{◌≡◌, ◌*◌, ◌<◌, length, IfOk, MatchResult};

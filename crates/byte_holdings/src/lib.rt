@@ -1,7 +1,8 @@
 // Holdings of a pool that has bytes (SPECIFICATION 8.2, 13.11): those of the pool, after a check 8 that looks at the bytes, too. Public, through crate
 // `foqheran`.
 //
-// The second clause of each public promise lists by which refusals the call can be refused; 0 is no refusal.
+// The second clause of each public promise lists by which refusals the call can be refused; 0 is no refusal. The forms by value stay, since the theorems
+// of crate `byte_tie` name them.
 #![tactic(auto, unfolding(pool::specs::Answers::refusal_of))]
 
 ghost use Rattle.std.specs.Prelude.{◌≡◌, List, ℕ, ◌≤◌, take, IfOk, IfErr};

@@ -1,6 +1,6 @@
 // A step of a pool that has bytes, with the tally by value and the store lent (SPECIFICATION 13.4 to 13.8). It takes any pool, client, tally and store,
 // and its promise says what it answers and what it leaves, whole. Crate `byte_lent` has the form that is lent the tally, too. Public, through crate
-// `foqheran`.
+// `foqheran`. Both stay, since the theorems of crate `byte_tie` name them.
 #![tactic(auto)]
 
 ghost use Rattle.std.specs.Prelude.{◌≡◌};

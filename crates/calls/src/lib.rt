@@ -1,5 +1,7 @@
 // The calls: setup, begin, step, release. Each takes any pool and any numbers, and its promise says what it answers and what it leaves, whole. The
 // second clause of a promise lists by which refusals the call can be refused; 0 is no refusal. Public, through crate `storeless`.
+//
+// They go by value, with a pool handed back where a call is refused, since the theorems of crate `tie` name these promises.
 #![tactic(auto)]
 
 ghost use Rattle.std.specs.Prelude.{◌≡◌};

@@ -1,4 +1,5 @@
-// A caller's tally that is six numbers in an array, brought up to date where it lies (SPECIFICATION 14.3). Internal.
+// A caller's tally that is six numbers in an array, brought up to date where it lies (SPECIFICATION 14.3): so C programs
+// keep it, and it is no `Tally` that crate `tallies` could count. Internal.
 #![tactic(auto, unfolding(pool::specs::Tallies::tallied, pool::specs::Tallies::up, pool::specs::Choose::choose))]
 
 ghost use Rattle.std.specs.Prelude.{◌≡◌, ◌<◌, unwrap_or, IfSome};

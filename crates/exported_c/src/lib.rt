@@ -1,4 +1,5 @@
 // The run of a schedule, exported for C and Rust: the function of its name in crate `exported`, with its promise. Public: for programs in other languages.
+// A crate is a library or a static library, and theorems name the functions of a library: so it stands twice.
 #![tactic(auto)]
 
 ghost use Rattle.std.specs.Prelude.{◌≡◌};

@@ -10,7 +10,7 @@ const GOES_BACK: u64 = 1;
 /// A frame's content goes to another frame.
 const MOVES: u64 = 2;
 
-/// A duty as one number: what it is, a frame, and the page or the frame that the frame's content goes to.
+/// A duty as one number, as the C interface has it (`foqheran_duty`): what it is, a frame, and the page or the frame that the frame's content goes to.
 fn word(kind: u64, from: u8, to: u32) -> u64
     requires { kind ≤ 2 }
     ensures { result ≡ duty_word kind from to }

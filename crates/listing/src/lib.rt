@@ -1,5 +1,6 @@
 // Holdings in place: of a pool that its owner, a program in another language, keeps in numbers and arrays and lends, over a list of numbers that it lends
-// too (SPECIFICATION 14.6). Nothing is asked of what stands there. Internal: crate `served` has the call by name.
+// too (SPECIFICATION 14.6). Nothing is asked of what stands there, and only the numbers that the list rests on are tested (14.4), so that it is not crate
+// `holdings`' call. Internal: crate `served` has the call by name.
 #![tactic(auto)]
 
 ghost use Rattle.std.specs.Prelude.{◌≡◌, ◌++◌, ◌*◌, ◌≤◌, ℕ, drop, length, IfOk};

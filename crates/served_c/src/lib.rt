@@ -1,5 +1,6 @@
 // The calls in place for programs in C and Rust, exported: each is the function of its name in crate `served` and promises what that one does. Public:
-// for programs in other languages, through `include/foqheran.h` and the Rust crate `foqheran`, which keep all of it in one struct.
+// for programs in other languages, through `include/foqheran.h` and the Rust crate `foqheran`, which keep all of it in one struct. A crate is a library or a
+// static library, and theorems name the functions of a library: so they stand twice. Names and parameters are the C interface.
 #![tactic(auto)]
 
 ghost use Rattle.std.specs.Prelude.{◌≡◌, List, ℕ};

@@ -1,6 +1,7 @@
 // The step over a lent tally (SPECIFICATION 7.2). Public, through crate `storeless`.
 //
-// The stages and all counting are by value, in crate `calls`. `step` only carries the tally there and back.
+// The stages and all counting are by value, in crate `calls`. `step` only carries the tally there and back, and `step_of` is the same by value: the
+// theorems of crate `tie` name both.
 #![tactic(auto)]
 
 ghost use Rattle.std.specs.Prelude.{◌≡◌};
