@@ -43,7 +43,8 @@ pub fn entries_ok(books: &Books) -> bool
 {
     let mut marks = [false; 1021];
     // By number, a byte, which what a search finds is compared with. `enumerate` is no plainer: the array has to be lent through a local, its first places
-    // as a slice, and the index cast back to a byte. With `(0..n).zip(pages)` the proof did not close: the loop's invariant cannot name the number.
+    // as a slice, and the index cast back to a byte. `(0..n).zip(pages)` was tried: the loop's invariant has to count what the iterator gave, where it now
+    // has i, and the proof did not close as it stands.
     for i in 0..books.numbers.total() {
         let met = met(&mut marks, books.table_pages[i as usize]);
         if !entry_ok(books, i, met) {
