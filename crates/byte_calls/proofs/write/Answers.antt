@@ -1,8 +1,5 @@
 -- What turns the call down is what `holder` found; one that is not fills the frame of the client's grant, and writes there. Assumes nothing.
-    let changed = c.write.ensures.changed ∙ ap (λ l. marks_written l c.in-Ok.frame a.offset) c.fill.ensures.changed in
-    let done = writes a.pool a.store.now a.client a.page a.offset c.in-Ok.ensures.frame c.fill.ensures.bytes c.fill.ensures.filled a.byte
-    c.write.ensures.bytes c.write.ensures.filled changed in
-    search (rules, done)
+use Rattle.std.proofs.Common.{rules, refl, ap, ◌∙◌}
 use Rattle.pool.specs.Answers.{refusal_of}
 use Rattle.content.specs.Filling.{marks_written}
 use Rattle.memory.specs.Requests.{state_of}
