@@ -36,6 +36,7 @@ failed_second s t = rw (s, t) refl
 
 -- ---- marks
 
+-- as books.proofs.First has it, which is not handed to other crates
 both_is : (a b : Bool) → both a b ≡ a && b
 unfolding both choose
 both_is true b = refl

@@ -77,7 +77,7 @@ fn frames_inside(pages: &[u32; FRAMES], n: usize, store: u16) -> bool
     each_inside(&pages[..n], store)
 }
 
-/// A place of the table with this frame and page.
+/// A place of the table with this frame, as the array has it (NONE: unused), and page.
 #[tactic(auto, unfolding(pool::specs::Choose::either, pool::specs::Choose::choose))]
 fn entry_inside(frame: u8, page: u32, store: u16) -> bool
     ensures { result ≡ either (eqb frame none) (inside store page) }
@@ -120,7 +120,8 @@ fn grants_inside(pages: &[u32; GRANTS], c: usize, held: u8, store: u16) -> bool
     all_inside(&pages[at..at + held as usize], store)
 }
 
-/// The page that a client at a stage wants, if it works.
+/// The page that a client at a stage wants, if it works. The stage is a number, 0 at rest, since a record's may be any: so `client_inside` of
+/// memory.specs.Requests asks it.
 #[tactic(auto, unfolding(pool::specs::Choose::either, pool::specs::Choose::choose))]
 fn wanted_inside(stage: u8, page: u32, store: u16) -> bool
     ensures { result ≡ either (eqb stage 0) (inside store page) }

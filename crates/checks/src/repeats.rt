@@ -32,6 +32,7 @@ fn entry_ok(books: &Books, i: u8, met: bool) -> bool
 {
     let frame = books.table_frames[i as usize];
     let page = books.table_pages[i as usize];
+    // NONE, as the array has it: so a C program's memory has it, and `valid` is asked of any pool.
     frame == NONE || frame < books.numbers.total() && (!met || books.entry_of(page) == Some(i))
 }
 
@@ -41,7 +42,9 @@ pub fn entries_ok(books: &Books) -> bool
         (books.now.numbers.size + 2 * books.now.numbers.client_count) }
 {
     let mut marks = [false; 1021];
-    // By number, which is no plainer otherwise: what a search finds is compared with it.
+    // By number, a byte, which what a search finds is compared with. `enumerate` is no plainer: the array has to be lent through a local, its first places
+    // as a slice, and the index cast back to a byte. `(0..n).zip(pages)` was tried: the loop's invariant has to count what the iterator gave, where it now
+    // has i, and the proof did not close as it stands.
     for i in 0..books.numbers.total() {
         let met = met(&mut marks, books.table_pages[i as usize]);
         if !entry_ok(books, i, met) {
@@ -74,7 +77,7 @@ pub fn grants_ok(books: &Books, c: usize, held: u8) -> bool
         (books.now.numbers.size + 2 * books.now.numbers.client_count) }
 {
     let mut marks = [false; 64];
-    // By number, as for the table.
+    // By number, as for the table, and for the same reasons.
     for i in 0..held {
         let met = met(&mut marks, books.grant_pages[HELD * c + i as usize]);
         if !grant_ok(books, c, held, i, met) {

@@ -1,4 +1,8 @@
 // The tests of one number or one client. Each is the definition of its name.
+//
+// They ask bytes as a record has them: so a C program's memory has them, and `valid` is asked of any pool. So a frame is compared with NONE, and a stage with
+// its number of SPECIFICATION 3.6. `Stage` cannot say these tests: `uses_own` of pool.specs.Valid is true of every number above 23 too, which is no stage,
+// and `Stage::X.number()` is no pattern.
 #![tactic(auto, unfolding(pool::specs::Valid::frame_ok, pool::specs::Valid::used_ok, pool::specs::Valid::state_ok, pool::specs::Valid::counts_ok, pool::specs::Valid::names_ok, pool::specs::Choose::both, pool::specs::Choose::either, pool::specs::Choose::choose))]
 
 ghost use Rattle.std.specs.Prelude.{◌≡◌};

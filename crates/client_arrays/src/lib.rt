@@ -21,7 +21,7 @@ pub const ALL_BYTES: usize = CLIENTS * CLIENT_BYTES;
 
 pub const ALL_WORDS: usize = CLIENTS * CLIENT_WORDS;
 
-/// The clients, lent to be read.
+/// The clients, lent to be read. Numbers at fixed places, and no list of records: the C interface, `struct foqheran_pool`.
 #[derive(Clone, Copy)]
 pub struct Clients<'a> {
     pub bytes: &'a [u8; ALL_BYTES],
@@ -55,6 +55,7 @@ impl Clients<'_> {
     pub fn all(&self) -> [Client; CLIENTS]
         ensures { result ≡ clients_in self.now }
     {
+        // `array::from_fn(|c| self.get(c))` was tried, and the proof did not close: its calls' states are not known to be one.
         let mut clients = [moves::resting(0); CLIENTS];
         for c in 0..CLIENTS {
             clients[c] = self.get(c);
@@ -121,6 +122,7 @@ impl ClientsMut<'_> {
         ensures clients { clients_of self.new ≡ replicate max_clients (resting 0) }
     {
         let resting = moves::resting(0);
+        // By number: the records lie in two arrays of numbers (the C interface), which have no iterator over records.
         for c in 0..CLIENTS {
             self.put(c, resting);
         }

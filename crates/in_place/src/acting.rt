@@ -15,7 +15,8 @@ use books::{Books, BooksMut};
 use client_arrays::{Clients, ClientsMut};
 use pool::{Answer, Call, Counted, Move, Write};
 
-/// What a call answers, how it counts, what it wrote to the pool, and the frame of the entry that this replaced, or NONE.
+/// What a call answers, how it counts, what it wrote to the pool, and the frame of the entry that this replaced, or NONE: the number as the table has it,
+/// which `follow` and `duty` take, so that no option is made here and taken apart there.
 #[derive(Clone, Copy)]
 pub struct Acted {
     pub answer: Answer,

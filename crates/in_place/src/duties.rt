@@ -18,7 +18,7 @@ fn word(kind: u64, from: u8, to: u32) -> u64
     (kind << 40) + (u64::from(from) << 32) + u64::from(to)
 }
 
-/// The content of frame `from` goes back as its page, or to frame `to`.
+/// The content of frame `from` goes back as its page, or to frame `to`. All are numbers as the table has them: in place it may have any.
 #[tactic(auto, unfolding(crate::specs::Held::duty_at, memory::specs::Memory::is_frame, pool::specs::Choose::choose))]
 fn duty_at(page: u32, from: u8, to: u8) -> u64
     ensures { result ≡ duty_at page from to }

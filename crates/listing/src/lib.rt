@@ -1,6 +1,8 @@
 // Holdings in place: of a pool that its owner, a program in another language, keeps in numbers and arrays and lends, over a list of numbers that it lends
-// too (SPECIFICATION 14.6). Nothing is asked of what stands there, and only the numbers that the list rests on are tested (14.4), so that it is not crate
-// `holdings`' call. Internal: crate `served` has the call by name.
+// too (SPECIFICATION 14.6). Nothing is asked of what stands there. Internal: crate `served` has the call by name.
+//
+// The rows are gathered by crate `holdings`. The tests before that are not the same, and so have a `collect` of their own: in place only the numbers that
+// the call reads are tested (SPECIFICATION 14.4), and of a pool by value all that check 8 looks at.
 #![tactic(auto)]
 
 ghost use Rattle.std.specs.Prelude.{◌≡◌, ◌++◌, ◌*◌, ◌≤◌, ℕ, drop, length, IfOk};

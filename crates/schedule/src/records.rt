@@ -86,7 +86,7 @@ fn kind_of(rest: &[u8]) -> Result<Kind, Refusal>
 
 /// The first record, a setup's numbers, or why it cannot be read.
 #[tactic(auto, unfolding(pool::specs::Schedule::read, pool::specs::Schedule::content, pool::specs::Choose::choose))]
-pub fn setup(rest: &[u8]) -> Result<(u8, u8, u8, u32), Refusal>
+pub(crate) fn setup(rest: &[u8]) -> Result<(u8, u8, u8, u32), Refusal>
     ensures value { IfOk result (λ s. read true rest.now ≡ Setup s.0 s.1 s.2 s.3) }
     ensures refused { IfErr result (λ refusal. read true rest.now ≡ Unreadable (refusal_number refusal)) }
     ensures among { IfErr result (λ refusal. Among by_record (refusal_number refusal)) }
@@ -99,7 +99,7 @@ pub fn setup(rest: &[u8]) -> Result<(u8, u8, u8, u32), Refusal>
 
 /// A later record, a call, or why it cannot be read.
 #[tactic(auto, unfolding(pool::specs::Schedule::read, pool::specs::Schedule::content, pool::specs::Choose::choose))]
-pub fn call(rest: &[u8]) -> Result<Call, Refusal>
+pub(crate) fn call(rest: &[u8]) -> Result<Call, Refusal>
     ensures value { IfOk result (λ call. read false rest.now ≡ Asked call) }
     ensures refused { IfErr result (λ refusal. read false rest.now ≡ Unreadable (refusal_number refusal)) }
     ensures among { IfErr result (λ refusal. Among by_record (refusal_number refusal)) }

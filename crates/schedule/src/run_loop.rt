@@ -3,8 +3,11 @@
 // The pool lies in one place for the whole run, and every record changes it there. Check 8 is not made here: no pool of a run meets it (SPECIFICATION
 // 3.8), so a record's turn is `call_of`, which makes check 8 before and after the action, without the test.
 //
-// `place` is the byte of the schedule at which the next record starts. Each end of the run is a `return` inside the loop: after a loop the proof no
-// longer has that `report` lends the space that the run was lent. (Tried: the proof did not close with `while` and the ordinary end after it.)
+// `place` is the byte of the schedule at which the next record starts. It is counted here, and the schedule is not taken in `chunks(8)`: a record is read
+// from all bytes that are left, as a setup that is misplaced is refused by 3 where less than its ten bytes are left, and else by 6 (SPECIFICATION 9.2).
+// A slice that gets shorter by 8 would be no plainer: the definition `rest` and the loop's invariant go by the place. Each end of the run is a
+// `return` inside the loop: after a loop the proof no longer has that `report` lends the space that the run was lent. (Tried: the proof did not close
+// with `while` and the ordinary end after it.)
 
 ghost use Rattle.std.specs.Prelude.{◌≡◌, ◌≢◌, ◌-◌, ◌≤◌, true, length};
 ghost use Rattle.pool.specs.Apply.{apply};

@@ -1,7 +1,9 @@
 // The calls in place for programs in C and Rust (SPECIFICATION, section 14): numbers, and arrays of numbers by reference. Nothing is asked of what stands
 // there, and each promise says for all of it what the call answers and leaves. An answer is one number. Public: for programs in other languages, to
 // which crate `served_c` exports each under its name, with its promise; `include/foqheran.h` and the Rust crate `foqheran` keep all of it in one struct.
-// The names, the long lists of parameters and the answer as one number are the C interface.
+//
+// That the pool is lent part by part, `duty` told through a reference and an answer as one number, is the C interface; the promises are the exports'
+// (`Alike` in crate `served_c`) and the claims' (`served_tie`). What is behind it takes the parts as structs.
 #![tactic(auto)]
 
 ghost use Rattle.std.specs.Prelude.{◌≡◌, List, ℕ, length};

@@ -9,7 +9,8 @@ use Rattle.byte_calls.proofs.read.Goals as goal
 pub returns-in-Err-clause-value : goal.returns-in-Err-clause-value
 returns-in-Err-clause-value c =
     let a = c.args in
-    c.turned_back.ensures ∙ read_refused a.pool a.store.now a.client a.page a.offset c.in-Err.refusal c.in-Err.ensures.frame
+    let value = c.turned_back.ensures ∙ read_refused a.pool a.store.now a.client a.page a.offset c.in-Err.refusal c.in-Err.ensures.frame in
+    search (rules, value)
 
 pub returns-in-Err-clause-among : goal.returns-in-Err-clause-among
 returns-in-Err-clause-among c =

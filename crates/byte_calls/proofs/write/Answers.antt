@@ -1,5 +1,5 @@
 -- What turns the call down is what `holder` found; one that is not fills the frame of the client's grant, and writes there. Assumes nothing.
-use Rattle.std.proofs.Common.{refl, ap, ◌∙◌}
+use Rattle.std.proofs.Common.{rules, refl, ap, ◌∙◌}
 use Rattle.pool.specs.Answers.{refusal_of}
 use Rattle.content.specs.Filling.{marks_written}
 use Rattle.memory.specs.Requests.{state_of}
@@ -10,7 +10,8 @@ use Rattle.byte_calls.proofs.write.Goals as goal
 pub returns-in-Err-clause-value : goal.returns-in-Err-clause-value
 returns-in-Err-clause-value c =
     let a = c.args in
-    c.turned_back.ensures ∙ write_refused a.pool a.store.now a.client a.page a.offset a.byte c.in-Err.refusal c.in-Err.ensures.frame
+    let value = c.turned_back.ensures ∙ write_refused a.pool a.store.now a.client a.page a.offset a.byte c.in-Err.refusal c.in-Err.ensures.frame in
+    search (rules, value)
 
 pub returns-in-Err-clause-among : goal.returns-in-Err-clause-among
 returns-in-Err-clause-among c =
@@ -21,9 +22,10 @@ returns-in-Err-clause-among c =
 pub returns-clause-value : goal.returns-clause-value
 returns-clause-value c =
     let a = c.args in
-    writes a.pool a.store.now a.client a.page a.offset c.in-Ok.ensures.frame c.fill.ensures.bytes c.fill.ensures.filled a.byte
-    c.write.ensures.bytes c.write.ensures.filled
-    (c.write.ensures.changed ∙ ap (λ l. marks_written l c.in-Ok.frame a.offset) c.fill.ensures.changed)
+    let changed = c.write.ensures.changed ∙ ap (λ l. marks_written l c.in-Ok.frame a.offset) c.fill.ensures.changed in
+    let done = writes a.pool a.store.now a.client a.page a.offset c.in-Ok.ensures.frame c.fill.ensures.bytes c.fill.ensures.filled a.byte
+    c.write.ensures.bytes c.write.ensures.filled changed in
+    search (rules, done)
 
 pub returns-clause-among : goal.returns-clause-among
 unfolding refusal_of
