@@ -38,7 +38,8 @@ fn play_calls(rt: &impl Print, calls: &[u8], mut state: State) -> io::Result<()>
 }
 
 fn play(rt: &impl Print, schedule: &[u8]) -> io::Result<()> {
-    let Reading::Setup(size, client_count, cap, hand) = schedule::records::read(schedule, true) else {
+    let Reading::Setup(size, client_count, cap, hand) = schedule::records::read(schedule, true)
+    else {
         return Ok(());
     };
     let done = storeless::setup(size, client_count, cap, hand);
