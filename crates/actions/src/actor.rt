@@ -17,7 +17,6 @@ pub struct Actor<'a> {
     pub client: Client,
     /// The frame to take, which stage 4 alone looks at.
     pub fresh: Option<u8>,
-    ghost known: { number < books.numbers.client_count },
     ghost busy: { client.busy < books.numbers.size },
     ghost held: { client.held ≤ max_held },
     /// A pin more fits the frame that it found.

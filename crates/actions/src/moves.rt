@@ -7,20 +7,18 @@ ghost use Rattle.pool.specs.Stages.{around, raised, next_slot, busy_visit, evict
 ghost use Rattle.pool.specs.State.{resting};
 ghost use Rattle.pool.specs.Moves.{works_as, works, still, stuck, granted, refused15};
 ghost use Rattle.pool.specs.Calls.{begin_move, release_move};
-ghost use Rattle.answers.specs.Numbers.{refusal_number, stage_number};
 
 use answers::{Refusal, Stage};
-use books::Numbers;
 use pool::{Answer, Client, Counted, EVICTED, GrantChange, MAX_HELD, Move, NONE, ONE_PIN, Write};
 
 // ---- numbers
 
 /// The slot after slot i (SPECIFICATION 1.3).
-pub fn around(numbers: Numbers, i: u8) -> u8
-    ensures { result ≡ around numbers.size i }
+pub fn around(size: u8, i: u8) -> u8
+    ensures { result ≡ around size i }
 {
     match i.checked_add(1) {
-        Some(next) if next < numbers.size => next,
+        Some(next) if next < size => next,
         _ => 0,
     }
 }
@@ -52,37 +50,34 @@ pub fn resting(held: u8) -> Client
     }
 }
 
-/// The client goes on to another stage.
-pub fn works_as(client: Client, counted: Counted, stage: Stage, write: Write) -> Move
-    ensures { result ≡ works_as client counted (stage_number stage) write }
+/// The client goes on to another stage, by its number.
+pub fn works_as(client: Client, counted: Counted, stage: u8, write: Write) -> Move
+    ensures { result ≡ works_as client counted stage write }
 {
     Move {
-        next: Client {
-            stage: stage.number(),
-            ..client
-        },
+        next: Client { stage, ..client },
         grants: GrantChange::Same,
         write,
-        answer: Answer::Working(stage.number()),
+        answer: Answer::Working(stage),
         counted,
     }
 }
 
-pub fn works(client: Client, stage: Stage, write: Write) -> Move
-    ensures { result ≡ works client (stage_number stage) write }
+pub fn works(client: Client, stage: u8, write: Write) -> Move
+    ensures { result ≡ works client stage write }
 {
     works_as(client, Counted::Nothing, stage, write)
 }
 
-/// Nothing changes, and the call is refused.
-pub fn still(client: Client, refusal: Refusal) -> Move
-    ensures { result ≡ still client (refusal_number refusal) }
+/// Nothing changes, and the call is refused by a number.
+pub fn still(client: Client, refusal: u8) -> Move
+    ensures { result ≡ still client refusal }
 {
     Move {
         next: client,
         grants: GrantChange::Same,
         write: Write::Keep,
-        answer: refusal.into(),
+        answer: Answer::Refused(refusal),
         counted: Counted::Nothing,
     }
 }
@@ -91,7 +86,7 @@ pub fn still(client: Client, refusal: Refusal) -> Move
 pub fn stuck(client: Client) -> Move
     ensures { result ≡ stuck client }
 {
-    still(client, Refusal::OutOfRange)
+    still(client, Refusal::OutOfRange.number())
 }
 
 /// SPECIFICATION 4.29. There is no place for a ninth grant.
@@ -124,16 +119,16 @@ pub fn granted_found(client: Client, cap: u8, count: u8, counted: Counted) -> Mo
 }
 
 /// SPECIFICATION 4.24. The slot was not busy when 12 looked, so that the busy run starts anew.
-pub fn next_slot(client: Client, numbers: Numbers, write: Write) -> Move
-    ensures { result ≡ next_slot client numbers.size write }
+pub fn next_slot(client: Client, size: u8, write: Write) -> Move
+    ensures { result ≡ next_slot client size write }
 {
     let next = Client {
         victim: NONE,
-        place: around(numbers, client.place),
+        place: around(size, client.place),
         busy: 0,
         ..client
     };
-    works(next, Stage::LookAtSlot, write)
+    works(next, Stage::LookAtSlot.number(), write)
 }
 
 /// SPECIFICATION 3.9. Nothing is written: the frame that the client took keeps its pins.
@@ -143,31 +138,31 @@ fn refused_15(client: Client) -> Move
     Move {
         next: resting(client.held),
         counted: Counted::Refusal,
-        ..still(client, Refusal::AllBusy)
+        ..still(client, Refusal::AllBusy.number())
     }
 }
 
 /// SPECIFICATION 4.25. S busy visits one after the other have met every slot once.
-pub fn busy_visit(client: Client, numbers: Numbers) -> Move
-    requires { client.busy < numbers.size }
-    ensures { result ≡ busy_visit client numbers.size }
+pub fn busy_visit(client: Client, size: u8) -> Move
+    requires { client.busy < size }
+    ensures { result ≡ busy_visit client size }
 {
     let busy = client.busy + 1;
-    if busy == numbers.size {
+    if busy == size {
         return refused_15(client);
     }
     let next = Client {
         victim: NONE,
-        place: around(numbers, client.place),
+        place: around(size, client.place),
         busy,
         ..client
     };
-    works(next, Stage::LookAtSlot, Write::Keep)
+    works(next, Stage::LookAtSlot.number(), Write::Keep)
 }
 
 /// SPECIFICATION 4.28. The frame stands in a slot: left with its pin and named by nobody, it would keep that slot busy for good.
-pub fn evict_own(client: Client, pins: u8, stage: Stage) -> Move
-    ensures { result ≡ evict_own client pins (stage_number stage) }
+pub fn evict_own(client: Client, pins: u8, stage: u8) -> Move
+    ensures { result ≡ evict_own client pins stage }
 {
     let next = Client {
         own: NONE,

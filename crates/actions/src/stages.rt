@@ -12,7 +12,6 @@ ghost use Rattle.pool.specs.Stages.{stage13, stage14, stage15, stage16, stage17,
 
 use crate::moves;
 use answers::Stage;
-use books::Numbers;
 use pool::{
     Client, Counted, EVICTED, INDEX_COUNT, INDEX_PAGES, Move, NO_PIN, NONE, ONE_PIN, Write,
 };
@@ -20,10 +19,11 @@ use pool::{
 // ---- numbers
 
 /// The hand's slot.
-fn slot_of(hand: u32, numbers: Numbers) -> u8
-    ensures { result ≡ hand % numbers.size }
+fn slot_of(hand: u32, size: u8) -> u8
+    requires { 0 < size }
+    ensures { result ≡ hand % size }
 {
-    (hand % u32::from(numbers.size)) as u8
+    (hand % u32::from(size)) as u8
 }
 
 /// SPECIFICATION 4.27. What is added comes before what is taken away, so that no number falls below 0.
@@ -56,9 +56,13 @@ pub fn stage1(client: Client, found: Option<u8>) -> Move
     ensures { result ≡ stage1 client (unwrap_or found none) }
 {
     let Some(found) = found else {
-        return moves::works(client, Stage::TakeFrame, Write::Keep);
+        return moves::works(client, Stage::TakeFrame.number(), Write::Keep);
     };
-    moves::works(Client { found, ..client }, Stage::PinFound, Write::Keep)
+    moves::works(
+        Client { found, ..client },
+        Stage::PinFound.number(),
+        Write::Keep,
+    )
 }
 
 /// The test and the pin are one action: between two actions the frame could be evicted.
@@ -71,11 +75,11 @@ pub fn stage2(client: Client, pins: u8) -> Move
             found: NONE,
             ..client
         };
-        return moves::works(next, Stage::TakeFrame, Write::Keep);
+        return moves::works(next, Stage::TakeFrame.number(), Write::Keep);
     }
     moves::works(
         client,
-        Stage::RaiseFound,
+        Stage::RaiseFound.number(),
         Write::PutPins(client.found, pins + 1),
     )
 }
@@ -98,7 +102,7 @@ pub fn stage4(client: Client, cap: u8, fresh: Option<u8>) -> Move
     let count = first_count(cap, client.page);
     moves::works(
         Client { own, ..client },
-        Stage::ReadFree,
+        Stage::ReadFree.number(),
         Write::TakeFrame(own, client.page, ONE_PIN, count),
     )
 }
@@ -108,13 +112,13 @@ pub fn stage5(client: Client, free: u8) -> Move
     ensures { result ≡ stage5 client free }
 {
     if free == 0 {
-        return moves::works(client, Stage::StartSweep, Write::Keep);
+        return moves::works(client, Stage::StartSweep.number(), Write::Keep);
     }
     let next = Client {
         seen: free,
         ..client
     };
-    moves::works(next, Stage::LowerFree, Write::Keep)
+    moves::works(next, Stage::LowerFree.number(), Write::Keep)
 }
 
 /// Another client may have lowered free since 5. A slot is claimed before it is looked for, so that at 8 there is one for each client.
@@ -122,139 +126,150 @@ pub fn stage6(client: Client, free: u8) -> Move
     ensures { result ≡ stage6 client free }
 {
     if free != client.seen {
-        return moves::works(client, Stage::ReadFree, Write::Keep);
+        return moves::works(client, Stage::ReadFree.number(), Write::Keep);
     }
     if free == 0 {
         return moves::stuck(client);
     }
-    moves::works(client, Stage::ReadHand, Write::PutFree(free - 1))
+    moves::works(client, Stage::ReadHand.number(), Write::PutFree(free - 1))
 }
 
 /// This says only where to look first: others may fill that slot before 8.
-pub fn stage7(client: Client, hand: u32, numbers: Numbers) -> Move
-    ensures { result ≡ stage7 client hand numbers.size }
+pub fn stage7(client: Client, hand: u32, size: u8) -> Move
+    requires { 0 < size }
+    ensures { result ≡ stage7 client hand size }
 {
     let next = Client {
-        place: slot_of(hand, numbers),
+        place: slot_of(hand, size),
         ..client
     };
-    moves::works(next, Stage::FillSlot, Write::Keep)
+    moves::works(next, Stage::FillSlot.number(), Write::Keep)
 }
 
 /// The search ends, since the client has claimed one of the empty slots (stage 6).
-pub fn stage8(client: Client, there: Option<u8>, numbers: Numbers) -> Move
+pub fn stage8(client: Client, there: Option<u8>, size: u8) -> Move
     requires { IsNumber there }
-    ensures { result ≡ stage8 client (unwrap_or there none) numbers.size }
+    ensures { result ≡ stage8 client (unwrap_or there none) size }
 {
     if there.is_none() {
         return moves::works(
             client,
-            Stage::MoveHand,
+            Stage::MoveHand.number(),
             Write::PutSlot(client.place, client.own),
         );
     }
     let next = Client {
-        place: moves::around(numbers, client.place),
+        place: moves::around(size, client.place),
         ..client
     };
-    moves::works(next, Stage::FillSlot, Write::Keep)
+    moves::works(next, Stage::FillSlot.number(), Write::Keep)
 }
 
 /// From where the hand is now, which others may have moved since 7.
 pub fn stage9(client: Client, hand: u32) -> Move
     ensures { result ≡ stage9 client hand }
 {
-    moves::works(client, Stage::MapPage, Write::PutHand(hand.wrapping_add(1)))
+    moves::works(
+        client,
+        Stage::MapPage.number(),
+        Write::PutHand(hand.wrapping_add(1)),
+    )
 }
 
 /// The start is kept, as 16 reckons from there.
-pub fn stage10(client: Client, hand: u32, numbers: Numbers) -> Move
-    ensures { result ≡ stage10 client hand numbers.size }
+pub fn stage10(client: Client, hand: u32, size: u8) -> Move
+    requires { 0 < size }
+    ensures { result ≡ stage10 client hand size }
 {
     let next = Client {
         victim: NONE,
-        place: slot_of(hand, numbers),
+        place: slot_of(hand, size),
         start: hand,
         busy: 0,
         ..client
     };
-    moves::works(next, Stage::LookAtSlot, Write::Keep)
+    moves::works(next, Stage::LookAtSlot.number(), Write::Keep)
 }
 
 /// No slot is free any more (stage 5), so that an empty one is claimed: its client is about to fill it.
-pub fn stage11(client: Client, there: Option<u8>, numbers: Numbers) -> Move
-    requires busy { client.busy < numbers.size }
+pub fn stage11(client: Client, there: Option<u8>, size: u8) -> Move
+    requires busy { client.busy < size }
     requires number { IsNumber there }
-    ensures { result ≡ stage11 client (unwrap_or there none) numbers.size }
+    ensures { result ≡ stage11 client (unwrap_or there none) size }
 {
     let Some(victim) = there else {
-        return moves::busy_visit(client, numbers);
+        return moves::busy_visit(client, size);
     };
-    moves::works(Client { victim, ..client }, Stage::ReadPins, Write::Keep)
+    moves::works(
+        Client { victim, ..client },
+        Stage::ReadPins.number(),
+        Write::Keep,
+    )
 }
 
 /// A frame that is evicted already, at 14, 20 or 23, only has to be taken out of the slot.
-pub fn stage12(client: Client, pins: u8, numbers: Numbers) -> Move
-    requires { client.busy < numbers.size }
-    ensures { result ≡ stage12 client pins numbers.size }
+pub fn stage12(client: Client, pins: u8, size: u8) -> Move
+    requires { client.busy < size }
+    ensures { result ≡ stage12 client pins size }
 {
     match pins {
-        EVICTED => moves::works(client, Stage::ReplaceVictim, Write::Keep),
-        NO_PIN => moves::works(client, Stage::LowerCount, Write::Keep),
-        _ => moves::busy_visit(client, numbers),
+        EVICTED => moves::works(client, Stage::ReplaceVictim.number(), Write::Keep),
+        NO_PIN => moves::works(client, Stage::LowerCount.number(), Write::Keep),
+        _ => moves::busy_visit(client, size),
     }
 }
 
 /// The count may be 0 already, if another sweep lowered it and did not evict the frame.
-pub fn stage13(client: Client, count: u8, numbers: Numbers) -> Move
-    ensures { result ≡ stage13 client count numbers.size }
+pub fn stage13(client: Client, count: u8, size: u8) -> Move
+    ensures { result ≡ stage13 client count size }
 {
     let left = count.saturating_sub(1);
     let write = Write::PutCount(client.victim, left);
     if left == 0 {
-        return moves::works(client, Stage::EvictVictim, write);
+        return moves::works(client, Stage::EvictVictim.number(), write);
     }
-    moves::next_slot(client, numbers, write)
+    moves::next_slot(client, size, write)
 }
 
 /// Another client may have pinned the frame since 12, or evicted it.
-pub fn stage14(client: Client, pins: u8, numbers: Numbers) -> Move
-    ensures { result ≡ stage14 client pins numbers.size }
+pub fn stage14(client: Client, pins: u8, size: u8) -> Move
+    ensures { result ≡ stage14 client pins size }
 {
     let unused = pins == NO_PIN;
     if unused {
         return moves::works(
             client,
-            Stage::ReplaceVictim,
+            Stage::ReplaceVictim.number(),
             Write::PutPins(client.victim, EVICTED),
         );
     }
-    moves::next_slot(client, numbers, Write::Keep)
+    moves::next_slot(client, size, Write::Keep)
 }
 
 /// Another client that met the victim evicted may have put its own frame here since. As numbers: in place, a client may have no victim here.
-pub fn stage15(client: Client, there: Option<u8>, numbers: Numbers) -> Move
-    ensures { result ≡ stage15 client (unwrap_or there none) numbers.size }
+pub fn stage15(client: Client, there: Option<u8>, size: u8) -> Move
+    ensures { result ≡ stage15 client (unwrap_or there none) size }
 {
     if there.unwrap_or(NONE) == client.victim {
         return moves::works(
             client,
-            Stage::PassSlot,
+            Stage::PassSlot.number(),
             Write::PutSlot(client.place, client.own),
         );
     }
-    moves::next_slot(client, numbers, Write::Keep)
+    moves::next_slot(client, size, Write::Keep)
 }
 
 /// The start is reduced before it is compared with the place, which is a slot number.
-pub fn stage16(client: Client, hand: u32, numbers: Numbers) -> Move
-    ensures { result ≡ stage16 client hand numbers.size }
+pub fn stage16(client: Client, hand: u32, size: u8) -> Move
+    requires { 0 < size }
+    ensures { result ≡ stage16 client hand size }
 {
-    let size = u32::from(numbers.size);
-    let by = growth(size, u32::from(client.place), client.start % size);
+    let slots = u32::from(size);
+    let by = growth(slots, u32::from(client.place), client.start % slots);
     moves::works(
         client,
-        Stage::RemoveEntry,
+        Stage::RemoveEntry.number(),
         Write::PutHand(hand.wrapping_add(by)),
     )
 }
@@ -270,9 +285,9 @@ pub fn stage17(client: Client, page: u32, place: Option<u8>, mapped: Option<u8>)
     };
     if mapped.unwrap_or(NONE) == client.victim {
         let emptied = Write::PutEntry(place.unwrap_or(NONE), page, NONE);
-        return moves::works_as(next, Counted::Drop, Stage::MapPage, emptied);
+        return moves::works_as(next, Counted::Drop, Stage::MapPage.number(), emptied);
     }
-    moves::works(next, Stage::MapPage, Write::Keep)
+    moves::works(next, Stage::MapPage.number(), Write::Keep)
 }
 
 /// The look-up and the new entry are one action: else two clients could each add an entry of one page. Read: the frame found, and the first
@@ -284,7 +299,11 @@ pub fn stage18(client: Client, found: Option<u8>, unused: Option<u8>) -> Move
 {
     match (found, unused) {
         (Some(found), _) => {
-            moves::works(Client { found, ..client }, Stage::PinMapped, Write::Keep)
+            moves::works(
+                Client { found, ..client },
+                Stage::PinMapped.number(),
+                Write::Keep,
+            )
         }
         (None, None) => moves::stuck(client),
         (None, Some(place)) => moves::granted(
@@ -302,11 +321,11 @@ pub fn stage19(client: Client, pins: u8) -> Move
     ensures { result ≡ stage19 client pins }
 {
     if pins == EVICTED {
-        return moves::works(client, Stage::MapAnew, Write::Keep);
+        return moves::works(client, Stage::MapAnew.number(), Write::Keep);
     }
     moves::works(
         client,
-        Stage::GiveUpToJoin,
+        Stage::GiveUpToJoin.number(),
         Write::PutPins(client.found, pins + 1),
     )
 }
@@ -315,7 +334,7 @@ pub fn stage19(client: Client, pins: u8) -> Move
 pub fn stage20(client: Client, pins: u8) -> Move
     ensures { result ≡ stage20 client pins }
 {
-    moves::evict_own(client, pins, Stage::RaiseJoined)
+    moves::evict_own(client, pins, Stage::RaiseJoined.number())
 }
 
 /// As at 3, with the pin of 19.
@@ -342,11 +361,11 @@ pub fn stage22(client: Client, place: Option<u8>, mapped: Option<u8>) -> Move
         found: NONE,
         ..client
     };
-    moves::works(next, Stage::GiveUpToStartAnew, Write::Keep)
+    moves::works(next, Stage::GiveUpToStartAnew.number(), Write::Keep)
 }
 
 pub fn stage23(client: Client, pins: u8) -> Move
     ensures { result ≡ stage23 client pins }
 {
-    moves::evict_own(client, pins, Stage::TakeFrame)
+    moves::evict_own(client, pins, Stage::TakeFrame.number())
 }

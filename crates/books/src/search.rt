@@ -85,7 +85,8 @@ impl Books<'_> {
 
     /// The frame that stage 4 takes: the first that nobody names, in the order of SPECIFICATION 2.8.
     pub fn free_frame(&self, clients: &[Client; CLIENTS]) -> Option<u8>
-        requires { FewGrants self.now.numbers.client_count clients.now }
+        requires some_slot { 0 < self.now.numbers.size }
+        requires few { FewGrants self.now.numbers.client_count clients.now }
         ensures frame { unwrap_or result none ≡ free_frame (pool_in self.now clients.now) }
         ensures number { IsNumber result }
     {
