@@ -1,13 +1,17 @@
--- What turns a call of client k down, once its stage and its grants are known. Assumes nothing.
-use Rattle.std.proofs.Common.{◌≡◌, ◌∙◌, sym, ap, ℕ, ◌<◌, nat_eq, lt-ltb, ne_eqb}
+-- What turns a call of client k down, once its stage and its grants are known; and a call by its caller. Assumes nothing.
+use Rattle.std.proofs.Common.{◌≡◌, ◌∙◌, sym, ap, ℕ, ◌<◌, List, arith, nat_eq, lt-ltb, ne_eqb}
 use Rattle.pool.specs.Choose.{choose}
 use Rattle.pool.specs.State.{none, of_client, client, pins, grant_frame}
 use Rattle.pool.specs.Grants.{grant_of}
-use Rattle.pool.specs.Calls.{refusal_at, release_move, move_of}
+use Rattle.pool.specs.Calls.{caller, refusal_at, turned_by, begin_move, release_move, move_of}
+use Rattle.pool.specs.Stages.{stage_move}
+use Rattle.pool.specs.declared.Call.{Call}
 use Rattle.pool.specs.declared.Call.TheVariants.{Begin, Step, Release}
 use Rattle.pool.specs.declared.Pool.{Pool}
 use Rattle.pool.specs.declared.Client.{Client}
+use Rattle.laws.specs.Choices.{chosen}
 use Rattle.books.specs.Lists.{grant_in, grant_in_lem}
+use Rattle.play.specs.Caller.{Caller}
 
 module _ (p : Pool) (k : Client) (c g : ℕ) (e : client p c ≡ k) where
   -- the place of its grant of the page
@@ -30,3 +34,31 @@ module _ (p : Pool) (k : Client) (c g : ℕ) (e : client p c ≡ k) where
       release_move k g i f n ≡ move_of p (Release c g)
   unfolding move_of grant_frame
   release_is i f n hi hf hn = rw (its_grant i hi, e, ← hf, ← hn)
+
+  pub begin_is : begin_move k g ≡ move_of p (Begin c g)
+  unfolding move_of
+  begin_is = ap (λ (x : Client). begin_move x g) (sym e)
+
+  pub step_is : stage_move p k ≡ move_of p (Step c)
+  unfolding move_of
+  step_is = ap (stage_move p) (sym e)
+
+-- ---- a call, by its caller
+
+pub of_step : {call : Call} {c n : ℕ} → call ≡ Step c → n ≡ caller call → call ≡ Step n
+unfolding caller
+of_step is e = is ∙ ap Step (sym (e ∙ ap caller is))
+
+module _ {call : Call} {c g n : ℕ} where
+  pub of_begin : call ≡ Begin c g → n ≡ caller call → call ≡ Begin n g
+  unfolding caller
+  of_begin is e = is ∙ ap (λ (c : ℕ). Begin c g) (sym (e ∙ ap caller is))
+
+  pub of_release : call ≡ Release c g → n ≡ caller call → call ≡ Release n g
+  unfolding caller
+  of_release is e = is ∙ ap (λ (c : ℕ). Release c g) (sym (e ∙ ap caller is))
+
+-- a call of a client that there is is not turned down by 9
+pub not_by_9 : (p : Pool) (call : Call) {n : ℕ} {k : Client} {pages : List ℕ} → Caller p call n k pages → caller call < n →
+    turned_by p call ≡ refusal_at p k call
+not_by_9 p call a h = chosen _ _ _ (lt-ltb _ _ (omega (arith, a.count, h))) ∙ ap (λ (k : Client). refusal_at p k call) (a.client h)

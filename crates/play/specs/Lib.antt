@@ -1,3 +1,4 @@
+pub mod Caller
 pub mod Turn
 pub mod Parts
 pub mod Decides

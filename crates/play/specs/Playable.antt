@@ -42,5 +42,8 @@ module _ (b : Books) (clients : List Client) (v : valid (pool_in b clients) ≡ 
       subst P (client_of_pool its_pool c h)
       (record { busy = counts.busy; held = counts.held; pins = λ _. pins_low its_pool in_range (client its_pool c).found })
 
+  pub some_slot : 0 < b.numbers.size
+  some_slot = in_range.numbers.some_slot
+
   pub few_grants : FewGrants b.numbers.client_count clients
   few_grants c h = (can_act c h).held

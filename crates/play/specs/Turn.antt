@@ -1,16 +1,19 @@
 -- One call's turn: its move, or where the call is turned down one that changes nothing. Assumes nothing.
-use Rattle.std.specs.Prelude.{◌≡◌, ◌≢◌, ℕ, ◌<◌, eqb, ltb}
-use Rattle.std.proofs.Common.{arith, lt-ltb, ltb-true, eq-eqb, ne_eqb}
+use Rattle.std.specs.Prelude.{◌≡◌, refl, ◌≢◌, ℕ, ◌<◌, eqb, ltb}
+use Rattle.std.proofs.Common.{sym, ap, ◌∙◌, arith, lt-ltb, ltb-true, eq-eqb, ne_eqb}
 use Rattle.pool.specs.Choose.{choose}
 use Rattle.pool.specs.State.{number_of_clients, client}
+use Rattle.pool.specs.Frames.{free_frame}
 use Rattle.pool.specs.Moves.{still}
 use Rattle.pool.specs.Apply.{apply}
 use Rattle.pool.specs.Calls.{caller, turned_by, move_of}
 use Rattle.pool.specs.declared.Call.{Call}
+use Rattle.pool.specs.declared.Client.{Client}
 use Rattle.pool.specs.declared.Move.{Move}
 use Rattle.pool.specs.declared.Outcome.{Outcome}
 use Rattle.pool.specs.declared.Pool.{Pool}
 use Rattle.laws.specs.Choices.{by_test, chosen, passed}
+use Rattle.play.specs.Caller.{Caller}
 
 -- the client whose record is put back: of n clients the one with number c, the first where there is none
 unfoldable pub client_or_first : ℕ → ℕ → ℕ
@@ -30,6 +33,13 @@ played p call =
 pub as_played : (p : Pool) (call : Call) {c : ℕ} {m : Move} {q : Pool} → c ≡ client_or_first (number_of_clients p) (caller call) → m ≡ turn p call →
     q ≡ apply p c m → record { answer = m.answer; counted = m.counted; pool = q } ≡ played p call
 as_played p call e t a = simp (a, t, e)
+
+-- what is told of pool p for a call: the number of the client whose record is put back, the record, and the frame to take where the client
+-- stands at stage 4
+pub record Turns (p : Pool) (call : Call) (c : ℕ) (k : Client) (taken : ℕ) : Type 0 where
+  pub number : client_or_first (number_of_clients p) (caller call) ≡ c
+  pub client : client p c ≡ k
+  pub fresh : k.stage ≡ 4 → taken ≡ free_frame p
 
 pub its_number : (n c : ℕ) → c < n → client_or_first n c ≡ c
 unfolding client_or_first
@@ -52,3 +62,19 @@ module _ (p : Pool) (call : Call) where
   pub stays : turned_by p call ≢ 0 → turn p call ≡ still (client p (client_or_first (number_of_clients p) (caller call))) (turned_by p call)
   unfolding turn
   stays e = passed _ _ _ (ne_eqb _ _ e)
+
+-- ---- the turn, as it is told
+
+module _ {p : Pool} {call : Call} {c : ℕ} {k : Client} {taken : ℕ} (t : Turns p call c k taken) where
+  here : client p (client_or_first (number_of_clients p) (caller call)) ≡ k
+  here = ap (client p) t.number ∙ t.client
+
+  pub its_client : caller call < number_of_clients p → client p (caller call) ≡ k
+  its_client h = ap (client p) (sym (its_number (number_of_clients p) (caller call) h)) ∙ here
+
+  pub calls : Caller p call (number_of_clients p) k p.grant_pages
+  calls = record { count = refl; client = its_client; grant_pages = refl }
+
+  module _ (r : ℕ) (e : turned_by p call ≡ r) where
+    pub turned_down : r ≢ 0 → still k r ≡ turn p call
+    turned_down z = sym (stays p call (λ w. z (sym e ∙ w)) ∙ rw (here, e) refl)

@@ -3,92 +3,153 @@
 // byte, 0 at rest, and may be any in a pool that a C program hands over: so it is compared as a number.
 #![tactic(auto)]
 
-ghost use Rattle.std.specs.Prelude.{◌≡◌, ◌<◌, List, unwrap_or};
-ghost use Rattle.pool.specs.Limits.{max_clients};
+ghost use Rattle.std.specs.Prelude.{◌≡◌, ◌<◌, ◌≤◌, ℕ, List, IfOk, unwrap_or};
+ghost use Rattle.pool.specs.Limits.{max_clients, max_held};
 ghost use Rattle.pool.specs.State.{none};
 ghost use Rattle.pool.specs.Frames.{free_frame};
 ghost use Rattle.pool.specs.Apply.{apply};
-ghost use Rattle.pool.specs.Calls.{caller};
+ghost use Rattle.pool.specs.Calls.{caller, refusal_at, turned_by, move_of};
 ghost use Rattle.pool.specs.declared.Client.{Client};
 ghost use Rattle.pool.specs.declared.Call.TheVariants.{Begin, Step, Release};
+ghost use Rattle.pool.specs.declared.Pool.{Pool};
+ghost use Rattle.answers.specs.Numbers.{refused_by};
 ghost use Rattle.books.specs.Books.{pool_in, NumbersOf};
 ghost use Rattle.books.specs.Named.{FewGrants};
 ghost use Rattle.books.specs.Optional.{IsNumber};
-ghost use Rattle.play.specs.Decides.{Answers, Acts, Decides};
+ghost use Rattle.play.specs.Caller.{Caller};
+ghost use Rattle.play.specs.Turn.{turn, Turns};
+ghost use Rattle.play.specs.Decides.{Acts, Asks, Decides, IsClient, move_by};
 
 use actions::{Actor, moves};
 use answers::{Refusal, Stage};
-use books::{Books, BooksMut, Checked, Numbers};
-use pool::{CLIENTS, Call, Client, MAX_HELD, Move, Pool};
+use books::{Books, BooksMut, Checked, Numbers, searches};
+use pool::{CLIENTS, Call, Client, GRANTS, MAX_HELD, Move, NONE, Pool};
+
+// ---- what turns a call down
 
 /// SPECIFICATION 3.2.
-#[tactic(auto, unfolding(pool::specs::Calls::caller, pool::specs::Calls::refusal_at, pool::specs::Calls::move_of, pool::specs::Choose::choose))]
-fn begin(actor: &Actor, page: u32) -> Result<Move, Refusal>
-    ensures { (clients : List Client) → Acts (pool_in actor.now.books clients) actor.now →
-        Answers (pool_in actor.now.books clients) (Begin actor.now.number page) actor.now.client result }
+#[tactic(auto, unfolding(pool::specs::Calls::refusal_at, pool::specs::Choose::choose))]
+fn begin_refusal(
+    client: Client,
+    number: u8,
+    page: u32,
+    grant_pages: &[u32; GRANTS],
+) -> Result<(), Refusal>
+    requires client { number < max_clients }
+    requires few { client.held ≤ max_held }
+    ensures { (p : Pool) → IsClient p number client → p.grant_pages ≡ grant_pages.now → refused_by result ≡ refusal_at p client (Begin number page) }
 {
-    let client = actor.client;
     if client.stage != 0 {
         return Err(Refusal::AtWork);
     }
     if client.held >= MAX_HELD {
         return Err(Refusal::HasEight);
     }
-    let c = actor.number as usize;
-    match actor.books.grant_of(c, client.held, page) {
+    match searches::grant_of(grant_pages, number as usize, client.held, page) {
         Some(_) => Err(Refusal::HeldAlready),
-        None => Ok(moves::begin_move(client, page)),
+        None => Ok(()),
     }
 }
 
 /// SPECIFICATION 3.3.
-#[tactic(auto, unfolding(pool::specs::Calls::caller, pool::specs::Calls::refusal_at, pool::specs::Calls::move_of, pool::specs::Choose::choose))]
-fn step(actor: &Actor) -> Result<Move, Refusal>
-    ensures { (clients : List Client) → Acts (pool_in actor.now.books clients) actor.now →
-        Answers (pool_in actor.now.books clients) (Step actor.now.number) actor.now.client result }
+#[tactic(auto, unfolding(pool::specs::Calls::refusal_at, pool::specs::Choose::choose))]
+fn step_refusal(client: Client) -> Result<(), Refusal>
+    ensures { (p : Pool) (number : ℕ) → refused_by result ≡ refusal_at p client (Step number) }
 {
-    if actor.client.stage == 0 {
-        return Err(Refusal::AtRest);
+    if client.stage == 0 {
+        Err(Refusal::AtRest)
+    } else {
+        Ok(())
     }
-    Ok(actor.stage_move())
 }
 
 /// SPECIFICATION 3.4.
-#[tactic(auto, unfolding(pool::specs::Calls::caller, pool::specs::Calls::refusal_at, pool::specs::Calls::move_of, pool::specs::Choose::choose))]
-fn release(actor: &Actor, page: u32) -> Result<Move, Refusal>
-    ensures { (clients : List Client) → Acts (pool_in actor.now.books clients) actor.now →
-        Answers (pool_in actor.now.books clients) (Release actor.now.number page) actor.now.client result }
+#[tactic(auto, unfolding(pool::specs::Calls::refusal_at, pool::specs::Choose::choose))]
+fn release_refusal(
+    client: Client,
+    number: u8,
+    page: u32,
+    grant_pages: &[u32; GRANTS],
+) -> Result<(), Refusal>
+    requires client { number < max_clients }
+    requires few { client.held ≤ max_held }
+    ensures { (p : Pool) → IsClient p number client → p.grant_pages ≡ grant_pages.now → refused_by result ≡ refusal_at p client (Release number page) }
 {
-    let books = &actor.books;
-    let c = actor.number as usize;
-    let client = actor.client;
     if client.stage != 0 {
         return Err(Refusal::AtWork);
     }
-    let Some(i) = books.grant_of(c, client.held, page) else {
-        return Err(Refusal::NotHeld);
-    };
-    let f = books.grant_frame(c, client.held, i);
-    Ok(moves::release_move(client, page, i, f, books.pins(f)))
+    match searches::grant_of(grant_pages, number as usize, client.held, page) {
+        Some(_) => Ok(()),
+        None => Err(Refusal::NotHeld),
+    }
 }
 
-/// The turn of a call of the actor, a client that there is: SPECIFICATION 3.7 without 8 and 9.
+/// Why a call is turned down, of a client with this record: SPECIFICATION 3.7 without 8. By 9 nothing is asked of the record.
 #[tactic(auto, unfolding(pool::specs::Calls::caller))]
+pub fn turned_by(
+    call: Call,
+    client_count: u8,
+    client: Client,
+    grant_pages: &[u32; GRANTS],
+) -> Result<(), Refusal>
+    requires count { client_count ≤ max_clients }
+    requires few { client.held ≤ max_held }
+    ensures value { (p : Pool) → Caller p call client_count client grant_pages.now → refused_by result ≡ turned_by p call }
+    ensures known { IfOk result (λ _. caller call < client_count) }
+{
+    let number = answers::caller(call);
+    if number >= client_count {
+        return Err(Refusal::NoSuchClient);
+    }
+    match call {
+        Call::Begin(_, page) => begin_refusal(client, number, page, grant_pages),
+        Call::Step(_) => step_refusal(client),
+        Call::Release(_, page) => release_refusal(client, number, page, grant_pages),
+    }
+}
+
+// ---- the turn
+
+/// The move of a call of the actor, whether or not it is turned down: SPECIFICATION 3.2 to 3.4.
+#[tactic(auto, unfolding(pool::specs::Calls::caller))]
+pub fn call_move(actor: &Actor, call: Call) -> Move
+    requires caller { caller call ≡ actor.now.number }
+    requires client { actor.now.number < max_clients }
+    ensures { (clients : List Client) → Acts (pool_in actor.now.books clients) actor.now → result ≡ move_of (pool_in actor.now.books clients) call }
+{
+    let client = actor.client;
+    match call {
+        Call::Begin(_, page) => moves::begin_move(client, page),
+        Call::Step(_) => actor.stage_move(),
+        Call::Release(_, page) => {
+            let books = &actor.books;
+            let c = actor.number as usize;
+            let i = books.grant_of(c, client.held, page).unwrap_or(NONE);
+            let f = books.grant_frame(c, client.held, i);
+            moves::release_move(client, page, i, f, books.pins(f))
+        }
+    }
+}
+
+/// The turn of a call: SPECIFICATION 3.7 without 8. Where there is no such client, the actor's record may be any.
 pub fn decide(actor: &Actor, call: Call) -> Result<Move, Refusal>
     requires { caller call ≡ actor.now.number }
-    ensures { (clients : List Client) → Acts (pool_in actor.now.books clients) actor.now →
-        Answers (pool_in actor.now.books clients) call actor.now.client result }
+    ensures decides { (clients : List Client) → Asks (pool_in actor.now.books clients) actor.now → Decides (pool_in actor.now.books clients) call result }
+    ensures turn { (c : ℕ) (clients : List Client) →
+        Turns (pool_in actor.now.books clients) call c actor.now.client (unwrap_or actor.now.fresh none) →
+        move_by actor.now.client result ≡ turn (pool_in actor.now.books clients) call }
 {
-    match call {
-        Call::Begin(_, page) => begin(actor, page),
-        Call::Step(_) => step(actor),
-        Call::Release(_, page) => release(actor, page),
+    let client_count = actor.books.numbers.client_count;
+    match turned_by(call, client_count, actor.client, actor.books.grant_pages) {
+        Ok(()) => Ok(call_move(actor, call)),
+        Err(refusal) => Err(refusal),
     }
 }
 
 /// The frame to take, where the client stands at stage 4; it is dear to find, and no other stage looks at it.
 pub fn fresh_frame(books: &Books, clients: &[Client; CLIENTS], client: Client) -> Option<u8>
-    requires { FewGrants books.now.numbers.client_count clients.now }
+    requires some_slot { 0 < books.now.numbers.size }
+    requires few { FewGrants books.now.numbers.client_count clients.now }
     ensures frame { client.stage ≡ 4 → unwrap_or result none ≡ free_frame (pool_in books.now clients.now) }
     ensures number { IsNumber result }
 {
