@@ -1,4 +1,5 @@
 pub mod Books
+pub mod Lent
 pub mod Lists
 pub mod Named
 pub mod Optional

@@ -1,10 +1,10 @@
-ghost use Rattle.std.specs.Prelude.{◌≡◌, ◌+◌, ◌*◌, ◌<◌, ◌≤◌, true, false, MatchOption};
-ghost use Rattle.pool.specs.Limits.{max_size, max_clients, max_cap, max_frames};
+ghost use Rattle.std.specs.Prelude.{◌≡◌, ◌+◌, ◌*◌, ◌≤◌, true, false, MatchOption};
+ghost use Rattle.pool.specs.Limits.{max_size, max_clients, max_frames};
 ghost use Rattle.pool.specs.Valid.{numbers_ok};
 
 use pool::{MAX_CAP, MAX_CLIENTS, MAX_SIZE};
 
-/// S, T and C of a pool, of no more slots and clients than there is room for. Whether they are in range, `new` and `in_range` test.
+/// S, T and C of a pool, of no more slots and clients than there is room for. That they are in range, `new` tests: SPECIFICATION 1.1.
 #[derive(Clone, Copy, Debug, PartialEq, Eq)]
 pub struct Numbers {
     pub size: u8,
@@ -14,24 +14,17 @@ pub struct Numbers {
     ghost few_clients: { client_count ≤ max_clients },
 }
 
-/// Whether they are in range: SPECIFICATION 1.1.
-#[tactic(auto, unfolding(pool::specs::Valid::numbers_ok, pool::specs::Choose::both, pool::specs::Choose::choose))]
-fn in_range(size: u8, client_count: u8, cap: u8) -> bool
-    ensures value { result ≡ numbers_ok size client_count cap }
-    ensures few { result ≡ true → (size ≤ max_size) × (client_count ≤ max_clients) }
-{
-    (1..=MAX_SIZE).contains(&size)
-        && (1..=MAX_CLIENTS).contains(&client_count)
-        && (1..=MAX_CAP).contains(&cap)
-}
-
 impl Numbers {
     /// None where one is out of range.
+    #[tactic(auto, unfolding(pool::specs::Valid::numbers_ok, pool::specs::Choose::both, pool::specs::Choose::choose))]
     pub fn new(size: u8, client_count: u8, cap: u8) -> Option<Numbers>
         ensures { MatchOption result (numbers_ok size client_count cap ≡ false)
             (λ n. (numbers_ok size client_count cap ≡ true) × (n.size ≡ size) × (n.client_count ≡ client_count) × (n.cap ≡ cap)) }
     {
-        if in_range(size, client_count, cap) {
+        if (1..=MAX_SIZE).contains(&size)
+            && (1..=MAX_CLIENTS).contains(&client_count)
+            && (1..=MAX_CAP).contains(&cap)
+        {
             Some(Numbers {
                 size,
                 client_count,
@@ -40,13 +33,6 @@ impl Numbers {
         } else {
             None
         }
-    }
-
-    /// Whether they are in range.
-    pub fn in_range(&self) -> bool
-        ensures { result ≡ numbers_ok self.now.size self.now.client_count self.now.cap }
-    {
-        in_range(self.size, self.client_count, self.cap)
     }
 
     /// How many frames there are, and places of the table: SPECIFICATION 1.2.

@@ -1,5 +1,5 @@
 -- A test of several parts, as `&&` makes it one after the other; and the parts of check 8. Assumes nothing.
-use Rattle.std.proofs.Common.{◌≡◌, ◌≢◌, ◌∙◌, sym, ap, refl, ℕ, ◌<◌, Bool, true, false, List, get_or, Option, Some, None, unwrap_or, nat_eq, ne_eqb, le-leb, lt-ltb}
+use Rattle.std.proofs.Common.{◌≡◌, ◌≢◌, ◌∙◌, sym, ap, refl, ℕ, ◌<◌, Bool, true, false, List, [], get_or, Option, Some, None, unwrap_or, nat_eq, ne_eqb}
 use Rattle.std.specs.Option.{option_eq}
 use lib.Dec.{leb}
 use Rattle.pool.specs.Choose.{choose, both, every}
@@ -9,10 +9,12 @@ use Rattle.pool.specs.Grants.{grant_of}
 use Rattle.pool.specs.Valid.{numbers_ok, frame_ok, state_ok, counts_ok, names_ok, client_ok, valid}
 use Rattle.pool.specs.declared.Client.{Client}
 use Rattle.pool.specs.declared.Pool.{Pool}
+use Rattle.laws.specs.Choices.{passed}
 use Rattle.laws.specs.Elements.{client_of_pool}
 use Rattle.books.specs.Books.{pool_in}
 use Rattle.books.specs.Lists.{maps_in, entry_in, grant_in}
-use Rattle.books.specs.declared.numbers.Numbers.{Numbers}
+use Rattle.books.specs.Lent.{pool_lent}
+use Rattle.books.specs.declared.parts.Parts.{Parts}
 use Rattle.books.specs.declared.reading.Books.{Books}
 use Rattle.checks.specs.Places.{entry_ok_in, entries_ok_in, grant_ok_in, grants_ok_in}
 
@@ -52,11 +54,6 @@ module _ (b : Books) (clients : List Client) where
       ∙ ap (λ (k : Client). both (counts_ok k b.numbers.size) (both (names_ok k (total p)) (grants_ok_in b.grant_pages.now b.grant_frames.now c k.held (total p))))
       (sym (client_of_pool p c h))
 
-  in_range : (n : Numbers) → numbers_ok n.size n.client_count n.cap ≡ true
-  unfolding numbers_ok both choose
-  in_range n =
-      rw (lt-ltb _ _ n.some_slot, le-leb _ _ n.few_slots, lt-ltb _ _ n.some_client, le-leb _ _ n.few_clients, lt-ltb _ _ n.some_cap, le-leb _ _ n.low_cap) refl
-
   abbrev pub slots_of : Bool
   slots_of = every (λ i. frame_ok (total p) (within b.slots.now b.numbers.size none i)) b.numbers.size
 
@@ -69,12 +66,22 @@ module _ (b : Books) (clients : List Client) where
   abbrev from_slots : Bool
   from_slots = both slots_of (both states_of (both entries_of (every (client_ok p) b.numbers.client_count)))
 
-  past_numbers : both (both (leb b.free b.numbers.size) (frame_ok (total p) b.last)) from_slots ≡ valid p
+  past_numbers : numbers_ok b.numbers.size b.numbers.client_count b.numbers.cap ≡ true → both (both (leb b.free b.numbers.size) (frame_ok (total p) b.last)) from_slots ≡ valid p
   unfolding valid slot pins count entries_ok_in entry_ok_in entry_in maps_in entry_of maps entry_page entry_frame
-  past_numbers = holds _ refl (in_range b.numbers)
+  past_numbers h = holds _ refl h
 
-  -- the pool's numbers are in range by their type
   pub valid_is :
+      numbers_ok b.numbers.size b.numbers.client_count b.numbers.cap ≡ true →
       both (both (both (both (both (leb b.free b.numbers.size) (frame_ok (total p) b.last)) slots_of) states_of) entries_of)
       (every (client_ok p) b.numbers.client_count) ≡ valid p
-  valid_is = regroup _ _ _ ∙ regroup _ _ _ ∙ regroup _ _ _ ∙ past_numbers
+  valid_is h = regroup _ _ _ ∙ regroup _ _ _ ∙ regroup _ _ _ ∙ past_numbers h
+
+-- ---- parts with any numbers
+
+pub in_range_of : (b : Books) (parts : Parts) → ((clients : List Client) → pool_in b clients ≡ pool_lent parts clients) →
+    numbers_ok parts.size parts.client_count parts.cap ≡ true → numbers_ok b.numbers.size b.numbers.client_count b.numbers.cap ≡ true
+in_range_of b parts same e = ap (λ (p : Pool). numbers_ok p.size p.client_count p.cap) (same []) ∙ e
+
+pub out_of_range : (p : Pool) → numbers_ok p.size p.client_count p.cap ≡ false → valid p ≡ false
+unfolding valid both
+out_of_range p e = passed _ _ _ e

@@ -7,18 +7,20 @@ ghost use Rattle.std.specs.List.{zip, list_all};
 ghost use Rattle.pool.specs.Limits.{max_clients, max_held, max_frames};
 ghost use Rattle.pool.specs.Choose.{choose, both, either, every};
 ghost use Rattle.pool.specs.State.{none, within, of_client};
-ghost use Rattle.pool.specs.Valid.{valid};
+ghost use Rattle.pool.specs.Valid.{numbers_ok, valid};
 ghost use Rattle.memory.specs.Memory.{page_bytes, mark};
 ghost use Rattle.memory.specs.Requests.{inside, in_order, client_inside, pages_inside, bytes_ok};
 ghost use Rattle.answers.specs.Numbers.{refusal_number, refused_by};
 ghost use Rattle.answers.specs.declared.refusal.Refusal.TheVariants.{OutOfRange};
 ghost use Rattle.books.specs.Books.{pool_in};
+ghost use Rattle.books.specs.Lent.{pool_lent};
 ghost use Rattle.books.specs.Named.{FewGrants};
 ghost use Rattle.checks.specs.Lent.{memory_in};
+ghost use Rattle.checks.specs.Parts.{sound_in};
 
 use crate::whole;
 use answers::Refusal;
-use books::{Books, Checked};
+use books::{Books, Checked, Parts};
 use memory::{BufferPool, MAX_PAGES, Memory, PAGE};
 use pool::{CLIENTS, Client, FRAMES, GRANTS, HELD, NONE};
 
@@ -51,9 +53,18 @@ pub fn inside(store: u16, page: u32) -> bool
     store == 0 || page < u32::from(store)
 }
 
-/// SPECIFICATION 13.10: by which refusal a begin of a page outside the store is turned down, where the pool turns it down by this one, or by none.
+/// SPECIFICATION 13.10: by which number a begin of a page outside the store is turned down, where the pool turns it down by n, or by none of its
+/// numbers, 0.
+#[tactic(auto, using(memory::specs::Orders::order_zero, memory::specs::Orders::order_some), unfolding(memory::specs::Requests::in_order, memory::specs::Requests::first_of, pool::specs::Choose::choose))]
+pub fn outside(n: u8) -> u8
+    ensures { result ≡ in_order n 16 }
+{
+    if n == 0 || n == 18 { 16 } else { n }
+}
+
+/// The same by name.
 #[tactic(auto, unfolding(memory::specs::Requests::in_order, memory::specs::Requests::first_of, pool::specs::Choose::choose))]
-pub fn outside<T: Copy>(turned: Result<T, Refusal>) -> Refusal
+pub fn outside_of<T: Copy>(turned: Result<T, Refusal>) -> Refusal
     ensures { refusal_number result ≡ in_order (refused_by turned) 16 }
 {
     match turned {
@@ -185,12 +196,27 @@ fn bytes_ok(books: &Books, clients: &[Client; CLIENTS], marks: &Marks) -> bool
     marks.pages <= MAX_PAGES && pages_inside(books, clients, marks.pages)
 }
 
-/// Check 8 of a pool that has bytes, of the parts that are lent of it.
-pub fn parts_sound(books: &Books, clients: &[Client; CLIENTS], marks: &Marks) -> bool
+/// Check 8 of a pool that has bytes, of books whose numbers are in range.
+fn books_sound(books: &Books, clients: &[Client; CLIENTS], marks: &Marks) -> bool
+    requires { numbers_ok books.now.numbers.size books.now.numbers.client_count books.now.numbers.cap ≡ true }
     ensures { (bytes : List ℕ) →
         result ≡ both (valid (pool_in books.now clients.now)) (bytes_ok (pool_in books.now clients.now) (memory_in marks.now bytes)) }
 {
     whole::books_ok(books, clients) && bytes_ok(books, clients, marks)
+}
+
+/// Check 8 of a pool that has bytes, of the parts that are lent of it, with any numbers. It looks neither at the hand nor at the bytes.
+pub fn parts_sound(parts: &Parts, clients: &[Client; CLIENTS], marks: &Marks) -> bool
+    ensures parts { result ≡ sound_in parts.now.size parts.now.client_count parts.now.cap parts.now.free parts.now.last parts.now.slots.now
+        parts.now.pages.now parts.now.pins.now parts.now.counts.now parts.now.table_pages.now parts.now.table_frames.now clients.now
+        parts.now.grant_pages.now parts.now.grant_frames.now marks.now.pages marks.now.filled.now marks.now.changed.now }
+    ensures whole { (bytes : List ℕ) →
+        result ≡ both (valid (pool_lent parts.now clients.now)) (bytes_ok (pool_lent parts.now clients.now) (memory_in marks.now bytes)) }
+{
+    match parts.books() {
+        Some(books) => books_sound(&books, clients, marks),
+        None => false,
+    }
 }
 
 /// The same of a pool with any numbers; by its type, one that passes is known to.
@@ -213,19 +239,19 @@ pub fn sound(pool: &BufferPool) -> Result<Checked<'_>, Refusal>
 
 /// The whole check 8, also of a store of so many bytes, which has to be as long as at setup: SPECIFICATION 13.4, 14.8.
 pub fn check(
-    books: &Books,
+    parts: &Parts,
     clients: &[Client; CLIENTS],
     marks: &Marks,
     lent: usize,
 ) -> Result<(), Refusal>
     ensures number { (bytes store : List ℕ) → length store ≡ lent →
-        let p = pool_in books.now clients.now in
+        let p = pool_lent parts.now clients.now in
         let m = memory_in marks.now bytes in
         refused_by result ≡ choose (both (both (valid p) (bytes_ok p m)) (eqb (length store) (page_bytes * m.pages))) 0 8 }
     ensures refusal { IfErr result (λ r. r ≡ OutOfRange) }
 {
     let as_long = lent == PAGE * usize::from(marks.pages);
-    if parts_sound(books, clients, marks) && as_long {
+    if parts_sound(parts, clients, marks) && as_long {
         Ok(())
     } else {
         Err(Refusal::OutOfRange)

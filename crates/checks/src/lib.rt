@@ -10,5 +10,5 @@ pub mod repeats;
 pub mod single;
 pub mod whole;
 
-pub use bytes::{Marks, check, inside, outside, parts_sound, sound};
-pub use whole::{books_ok, checked, valid};
+pub use bytes::{Marks, check, inside, outside, outside_of, parts_sound, sound};
+pub use whole::{books_ok, checked, parts_ok, valid};

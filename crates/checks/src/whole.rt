@@ -6,13 +6,14 @@ ghost use Rattle.std.specs.List.{zip};
 ghost use Rattle.pool.specs.Limits.{max_size, max_frames};
 ghost use Rattle.pool.specs.State.{none, evicted, within};
 ghost use Rattle.pool.specs.Choose.{every};
-ghost use Rattle.pool.specs.Valid.{frame_ok, state_ok, client_ok, valid};
+ghost use Rattle.pool.specs.Valid.{numbers_ok, frame_ok, state_ok, client_ok, valid};
 ghost use Rattle.answers.specs.declared.refusal.Refusal.TheVariants.{OutOfRange};
 ghost use Rattle.books.specs.Books.{pool_in};
+ghost use Rattle.checks.specs.Parts.{valid_in};
 
 use crate::{repeats, single};
 use answers::Refusal;
-use books::{Books, Checked, Numbers};
+use books::{Books, Checked, Numbers, Parts};
 use pool::{CLIENTS, Client, FRAMES, Pool, SLOTS};
 
 /// Whether each is no frame, or one of the pool's n. No `all`, which is slower here.
@@ -67,8 +68,9 @@ fn clients_ok(books: &Books, clients: &[Client; CLIENTS]) -> bool
     (0..usize::from(books.numbers.client_count)).all(|c| client_ok(books, clients, c))
 }
 
-/// All of section 5, of the pool with these books and clients. Its numbers are in range, or they were no `Numbers`.
+/// All of section 5, of the pool with these books and clients, whose numbers are in range.
 pub fn books_ok(books: &Books, clients: &[Client; CLIENTS]) -> bool
+    requires { numbers_ok books.now.numbers.size books.now.numbers.client_count books.now.numbers.cap ≡ true }
     ensures { result ≡ valid (pool_in books.now clients.now) }
 {
     let n = books.numbers.total();
@@ -80,6 +82,17 @@ pub fn books_ok(books: &Books, clients: &[Client; CLIENTS]) -> bool
         && states_ok(books.pins, books.counts, n as usize, books.numbers.cap)
         && repeats::entries_ok(books)
         && clients_ok(books, clients)
+}
+
+/// The same of parts with any numbers. It looks neither at the hand nor at the frames' pages.
+pub fn parts_ok(parts: &Parts, clients: &[Client; CLIENTS]) -> bool
+    ensures { result ≡ valid_in parts.now.size parts.now.client_count parts.now.cap parts.now.free parts.now.last parts.now.slots.now parts.now.pins.now
+        parts.now.counts.now parts.now.table_pages.now parts.now.table_frames.now clients.now parts.now.grant_pages.now parts.now.grant_frames.now }
+{
+    match parts.books() {
+        Some(books) => books_ok(&books, clients),
+        None => false,
+    }
 }
 
 /// The same of a pool with any numbers; by its type, one that passes is known to.
@@ -100,5 +113,5 @@ pub fn checked(pool: &Pool) -> Result<Checked<'_>, Refusal>
 pub fn valid(pool: &Pool) -> bool
     ensures { result ≡ valid pool.now }
 {
-    checked(pool).is_ok()
+    parts_ok(&Parts::of(pool), &pool.clients)
 }

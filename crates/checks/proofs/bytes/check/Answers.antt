@@ -7,7 +7,7 @@ use Rattle.checks.proofs.bytes.check.Goals.{else-parts_sound-via-then-parts_soun
 pub returns-then-as_long-clause-number : goal.returns-then-as_long-clause-number
 returns-then-as_long-clause-number c =
     λ bytes store long. let same : length store ≡ page_bytes * c.args.marks.now.pages = omega (arith, long, c.from.ensures, c.if-as_long.true) in
-    passed_both (sym (c.parts_sound.ensures bytes) ∙ c.if-parts_sound.true) (eq-eqb _ _ same)
+    passed_both (sym (c.parts_sound.ensures.whole bytes) ∙ c.if-parts_sound.true) (eq-eqb _ _ same)
 
 pub returns-else-parts_sound-clause-number : goal.returns-else-parts_sound-clause-number
 returns-else-parts_sound-clause-number c =
@@ -15,6 +15,6 @@ returns-else-parts_sound-clause-number c =
       | else-parts_sound-via-then-parts_sound+else-as_long w ↦
           let other : length store ≢ page_bytes * c.args.marks.now.pages =
           λ same. let z : ⊥ = omega (arith, long, c.from.ensures, w.if-as_long.false, same) in z in
-          failed_second (sym (c.parts_sound.ensures bytes) ∙ w.if-parts_sound.true) (ne_eqb _ _ other)
-      | else-parts_sound-via-else-parts_sound w ↦ failed_first _ (sym (c.parts_sound.ensures bytes) ∙ w.if-parts_sound.false)
+          failed_second (sym (c.parts_sound.ensures.whole bytes) ∙ w.if-parts_sound.true) (ne_eqb _ _ other)
+      | else-parts_sound-via-else-parts_sound w ↦ failed_first _ (sym (c.parts_sound.ensures.whole bytes) ∙ w.if-parts_sound.false)
     ]

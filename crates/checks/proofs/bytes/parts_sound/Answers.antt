@@ -1,14 +1,34 @@
-use Rattle.std.proofs.Common.{◌∙◌, sym}
-use Rattle.books.specs.Books.{pool_in}
-use Rattle.checks.proofs.Parts.{fails, holds}
-use Rattle.checks.proofs.Stored.{few_grants}
+-- The parts are books where their numbers are in range, and pass nothing where they are not. Assumes nothing.
+use Rattle.std.proofs.Common.{◌∙◌, sym, ap, refl, []}
+use Rattle.pool.specs.Choose.{both}
+use Rattle.pool.specs.Valid.{valid}
+use Rattle.pool.specs.declared.Pool.{Pool}
+use Rattle.memory.specs.Requests.{bytes_ok}
+use Rattle.books.specs.Lent.{pool_lent}
+use Rattle.checks.specs.Lent.{memory_in}
+use Rattle.checks.specs.Parts.{of_sound}
+use Rattle.checks.proofs.Parts.{fails, in_range_of, out_of_range}
 use Rattle.checks.proofs.bytes.parts_sound.Goals as goal
 
-pub bytes_ok-requires : goal.bytes_ok-requires
-bytes_ok-requires c = few_grants (pool_in c.args.books.now c.args.clients.now) (sym c.books_ok.ensures ∙ c.if-books_ok.true)
+pub books_sound-requires : goal.books_sound-requires
+books_sound-requires c = in_range_of c.in-Some.books c.args.parts.now c.in-Some.ensures.1 c.in-Some.ensures.0
 
-pub returns-else-books_ok : goal.returns-else-books_ok
-returns-else-books_ok c = λ bytes. fails _ c.books_ok.ensures c.if-books_ok.false
+pub returns-in-Some-clause-parts : goal.returns-in-Some-clause-parts
+returns-in-Some-clause-parts c =
+    let p = pool_lent c.args.parts.now c.args.clients.now in
+    let m = memory_in c.args.marks.now [] in
+    c.books_sound.ensures [] ∙ ap (λ (p : Pool). both (valid p) (bytes_ok p m)) (c.in-Some.ensures.1 c.args.clients.now) ∙ sym (of_sound p m)
 
-pub returns-then-books_ok : goal.returns-then-books_ok
-returns-then-books_ok c = λ bytes. c.bytes_ok.ensures bytes ∙ holds _ c.books_ok.ensures c.if-books_ok.true
+pub returns-in-Some-clause-whole : goal.returns-in-Some-clause-whole
+returns-in-Some-clause-whole c =
+    λ bytes.
+    c.books_sound.ensures bytes
+    ∙ ap (λ (p : Pool). both (valid p) (bytes_ok p (memory_in c.args.marks.now bytes))) (c.in-Some.ensures.1 c.args.clients.now)
+
+pub returns-in-None-clause-parts : goal.returns-in-None-clause-parts
+returns-in-None-clause-parts c =
+    let p = pool_lent c.args.parts.now c.args.clients.now in
+    fails _ (sym (out_of_range p c.in-None.ensures)) refl ∙ sym (of_sound p (memory_in c.args.marks.now []))
+
+pub returns-in-None-clause-whole : goal.returns-in-None-clause-whole
+returns-in-None-clause-whole c = λ bytes. fails _ (sym (out_of_range (pool_lent c.args.parts.now c.args.clients.now) c.in-None.ensures)) refl

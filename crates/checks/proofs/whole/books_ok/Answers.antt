@@ -35,7 +35,7 @@ returns-else-entries_ok c =
       | then-states_ok w ↦ w.value-is ∙ w.entries_ok.ensures ∙ holds _ states w.if-states_ok.true
       | else-states_ok w ↦ w.value-is ∙ fails _ states w.if-states_ok.false
     ] in
-    fails _ entries c.if-entries_ok.false ∙ valid_is b k
+    fails _ entries c.if-entries_ok.false ∙ valid_is b k c.requires
 
 pub returns-then-entries_ok : goal.returns-then-entries_ok
 returns-then-entries_ok c =
@@ -62,4 +62,4 @@ returns-then-entries_ok c =
       | then-states_ok w ↦ w.value-is ∙ w.entries_ok.ensures ∙ holds _ states w.if-states_ok.true
       | else-states_ok w ↦ w.value-is ∙ fails _ states w.if-states_ok.false
     ] in
-    c.clients_ok.ensures ∙ holds _ entries c.if-entries_ok.true ∙ valid_is b k
+    c.clients_ok.ensures ∙ holds _ entries c.if-entries_ok.true ∙ valid_is b k c.requires
