@@ -74,7 +74,7 @@ fn begun(pool: &BufferPool, client: u8, page: u32) -> Result<Made, Refusal>
     let checked = checks::sound(pool)?;
     let call = Call::Begin(client, page);
     if !checks::inside(pool.memory.pages, page) {
-        return Err(checks::outside(play::turn(&checked, call)));
+        return Err(checks::outside_of(play::turn(&checked, call)));
     }
     Ok(checked::call_made(&checked, call))
 }

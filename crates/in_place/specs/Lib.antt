@@ -1,4 +1,3 @@
 pub mod Held
 pub mod Refused
-pub mod InRange
 pub mod Acts

@@ -1,19 +1,18 @@
-ghost use Rattle.std.specs.Prelude.{◌≡◌, IfOk};
+ghost use Rattle.std.specs.Prelude.{◌≡◌, true, Err, IfOk, IfErr};
 ghost use Rattle.pool.specs.Choose.{choose};
-ghost use Rattle.answers.specs.Numbers.{refused_by};
+ghost use Rattle.pool.specs.Valid.{numbers_ok};
 ghost use Rattle.memory.specs.Requests.{outside_at};
-ghost use Rattle.content.specs.Effects.{replaced_of};
 ghost use Rattle.books.specs.Books.{pool_in, pool_of, SameLoans};
 ghost use Rattle.client_arrays.specs.Loans.{clients_in, clients_of, SameClients};
-ghost use Rattle.in_place.specs.Held.{held_refusal, held_of};
-ghost use Rattle.in_place.specs.Acts.{held_by, IsMove};
+ghost use Rattle.in_place.specs.Held.{pool_from};
+ghost use Rattle.in_place.specs.Acts.{ActsTo, IsMove};
 
 use crate::fitting::{client_fits, fresh_frame};
 use actions::Actor;
 use answers::Refusal;
-use books::{Books, BooksMut};
-use client_arrays::{Clients, ClientsMut};
-use pool::{Answer, Call, Counted, Move, Write};
+use books::{Books, BooksMut, Numbers};
+use client_arrays::{ALL_BYTES, ALL_WORDS, Clients, ClientsMut};
+use pool::{Answer, Call, Counted, FRAMES, GRANTS, Move, SLOTS, Write};
 
 /// What a call answers, how it counts, what it wrote to the pool, and the frame of the entry that this replaced, or NONE: the number as the table has it,
 /// which `follow` and `duty` take, so that no option is made here and taken apart there.
@@ -36,10 +35,11 @@ fn is_outside(store_pages: u16, call: Call) -> bool
     }
 }
 
-/// The turn of a call beside a store of so many pages, by the tests of SPECIFICATION 14.4 in their order.
+/// The turn of a call beside a store of so many pages, by the tests of SPECIFICATION 14.4 in their order; S, T and C have passed theirs.
 fn turn(books: &Books, clients: &Clients, call: Call, store_pages: u16) -> Result<Move, Refusal>
-    ensures number { refused_by result ≡ held_refusal (pool_in books.now (clients_in clients.now)) store_pages call }
-    ensures turn { IfOk result (λ m. IsMove (pool_in books.now (clients_in clients.now)) call m) }
+    requires { numbers_ok books.now.numbers.size books.now.numbers.client_count books.now.numbers.cap ≡ true }
+    ensures moved { IfOk result (λ m. IsMove (pool_in books.now (clients_in clients.now)) store_pages call m) }
+    ensures away { IfErr result (λ e. let p = pool_in books.now (clients_in clients.now) in ActsTo p store_pages call (Err e) p) }
 {
     let caller = answers::caller(call);
     if caller >= books.numbers.client_count {
@@ -50,30 +50,31 @@ fn turn(books: &Books, clients: &Clients, call: Call, store_pages: u16) -> Resul
         return Err(Refusal::OutOfRange);
     }
     let fresh = fresh_frame(books, clients, &client)?;
+    if is_outside(store_pages, call) {
+        let count = books.numbers.client_count;
+        let turned = play::turned_by(call, count, client, books.grant_pages);
+        return Err(checks::outside_of(turned));
+    }
     let actor = Actor {
         books: *books,
         number: caller,
         client,
         fresh,
     };
-    let turn = play::decide(&actor, call);
-    if is_outside(store_pages, call) {
-        return Err(checks::outside(turn));
-    }
-    turn
+    play::decide(&actor, call)
 }
 
-/// A begin, step or release, beside a store of so many pages: SPECIFICATION 14.4, 14.5. Refused it changes nothing.
-pub fn act(
+/// The call on books whose numbers are in range.
+fn act_on(
     call: Call,
     store_pages: u16,
     books: &mut BooksMut,
     clients: &mut ClientsMut,
 ) -> Result<Acted, Refusal>
+    requires { numbers_ok books.old.numbers.size books.old.numbers.client_count books.old.numbers.cap ≡ true }
     ensures books { SameLoans books.old books.new }
     ensures clients { SameClients clients.old clients.new }
-    ensures held { held_by result (pool_of books.new (clients_of clients.new)) ≡ held_of (pool_of books.old (clients_of clients.old)) store_pages call }
-    ensures entry { IfOk result (λ a. a.entry ≡ replaced_of (pool_of books.old (clients_of clients.old)) a.write) }
+    ensures acts { ActsTo (pool_of books.old (clients_of clients.old)) store_pages call result (pool_of books.new (clients_of clients.new)) }
 {
     let turn = turn(&books.books(), &clients.clients(), call, store_pages)?;
     let c = usize::from(answers::caller(call));
@@ -86,4 +87,59 @@ pub fn act(
         write: turn.write,
         entry,
     })
+}
+
+/// A begin, step or release, beside a store of so many pages: SPECIFICATION 14.4, 14.5. Refused it changes nothing. The pool is lent part by part, as a
+/// program in another language has it, with any numbers.
+pub fn act(
+    call: Call,
+    store_pages: u16,
+    size: u8,
+    client_count: u8,
+    cap: u8,
+    hand: &mut u32,
+    free: &mut u8,
+    last: &mut u8,
+    slots: &mut [u8; SLOTS],
+    pages: &mut [u32; FRAMES],
+    pins: &mut [u8; FRAMES],
+    counts: &mut [u8; FRAMES],
+    table_pages: &mut [u32; FRAMES],
+    table_frames: &mut [u8; FRAMES],
+    client_bytes: &mut [u8; ALL_BYTES],
+    client_words: &mut [u32; ALL_WORDS],
+    grant_pages: &mut [u32; GRANTS],
+    grant_frames: &mut [u8; GRANTS],
+) -> Result<Acted, Refusal>
+    ensures { ActsTo
+        (pool_from size client_count cap hand.old free.old last.old slots.old pages.old
+        pins.old counts.old table_pages.old table_frames.old client_bytes.old
+        client_words.old grant_pages.old grant_frames.old)
+        store_pages call result
+        (pool_from size client_count cap hand.new free.new last.new slots.new pages.new
+        pins.new counts.new table_pages.new table_frames.new client_bytes.new
+        client_words.new grant_pages.new grant_frames.new) }
+{
+    let Some(numbers) = Numbers::new(size, client_count, cap) else {
+        return Err(Refusal::OutOfRange);
+    };
+    let mut books = BooksMut {
+        numbers,
+        hand,
+        free,
+        last,
+        slots,
+        pages,
+        pins,
+        counts,
+        table_pages,
+        table_frames,
+        grant_pages,
+        grant_frames,
+    };
+    let mut clients = ClientsMut {
+        bytes: client_bytes,
+        words: client_words,
+    };
+    act_on(call, store_pages, &mut books, &mut clients)
 }
