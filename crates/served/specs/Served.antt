@@ -60,10 +60,6 @@ ListsTo h r u = (r ≡ word_of h.answer) × (u ≡ h.numbers)
 abbrev pub checked_state : State → Answer
 checked_state x = checked_of x.pool x.memory x.store
 
-pub no_numbers_checked : (x : State) → numbers_ok x.pool.size (number_of_clients x.pool) x.pool.cap ≡ false → checked_state x ≡ Refused 8
-unfolding checked_of valid both choose
-no_numbers_checked x e = rw e refl
-
 -- a pool with other clients
 abbrev pub with_clients : Pool → List Client → Pool
 with_clients p clients =
@@ -72,13 +68,13 @@ with_clients p clients =
 
 -- ---- begin, release
 
-pub calls : {h k : Held} {r : ℕ} {q : Pool} → h ≡ k → r ≡ word_of h.answer → q ≡ h.pool → CallsTo k r q
-calls e f g = (f ∙ ap (λ (h : Held). word_of h.answer) e, g ∙ ap (λ (h : Held). h.pool) e)
+left : (a : Result Acted Refusal) {q : Pool} → q ≡ (held_by a q).pool
+left (Ok a) = refl
+left (Err e) = refl
 
--- S, T or C is out of range
-pub calls_away : (p : Pool) (n : ℕ) (call : Call) {r : ℕ} → numbers_ok p.size (number_of_clients p) p.cap ≡ false → r ≡ word_of (Refused 8)
-    → CallsTo (held_of p n call) r p
-calls_away p n call e f = calls (sym (no_numbers p n call e)) f refl
+pub calls : {p : Pool} {n : ℕ} {call : Call} {a : Result Acted Refusal} {q : Pool} {r : ℕ} →
+    ActsTo p n call a q → r ≡ word_of (held_by a q).answer → CallsTo (held_of p n call) r q
+calls {a = a} t e = (e ∙ ap (λ (h : Held). word_of h.answer) t.held, left a ∙ ap (λ (h : Held). h.pool) t.held)
 
 -- ---- setup
 

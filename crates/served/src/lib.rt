@@ -20,7 +20,7 @@ ghost use Rattle.served.specs.Words.{answer_of, word_of};
 ghost use Rattle.served.specs.Served.{SetsUp, CallsTo, StepsTo, BytesTo, ListsTo, checked_state};
 
 use answers::Refusal;
-use books::{Books, BooksMut, Numbers};
+use books::{Numbers, Parts};
 use checks::Marks;
 use client_arrays::{ALL_BYTES, ALL_WORDS, Clients, ClientsMut};
 use content::{Content, Frames};
@@ -140,11 +140,12 @@ pub fn foqheran_parts_begin(
         pins.new counts.new table_pages.new table_frames.new client_bytes.new
         client_words.new grant_pages.new grant_frames.new) }
 {
-    let Some(numbers) = Numbers::new(size, client_count, cap) else {
-        return word(Err(Refusal::OutOfRange));
-    };
-    let mut books = BooksMut {
-        numbers,
+    let acted = in_place::act(
+        Call::Begin(client, page),
+        store_pages,
+        size,
+        client_count,
+        cap,
         hand,
         free,
         last,
@@ -154,18 +155,10 @@ pub fn foqheran_parts_begin(
         counts,
         table_pages,
         table_frames,
+        client_bytes,
+        client_words,
         grant_pages,
         grant_frames,
-    };
-    let mut clients = ClientsMut {
-        bytes: client_bytes,
-        words: client_words,
-    };
-    let acted = in_place::act(
-        Call::Begin(client, page),
-        store_pages,
-        &mut books,
-        &mut clients,
     );
     word(acted.map(|acted| acted.answer))
 }
@@ -201,11 +194,12 @@ pub fn foqheran_parts_release(
         pins.new counts.new table_pages.new table_frames.new client_bytes.new
         client_words.new grant_pages.new grant_frames.new) }
 {
-    let Some(numbers) = Numbers::new(size, client_count, cap) else {
-        return word(Err(Refusal::OutOfRange));
-    };
-    let mut books = BooksMut {
-        numbers,
+    let acted = in_place::act(
+        Call::Release(client, page),
+        0,
+        size,
+        client_count,
+        cap,
         hand,
         free,
         last,
@@ -215,14 +209,11 @@ pub fn foqheran_parts_release(
         counts,
         table_pages,
         table_frames,
+        client_bytes,
+        client_words,
         grant_pages,
         grant_frames,
-    };
-    let mut clients = ClientsMut {
-        bytes: client_bytes,
-        words: client_words,
-    };
-    let acted = in_place::act(Call::Release(client, page), 0, &mut books, &mut clients);
+    );
     word(acted.map(|acted| acted.answer))
 }
 
@@ -268,11 +259,12 @@ pub fn foqheran_parts_step(
     if store.len() != PAGE * usize::from(store_pages) {
         return word(Err(Refusal::OutOfRange));
     }
-    let Some(numbers) = Numbers::new(size, client_count, cap) else {
-        return word(Err(Refusal::OutOfRange));
-    };
-    let mut books = BooksMut {
-        numbers,
+    let acted = in_place::act(
+        Call::Step(client),
+        store_pages,
+        size,
+        client_count,
+        cap,
         hand,
         free,
         last,
@@ -282,14 +274,12 @@ pub fn foqheran_parts_step(
         counts,
         table_pages,
         table_frames,
+        client_bytes,
+        client_words,
         grant_pages,
         grant_frames,
-    };
-    let mut clients = ClientsMut {
-        bytes: client_bytes,
-        words: client_words,
-    };
-    match in_place::act(Call::Step(client), store_pages, &mut books, &mut clients) {
+    );
+    match acted {
         Ok(acted) => {
             let mut content = Content {
                 pages: store_pages,
@@ -452,11 +442,10 @@ pub fn foqheran_parts_check<'a>(
         grant_pages.now grant_frames.now)
         store_pages bytes filled.now changed.now store.now)) }
 {
-    let Some(numbers) = Numbers::new(size, client_count, cap) else {
-        return word(Err(Refusal::OutOfRange));
-    };
-    let books = Books {
-        numbers,
+    let parts = Parts {
+        size,
+        client_count,
+        cap,
         hand: 0,
         free,
         last,
@@ -478,7 +467,7 @@ pub fn foqheran_parts_check<'a>(
         filled,
         changed,
     };
-    match checks::check(&books, &clients.all(), &marks, store.len()) {
+    match checks::check(&parts, &clients.all(), &marks, store.len()) {
         Ok(()) => word(Ok(Answer::Done(u32::from(size)))),
         Err(refusal) => word(Err(refusal)),
     }

@@ -1,5 +1,5 @@
 -- The whole check, and its answer as a number. Assumes nothing.
-use Rattle.std.proofs.Common.{◌∙◌, sym, ap, refl}
+use Rattle.std.proofs.Common.{◌∙◌, ap, refl}
 use Rattle.pool.specs.declared.Answer.TheVariants.{Done}
 use Rattle.pool.specs.declared.Pool.{Pool}
 use Rattle.answers.specs.Numbers.{refusal_number}
@@ -7,12 +7,7 @@ use Rattle.memory.specs.declared.Memory.{Memory}
 use Rattle.checks.specs.Checked.{any_hand, as_done, as_refused}
 use Rattle.in_place.specs.Held.{pool_from}
 use Rattle.served.specs.Words.{word_of}
-use Rattle.served.specs.Served.{no_numbers_checked}
 use Rattle.served.proofs.foqheran_parts_check.Goals as goal
-
-pub returns-in_default : goal.returns-in_default
-returns-in_default c =
-    λ hand bytes. c.word.ensures ∙ ap word_of (sym (no_numbers_checked _ c.in_default.ensures))
 
 pub returns-in-Ok : goal.returns-in-Ok
 returns-in-Ok c =
@@ -20,7 +15,7 @@ returns-in-Ok c =
     let a = c.args in
     let p : Pool = pool_from a.size a.client_count a.cap 0 a.free a.last a.slots.now a.pages.now a.pins.now a.counts.now a.table_pages.now a.table_frames.now a.client_bytes.now a.client_words.now a.grant_pages.now a.grant_frames.now in
     let m : Memory = record { pages = a.store_pages; bytes = bytes; filled = a.filled.now; changed = a.changed.now } in
-    let e = rw (c.in-Some.ensures.1, c.in-Some.ensures.2, c.in-Some.ensures.3, c.all.ensures) at (c.in-Ok.ensures.number bytes a.store.now refl) in
+    let e = rw c.all.ensures at (c.in-Ok.ensures.number bytes a.store.now refl) in
     c.word-in-Ok.ensures ∙ ap (λ n. word_of (Done n)) c.from.ensures ∙ ap word_of (as_done p m a.store.now e refl ∙ any_hand p hand m a.store.now)
 
 pub returns-in-Err : goal.returns-in-Err
@@ -29,5 +24,5 @@ returns-in-Err c =
     let a = c.args in
     let p : Pool = pool_from a.size a.client_count a.cap 0 a.free a.last a.slots.now a.pages.now a.pins.now a.counts.now a.table_pages.now a.table_frames.now a.client_bytes.now a.client_words.now a.grant_pages.now a.grant_frames.now in
     let m : Memory = record { pages = a.store_pages; bytes = bytes; filled = a.filled.now; changed = a.changed.now } in
-    let e = rw (c.in-Some.ensures.1, c.in-Some.ensures.2, c.in-Some.ensures.3, c.all.ensures) at (c.in-Err.ensures.number bytes a.store.now refl) in
+    let e = rw c.all.ensures at (c.in-Err.ensures.number bytes a.store.now refl) in
     c.word-in-Err.ensures ∙ ap word_of (as_refused p m a.store.now e (ap refusal_number c.in-Err.ensures.refusal) ∙ any_hand p hand m a.store.now)
