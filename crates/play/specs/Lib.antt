@@ -1,5 +1,6 @@
 pub mod Turn
 pub mod Parts
 pub mod Decides
+pub mod Searchable
 pub mod Playable
 pub mod Calls
