@@ -21,6 +21,14 @@ pub fn replaced(frames: &[u8; FRAMES], total: u8, write: Write) -> u8
     }
 }
 
+/// Whether frame f has the mark; no frame but those that there are has one.
+pub fn marked(marks: &[u8; FRAMES], f: u8) -> bool
+    ensures value { result ≡ mark marks.now f }
+    ensures bound { result ≡ true → f < max_frames }
+{
+    marks.get(usize::from(f)).is_some_and(|&mark| mark != 0)
+}
+
 /// Frame f gets a page of a store of so many, unless it is filled or there is no such page.
 fn fill(
     bytes: &mut [u8; BYTES],
@@ -35,7 +43,7 @@ fn fill(
     ensures filled { filled.new ≡ marks_filled filled.old pages f page }
 {
     let at = usize::from(f);
-    if at < FRAMES && filled[at] == 0 && page < u32::from(pages) {
+    if at < FRAMES && !marked(filled, f) && page < u32::from(pages) {
         copy_page(bytes, at, store, page as usize);
         filled[at] = 1;
     }
@@ -159,8 +167,7 @@ impl Content<'_> {
         ensures value { result ≡ mark self.now.changed.now f }
         ensures bound { result ≡ true → f < max_frames }
     {
-        let changed: &[u8; FRAMES] = self.changed;
-        changed.get(usize::from(f)).is_some_and(|&mark| mark != 0)
+        marked(self.changed, f)
     }
 }
 

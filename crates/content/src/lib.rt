@@ -6,5 +6,5 @@ pub mod lent;
 mod pages;
 pub mod store;
 
-pub use lent::{Content, Frames, replaced};
+pub use lent::{Content, Frames, marked, replaced};
 pub use store::{outside, pages_of};

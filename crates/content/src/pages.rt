@@ -1,5 +1,5 @@
 // A page's 64 bytes, copied where they lie: between a frame and the store, and from frame to frame.
-ghost use Rattle.std.specs.Prelude.{◌≡◌, ◌+◌, ◌≤◌, ◌<◌, length};
+ghost use Rattle.std.specs.Prelude.{◌≡◌, ◌+◌, ◌≤◌, ◌<◌, length, replicate};
 ghost use Rattle.pool.specs.Limits.{max_frames};
 ghost use Rattle.memory.specs.Memory.{page_bytes, start, copied_page};
 
@@ -15,12 +15,22 @@ pub fn copy_page(to: &mut [u8], i: usize, from: &[u8], j: usize)
     to[PAGE * i..PAGE * i + PAGE].copy_from_slice(page);
 }
 
-/// A frame's bytes, copied to another frame, or left where both are one.
-#[tactic(auto, using(crate::proofs::Copied::within_is))]
+/// Frame f's 64 bytes, by themselves.
+fn taken(bytes: &[u8; BYTES], f: usize) -> [u8; PAGE]
+    requires { f < max_frames }
+    ensures { result ≡ copied_page (replicate page_bytes 0) 0 bytes.now f }
+{
+    let mut page = [0; PAGE];
+    copy_page(&mut page, 0, bytes, f);
+    page
+}
+
+/// A frame's bytes, copied to another frame. They are taken out first, so that it makes no difference whether the two are one.
 pub fn shift(bytes: &mut [u8; BYTES], from: usize, to: usize)
     requires from { from < max_frames }
     requires to { to < max_frames }
     ensures { bytes.new ≡ copied_page bytes.old to bytes.old from }
 {
-    bytes.copy_within(PAGE * from..PAGE * from + PAGE, PAGE * to);
+    let page = taken(bytes, from);
+    copy_page(bytes, to, &page, 0);
 }

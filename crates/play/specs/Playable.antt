@@ -12,6 +12,7 @@ use Rattle.books.specs.declared.reading.Books.{Books}
 use Rattle.books.specs.Books.{pool_in}
 use Rattle.books.specs.Named.{FewGrants}
 use Rattle.actions.specs.Low.{LowPins}
+use Rattle.play.specs.Searchable.{searchable}
 
 -- the client as it is read where its record stands
 abbrev pub record_at : Pool → ℕ → Client
@@ -46,4 +47,4 @@ module _ (b : Books) (clients : List Client) (v : valid (pool_in b clients) ≡ 
   some_slot = in_range.numbers.some_slot
 
   pub few_grants : FewGrants b.numbers.client_count clients
-  few_grants c h = (can_act c h).held
+  few_grants c h = subst (λ (k : Client). k.held ≤ max_held) (client_of_pool its_pool c h) ((searchable its_pool v).grants c h)

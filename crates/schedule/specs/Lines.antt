@@ -23,7 +23,7 @@ at_most_4 n h = decimal_fits 3 n (omega arith)
 pub at_most_10 : (n : ℕ) → n < 2 ^ 32 → length (decimal n) ≤ 10
 at_most_10 n h = decimal_fits 9 n (omega arith)
 
-field_length : (v after : ℕ) → length (field v after) ≡ length (decimal v) + 1
+pub field_length : (v after : ℕ) → length (field v after) ≡ length (decimal v) + 1
 field_length v after = rw length-append refl
 
 pub line_length : (at client code value : ℕ) →

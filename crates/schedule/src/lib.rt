@@ -9,7 +9,7 @@ ghost use Rattle.pool.specs.Schedule.{end_of, report_of};
 
 mod lines;
 pub mod records;
-mod run_loop;
+pub mod run_loop;
 
 use answers::Refusal;
 use lines::{LINE, Report};

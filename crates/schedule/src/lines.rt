@@ -87,6 +87,7 @@ impl Report<'_> {
         requires room { self.old.bytes + 24 ≤ length self.old.space.now }
         requires few { self.old.records ≤ 9999 }
         ensures written { Wrote (answer_line self.old.records client answer) self.old self.new }
+        ensures bound { self.new.bytes ≤ self.old.bytes + 24 }
         ensures records { self.new.records ≡ self.old.records }
     {
         let record = self.records;
@@ -101,6 +102,7 @@ impl Report<'_> {
         requires room { self.old.bytes + 24 ≤ length self.old.space.now }
         requires few { self.old.records ≤ 9999 }
         ensures answered { Wrote (answer_line self.old.records client answer) self.old self.new }
+        ensures bound { self.new.bytes ≤ self.old.bytes + 24 }
         ensures records { self.new.records ≡ self.old.records + 1 }
     {
         self.line(client, answer);

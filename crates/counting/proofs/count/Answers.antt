@@ -1,4 +1,4 @@
-use Rattle.std.proofs.Common.{◌∙◌, get_or}
+use Rattle.std.proofs.Common.{◌∙◌, get_or, arith}
 use Rattle.counting.proofs.GoesUp.{up_is, goes_up, stays}
 use Rattle.counting.proofs.count.Goals as goal
 
@@ -9,4 +9,4 @@ returns-in-Some c =
     (c.saturating_add.ensures ∙ up_is (get_or c.args.tally.now i 0) (c.fits-tally i))
 
 pub returns-in_default : goal.returns-in_default
-returns-in_default c = stays c.args.tally.now c.args.counted c.in_default.ensures.place
+returns-in_default c = stays c.args.tally.now c.args.counted c.in_default.ensures.place (omega arith)
