@@ -1,5 +1,5 @@
 -- What each function for other languages promises, and how each way out of its code is that. Assumes nothing.
-use Rattle.std.specs.Prelude.{◌≡◌, ◌≢◌, Bool, true, false, Ok, List, ℕ, ◌*◌, ◌/◌, length, replicate}
+use Rattle.std.specs.Prelude.{◌≡◌, ◌≢◌, Bool, true, false, Ok, Err, List, ℕ, ◌*◌, ◌/◌, length, replicate}
 use Rattle.std.proofs.Math.Path.{refl, sym, ap}
 use Rattle.std.proofs.Common.{◌∙◌}
 use borrow.Author.Tests.{eq-eqb, ne_eqb}
@@ -19,6 +19,7 @@ use Rattle.pool.specs.declared.Pool.{Pool}
 use Rattle.pool.specs.declared.Tally.{Tally}
 use Rattle.pool.specs.declared.Write.TheVariants.{Keep}
 use Rattle.laws.specs.Choices.{chosen, passed}
+use Rattle.answers.specs.declared.refusal.Refusal.{Refusal}
 use Rattle.memory.specs.Memory.{page_bytes, blank, memory_after, store_after}
 use Rattle.memory.specs.Requests.{Request, Asks, ReadByte, WriteByte, State, Result, turned_back, lent, store_ok, length_ok, setup_on, held_frame, action_on}
 use Rattle.memory.specs.declared.Memory.{Memory}
@@ -26,7 +27,7 @@ use Rattle.content.specs.Effects.{marks_after, bytes_after, store_in, replaced_i
 use Rattle.content.specs.Filling.{bytes_filled, marks_filled, byte_in, bytes_written, marks_written}
 use Rattle.content.specs.Acting.{reads_as, writes_as}
 use Rattle.in_place.specs.Held.{Held, turned_away, held_of, byte_held_refusal, byte_held, held_on, held_state, duty_of, duty_on, state_from}
-use Rattle.in_place.specs.Acts.{held_by, no_numbers}
+use Rattle.in_place.specs.Acts.{held_by, ActsTo}
 use Rattle.in_place.specs.declared.acting.Acted.{Acted}
 use Rattle.listing.specs.Listed.{HeldRows}
 use Rattle.checks.specs.Checked.{checked_of}
@@ -68,7 +69,7 @@ with_clients p clients =
 
 -- ---- begin, release
 
-left : (a : Result Acted Refusal) {q : Pool} → q ≡ (held_by a q).pool
+left : (a : Std.Result Acted Refusal) {q : Pool} → q ≡ (held_by a q).pool
 left (Ok a) = refl
 left (Err e) = refl
 

@@ -16,7 +16,7 @@ returns-in-Ok c =
     let p : Pool = pool_from a.size a.client_count a.cap 0 a.free a.last a.slots.now a.pages.now a.pins.now a.counts.now a.table_pages.now a.table_frames.now a.client_bytes.now a.client_words.now a.grant_pages.now a.grant_frames.now in
     let m : Memory = record { pages = a.store_pages; bytes = bytes; filled = a.filled.now; changed = a.changed.now } in
     let e = rw c.all.ensures at (c.in-Ok.ensures.number bytes a.store.now refl) in
-    c.word-in-Ok.ensures ∙ ap (λ n. word_of (Done n)) c.from.ensures ∙ ap word_of (as_done p m a.store.now e refl ∙ any_hand p hand m a.store.now)
+    c.word.ensures ∙ ap (λ n. word_of (Done n)) c.from.ensures ∙ ap word_of (as_done p m a.store.now e refl ∙ any_hand p hand m a.store.now)
 
 pub returns-in-Err : goal.returns-in-Err
 returns-in-Err c =
