@@ -26,7 +26,7 @@ use Rattle.answers.specs.Numbers.{refusal_number, some_refusal}
 use Rattle.answers.specs.declared.refusal.Refusal.{Refusal}
 use Rattle.memory.specs.Memory.{page_bytes}
 use Rattle.memory.specs.Orders.{first_zero, first_some}
-use Rattle.memory.specs.Requests.{ReadByte, WriteByte, lent, store_ok, first_of, byte_refusal, turned_away_by, refusal_on, held_frame}
+use Rattle.memory.specs.Requests.{ReadByte, WriteByte, State, lent, store_ok, first_of, byte_refusal, turned_away_by, refusal_on, held_frame}
 use Rattle.memory.specs.Requests.{call_on, state_of, reply}
 use Rattle.memory.specs.declared.BufferPool.{BufferPool}
 use Rattle.memory.specs.declared.Memory.{Memory}
@@ -76,15 +76,18 @@ module _ (q : Pool) (c g : ℕ) (v : valid q ≡ true) (z : turned_by q (Release
 
 -- ---- a read and a write
 
+-- a write is turned down as a read is
+pub alike : (x : State) (c g o v : ℕ) → refusal_on x (ReadByte c g o) ≡ refusal_on x (WriteByte c g o v)
+unfolding refusal_on turned_away_by store_ok lent
+alike x c g o v = refl
+
 module _ (b : BufferPool) (s : List ℕ) (c g o : ℕ) where
   -- by which number it is turned down
   abbrev number : ℕ
   number = refusal_on (state_of b s) (ReadByte c g o)
 
-  -- a write is turned down as a read is
-  alike : (v : ℕ) → refusal_on (state_of b s) (WriteByte c g o v) ≡ number
-  unfolding refusal_on turned_away_by store_ok lent
-  alike v = refl
+  as_read : (v : ℕ) → refusal_on (state_of b s) (WriteByte c g o v) ≡ number
+  as_read v = sym (alike (state_of b s) c g o v)
 
   -- ---- as the code finds it
 
@@ -96,7 +99,7 @@ module _ (b : BufferPool) (s : List ℕ) (c g o : ℕ) where
     in_order : number ≡ first_of (turned_by q (Release c g)) (byte_refusal b.memory.pages g o)
     unfolding turned_away_by store_ok lent either choose
     in_order =
-        by_checks b s (ReadByte c g o) h.1 (eq-eqb _ _ l)
+        by_checks (state_of b s) (ReadByte c g o) h.1 (eq-eqb _ _ l)
         ∙ ap (λ (n : ℕ). first_of n (byte_refusal b.memory.pages g o))
         (by_turn b.pool (Release c g) (both_first _ _ h.1) ∙ ap (λ (p : Pool). turned_by p (Release c g)) (sym h.0))
 
@@ -113,7 +116,7 @@ module _ (b : BufferPool) (s : List ℕ) (c g o : ℕ) where
 
   pub write_refused : (v : ℕ) (e : Refusal) → number ≡ refusal_number e
       → turned_reply (refusal_number e) b ≡ reply (call_on (state_of b s) (WriteByte c g o v))
-  write_refused v e n = sym (ap reply (refuses _ (WriteByte c g o v) e (alike v ∙ n)))
+  write_refused v e n = sym (ap reply (refuses _ (WriteByte c g o v) e (as_read v ∙ n)))
 
   -- done, with this memory
   abbrev done : ℕ → Memory → Reply
@@ -130,4 +133,4 @@ module _ (b : BufferPool) (s : List ℕ) (c g o : ℕ) where
         → changed ≡ marks_written b.memory.changed f o
         → done g (record { pages = b.memory.pages; bytes = bytes'; filled = filled'; changed = changed })
         ≡ reply (call_on (state_of b s) (WriteByte c g o v))
-    writes v x z y = ap reply (writes_as (state_of b s) c g o h.1 eb (z ∙ em) v x y ∙ sym (goes_on _ (WriteByte c g o v) (alike v ∙ h.0)))
+    writes v x z y = ap reply (writes_as (state_of b s) c g o h.1 eb (z ∙ em) v x y ∙ sym (goes_on _ (WriteByte c g o v) (as_read v ∙ h.0)))

@@ -5,14 +5,14 @@ use Rattle.memory.specs.Requests.{ReadByte, held_frame}
 use Rattle.pool.specs.State.{none}
 use Rattle.pool.specs.declared.Pool.{Pool}
 use Rattle.content.specs.Acting.{low_offset}
-use Rattle.buffered.specs.Ways.{unsound}
+use Rattle.buffered.specs.Ways.{is_unsound}
 use Rattle.byte_calls.specs.Passed.{its_number, few, has_one, grant_is, frame_is, by_length, by_release, by_place}
 use Rattle.byte_calls.proofs.holder.Goals as goal
 
 pub returns-in_err-checked-clause-frame : goal.returns-in_err-checked-clause-frame
 returns-in_err-checked-clause-frame c =
     let a = c.args in
-    let refused = unsound a.pool.now a.store.now (ReadByte a.client a.page a.offset) c.in_err-checked.ensures in
+    let refused = is_unsound a.pool.now a.store.now (ReadByte a.client a.page a.offset) c.in_err-checked.ensures in
     search (rules, refused)
 
 pub returns-then-not-as_long-clause-frame : goal.returns-then-not-as_long-clause-frame
