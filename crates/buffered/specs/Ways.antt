@@ -177,7 +177,7 @@ begins_outside b c g s sound i {n} e =
 
 pub not_sound : (b : BufferPool) (r : Request) {e : Refusal} → (e ≡ OutOfRange) × (sound b ≡ false) → (s : List ℕ)
     → turned_reply (refusal_number e) b ≡ reply (call_on (state_of b s) r)
-not_sound b r h s = rw (h.0) (sym (ap reply (unsound (state_of b s) r h.1)))
+not_sound b r h s = sym (ap reply (refuses _ r _ (is_unsound b s r h)))
 
 -- a begin and a release leave memory and store
 begin_keeps : (p : Pool) (m : Memory) (c g : ℕ) → memory_after p m (write_of p (Begin c g)) ≡ m
