@@ -188,7 +188,10 @@ module _ (b : BufferPool) (s : List ℕ) (c g o : ℕ) where
         → changed ≡ marks_written b.memory.changed f o
         → done g (record { pages = b.memory.pages; bytes = bytes'; filled = filled'; changed = changed })
         ≡ reply (call_on (state_of b s) (WriteByte c g o v))
-    writes v x z y = ap reply (writes_as (state_of b s) c g o h.1 eb (z ∙ em) v x y ∙ sym (goes_on _ (WriteByte c g o v) (sym (alike (state_of b s) c g o v) ∙ h.0)))
+    writes v x z y =
+        ap reply
+        (writes_as (state_of b s) c g o h.1 eb (z ∙ em) v x y
+        ∙ sym (goes_on _ (WriteByte c g o v) (sym (alike (state_of b s) c g o v) ∙ h.0)))
 
 -- ---- by which numbers they are refused
 

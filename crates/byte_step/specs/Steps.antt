@@ -93,8 +93,8 @@ module _ (b : BufferPool) (c : ℕ) (s : List ℕ) where
 -- ---- with the tally
 
 module _ (b : BufferPool) (c : ℕ) (t : Tally) (s : List ℕ) where
-  few : {r : Tallied} {left : List ℕ} → r ≡ tallying t (call_on (state_of b s) (Asks (Step c))) → left ≡ (call_on (state_of b s) (Asks (Step c))).state.store
-      → StepsTo b c t s r left
+  few : {r : Tallied} {left : List ℕ} → r ≡ tallying t (call_on (state_of b s) (Asks (Step c)))
+      → left ≡ (call_on (state_of b s) (Asks (Step c))).state.store → StepsTo b c t s r left
   few e f = ((e, f), subst (λ (z : Tallied). Among by_step (refusal_of z.answer)) (sym e) (step_refusals (state_of b s) c))
 
   -- of what is left of pool and store

@@ -84,6 +84,6 @@ pub returns-clause-inside : goal.returns-clause-inside
 returns-clause-inside c =
     let a = c.args in
     let long : length a.store.now ≡ page_bytes * a.pool.now.memory.pages = omega (arith, c.if-not-as_long.false, c.from.ensures) in
-    let none = by_place a.pool.now a.store.now a.client a.page a.offset c.in_ok-checked.ensures long c.in_ok-_turn.ensures.0 ∙ sym c.in_ok-outside.ensures in
-    let past = passed (state_of a.pool.now a.store.now) a.client a.page a.offset none in
+    let place = by_place a.pool.now a.store.now a.client a.page a.offset c.in_ok-checked.ensures long c.in_ok-_turn.ensures.0 in
+    let past = passed (state_of a.pool.now a.store.now) a.client a.page a.offset (place ∙ sym c.in_ok-outside.ensures) in
     (past.long, past.offset)
