@@ -26,7 +26,7 @@ use Rattle.memory.specs.declared.BufferPool.{BufferPool}
 use Rattle.memory.specs.declared.Memory.{Memory}
 use Rattle.memory.specs.declared.Reply.{Reply}
 use Rattle.memory.specs.Memory.{memory_after, store_after}
-use Rattle.memory.specs.Orders.{first_some, order_some, order_alone}
+use Rattle.memory.specs.Orders.{first_some, order_some, order_alone, order_none}
 use Rattle.memory.specs.Requests.{Request, Asks, ReadByte, WriteByte, State, turned_back, bytes_ok, store_ok, in_order, outside_at, inside, lent}
 use Rattle.memory.specs.Requests.{turned_away_by, refusal_on, refused, write_of, action_on, call_on, state_of, reply}
 
@@ -49,7 +49,7 @@ Passes q b = (q ≡ b.pool) × (sound b ≡ true)
 -- ---- by what the call is turned down
 
 -- what is refused by a number that is not 0
-turned : (x : State) (r : Request) (n : ℕ) → refusal_on x r ≡ n → n ≢ 0 → call_on x r ≡ turned_back n x
+pub turned : (x : State) (r : Request) (n : ℕ) → refusal_on x r ≡ n → n ≢ 0 → call_on x r ≡ turned_back n x
 unfolding call_on
 turned x r n e z = passed _ _ _ (ne_eqb _ _ (λ w. z (sym e ∙ w))) ∙ ap (λ (k : ℕ). turned_back k x) e
 
@@ -93,26 +93,38 @@ pub by_store : (x : State) (r : Request) → store_ok x r ≡ false → refusal_
 unfolding refusal_on
 by_store x r f = passed _ _ _ (neither (bytes_ok x.pool x.memory) _ f)
 
-module _ (b : BufferPool) (s : List ℕ) (r : Request) where
-  abbrev x : State
-  x = state_of b s
-
+module _ (x : State) (r : Request) where
   -- the pool's own check 8, or that of the bytes, fails
-  pub by_unsound : sound b ≡ false → refusal_on x r ≡ 8
+  pub by_unsound : both (valid x.pool) (bytes_ok x.pool x.memory) ≡ false → refusal_on x r ≡ 8
   unfolding both choose
-  by_unsound = go (valid b.pool) refl
+  by_unsound = go (valid x.pool) refl
     where
-      go : (v : Bool) → valid b.pool ≡ v → both v (bytes_ok b.pool b.memory) ≡ false → refusal_on x r ≡ 8
+      go : (v : Bool) → valid x.pool ≡ v → both v (bytes_ok x.pool x.memory) ≡ false → refusal_on x r ≡ 8
       go true _ f = of_bytes x r f
       go false v _ = of_pool x r v
 
-  pub unsound : {e : Refusal} → (e ≡ OutOfRange) × (sound b ≡ false) → refusal_on x r ≡ refusal_number e
-  unsound h = by_unsound h.1 ∙ ap refusal_number (sym h.0)
+  pub unsound : both (valid x.pool) (bytes_ok x.pool x.memory) ≡ false → call_on x r ≡ turned_back 8 x
+  unsound e = turned x r 8 (by_unsound e) (eight 8 refl)
+
+  pub wrong_store : store_ok x r ≡ false → call_on x r ≡ turned_back 8 x
+  wrong_store e = turned x r 8 (by_store x r e) (eight 8 refl)
 
   -- past check 8
-  pub by_checks : sound b ≡ true → store_ok x r ≡ true → refusal_on x r ≡ turned_away_by x r
-  unfolding refusal_on
-  by_checks h l = chosen _ _ _ (both_yes _ _ (both_true _ _ h).1 l)
+  module _ (s : both (valid x.pool) (bytes_ok x.pool x.memory) ≡ true) (l : store_ok x r ≡ true) where
+    pub by_checks : refusal_on x r ≡ turned_away_by x r
+    unfolding refusal_on
+    by_checks = chosen _ _ _ (both_yes _ _ (both_true _ _ s).1 l)
+
+    pub turned_away : (n : ℕ) → turned_away_by x r ≡ n → n ≢ 0 → call_on x r ≡ turned_back n x
+    turned_away n e = turned x r n (by_checks ∙ e)
+
+    pub acts : turned_away_by x r ≡ 0 → call_on x r ≡ action_on x r
+    acts e = goes_on x r (by_checks ∙ e)
+
+-- as the code finds it
+pub is_unsound : (b : BufferPool) (s : List ℕ) (r : Request) {e : Refusal} → (e ≡ OutOfRange) × (sound b ≡ false)
+    → refusal_on (state_of b s) r ≡ refusal_number e
+is_unsound b s r h = by_unsound (state_of b s) r h.1 ∙ ap refusal_number (sym h.0)
 
 -- ---- begin, step, release
 
@@ -121,35 +133,51 @@ pub by_turn : (p : Pool) (call : Call) → valid p ≡ true → refusal p call �
 unfolding refusal
 by_turn p call v = chosen _ _ _ v
 
-module _ (b : BufferPool) (s : List ℕ) (call : Call) (h : sound b ≡ true) (l : store_ok (state_of b s) (Asks call) ≡ true) where
-  v : valid b.pool ≡ true
-  v = (both_true _ _ h).0
+module _ (x : State) (call : Call) (s : both (valid x.pool) (bytes_ok x.pool x.memory) ≡ true) (l : store_ok x (Asks call) ≡ true) where
+  abbrev p : Pool
+  p = x.pool
+
+  v : valid p ≡ true
+  v = (both_true _ _ s).0
 
   -- a call that the pool turns down leaves memory and store
-  still : turned_by b.pool call ≢ 0 → action_on (state_of b s) (Asks call) ≡ turned_back (turned_by b.pool call) (state_of b s)
+  still : turned_by p call ≢ 0 → action_on x (Asks call) ≡ turned_back (turned_by p call) x
   unfolding action_on write_of refused memory_after store_after choose
-  still z = rw (turned_down_by b.pool call v z)
-
-  by_order : refusal_on (state_of b s) (Asks call) ≡ in_order (turned_by b.pool call) (outside_at b.memory.pages call)
-  unfolding turned_away_by
-  by_order = by_checks b s (Asks call) h l ∙ ap (λ (n : ℕ). in_order n (outside_at b.memory.pages call)) (by_turn b.pool call v)
+  still z = rw (turned_down_by p call v z)
 
   -- the call is the pool's own, with what it does to memory and store
-  pub asks : outside_at b.memory.pages call ≡ 0 → call_on (state_of b s) (Asks call) ≡ action_on (state_of b s) (Asks call)
-  asks o = go (ℕ_discrete (turned_by b.pool call) 0)
+  pub asks : outside_at x.memory.pages call ≡ 0 → call_on x (Asks call) ≡ action_on x (Asks call)
+  unfolding turned_away_by
+  asks o = go (ℕ_discrete (turned_by p call) 0)
     where
-      number : refusal_on (state_of b s) (Asks call) ≡ turned_by b.pool call
-      number = by_order ∙ order_alone _ _ o
+      number : turned_away_by x (Asks call) ≡ turned_by p call
+      number = order_alone _ _ o ∙ by_turn p call v
 
-      go : Dec (turned_by b.pool call ≡ 0) → call_on (state_of b s) (Asks call) ≡ action_on (state_of b s) (Asks call)
-      go (yes z) = goes_on _ _ (number ∙ z)
-      go (no z) = turned _ _ _ number z ∙ sym (still z)
+      go : Dec (turned_by p call ≡ 0) → call_on x (Asks call) ≡ action_on x (Asks call)
+      go (yes z) = acts x (Asks call) s l (number ∙ z)
+      go (no z) = turned_away x (Asks call) s l (turned_by p call) number z ∙ sym (still z)
+
+  -- a page outside the store
+  pub outside : (n : ℕ) → n ≡ in_order (turned_by p call) (outside_at x.memory.pages call) → n ≢ 0 → call_on x (Asks call) ≡ turned_back n x
+  unfolding turned_away_by
+  outside n e =
+      turned_away x (Asks call) s l n (ap (λ (i : ℕ). in_order i (outside_at x.memory.pages call)) (by_turn p call v) ∙ sym e)
+
+-- a begin of a page outside the store
+pub begins_outside : (b : BufferPool) (c g : ℕ) (s : List ℕ) → both (valid b.pool) (bytes_ok b.pool b.memory) ≡ true
+    → inside b.memory.pages g ≡ false → {n : ℕ} → n ≡ in_order (turned_by b.pool (Begin c g)) 16
+    → turned_reply n b ≡ reply (call_on (state_of b s) (Asks (Begin c g)))
+unfolding outside_at store_ok lent either choose
+begins_outside b c g s sound i {n} e =
+    sym (ap reply (outside (state_of b s) (Begin c g) sound refl n
+    (e ∙ ap (in_order (turned_by b.pool (Begin c g))) (sym (passed (inside b.memory.pages g) 0 16 i)))
+    (λ z. let none = (order_none (turned_by b.pool (Begin c g)) 16 (sym e ∙ z)).1 in let y : ⊥ = omega arith in y)))
 
 -- ---- what the code puts together
 
 pub not_sound : (b : BufferPool) (r : Request) {e : Refusal} → (e ≡ OutOfRange) × (sound b ≡ false) → (s : List ℕ)
     → turned_reply (refusal_number e) b ≡ reply (call_on (state_of b s) r)
-not_sound b r h s = sym (ap reply (refuses _ r _ (unsound b s r h)))
+not_sound b r h s = sym (ap reply (refuses _ r _ (is_unsound b s r h)))
 
 -- a begin and a release leave memory and store
 begin_keeps : (p : Pool) (m : Memory) (c g : ℕ) → memory_after p m (write_of p (Begin c g)) ≡ m
@@ -180,24 +208,19 @@ module _ (b : BufferPool) (c g : ℕ) {q : Pool} (h : Passes q b) where
   unfolding outside_at store_ok lent either choose
   begins i e s =
       its_reply b s (Begin c g) (e ∙ ap (λ (p : Pool). made_of p (Begin c g)) h.0) (begin_keeps b.pool b.memory c g)
-      (asks b s (Begin c g) h.1 refl (chosen _ _ _ i))
+      (asks (state_of b s) (Begin c g) h.1 refl (chosen _ _ _ i))
 
-  -- a page outside the store
-  pub begins_outside : inside b.memory.pages g ≡ false → (t : Result Move Refusal) → Decides q (Begin c g) t → (e : Refusal)
+  -- of a page outside the store, by what its turn says
+  pub begin_refused : inside b.memory.pages g ≡ false → (t : Result Move Refusal) → Decides q (Begin c g) t → (e : Refusal)
       → refusal_number e ≡ in_order (refused_by t) 16 → (s : List ℕ) → turned_reply (refusal_number e) b ≡ reply (call_on (state_of b s) (Asks (Begin c g)))
-  unfolding outside_at store_ok lent either choose
-  begins_outside i t d e n s =
+  begin_refused i t d e n s =
       let its : refused_by t ≡ turned_by b.pool (Begin c g) =
       turned_as q (Begin c g) t d ∙ ap (λ (p : Pool). turned_by p (Begin c g)) h.0 in
-      let other : outside_at b.memory.pages (Begin c g) ≡ 16 = passed _ _ _ i in
-      sym (ap reply (refuses _ _ e (by_order b s (Begin c g) h.1 refl
-      ∙ ap (in_order (turned_by b.pool (Begin c g))) other
-      ∙ ap (λ (k : ℕ). in_order k 16) (sym its)
-      ∙ sym n)))
+      begins_outside b c g s h.1 i (n ∙ ap (λ (k : ℕ). in_order k 16) its)
 
   pub releases : {made : Made} → made ≡ made_of q (Release c g) → (s : List ℕ)
       → replied (Ok made) b ≡ reply (call_on (state_of b s) (Asks (Release c g)))
   unfolding outside_at store_ok lent either choose
   releases e s =
       its_reply b s (Release c g) (e ∙ ap (λ (p : Pool). made_of p (Release c g)) h.0) (release_keeps b.pool b.memory c g)
-      (asks b s (Release c g) h.1 refl refl)
+      (asks (state_of b s) (Release c g) h.1 refl refl)

@@ -3,7 +3,7 @@
 use Rattle.std.proofs.Common.{rules, ◌≡◌, sym, ◌∙◌, true, false}
 use Rattle.memory.specs.Requests.{Asks, inside}
 use Rattle.pool.specs.declared.Call.TheVariants.{Begin}
-use Rattle.buffered.specs.Ways.{not_sound, begins, begins_outside}
+use Rattle.buffered.specs.Ways.{not_sound, begins, begin_refused}
 use Rattle.buffered.proofs.begun.Goals as goal
 
 pub returns-in_err-checked : goal.returns-in_err-checked
@@ -16,7 +16,7 @@ pub returns-then-not-inside : goal.returns-then-not-inside
 returns-then-not-inside c =
     let a = c.args in
     let out : inside a.pool.now.memory.pages a.page ≡ false = sym c.inside.ensures ∙ c.if-not-inside.true in
-    begins_outside a.pool.now a.client a.page c.in_ok-checked.ensures out _ c.turn.ensures _ c.outside.ensures
+    begin_refused a.pool.now a.client a.page c.in_ok-checked.ensures out _ c.turn.ensures _ c.outside.ensures
 
 pub returns : goal.returns
 returns c =

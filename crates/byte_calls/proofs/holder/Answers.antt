@@ -1,30 +1,29 @@
 -- The checks come in the definition's order: check 8 of the pool and of the store's length, what turns a release down, 16 and 17. Assumes nothing.
 use Rattle.std.proofs.Common.{rules, ◌≡◌, ◌∙◌, sym, ap, arith, ◌*◌, length}
 use Rattle.memory.specs.Memory.{page_bytes}
-use Rattle.memory.specs.Requests.{ReadByte, held_frame}
+use Rattle.memory.specs.Requests.{ReadByte, held_frame, state_of}
 use Rattle.pool.specs.State.{none}
 use Rattle.pool.specs.declared.Pool.{Pool}
-use Rattle.content.specs.Acting.{low_offset}
-use Rattle.buffered.specs.Ways.{unsound}
-use Rattle.byte_calls.specs.Passed.{its_number, few, has_one, grant_is, frame_is, by_length, by_release, by_place}
+use Rattle.buffered.specs.Ways.{is_unsound}
+use Rattle.byte_calls.specs.Passed.{its_number, few, has_one, grant_is, frame_is, passed, by_length, by_turned, by_place}
 use Rattle.byte_calls.proofs.holder.Goals as goal
 
 pub returns-in_err-checked-clause-frame : goal.returns-in_err-checked-clause-frame
 returns-in_err-checked-clause-frame c =
     let a = c.args in
-    let refused = unsound a.pool.now a.store.now (ReadByte a.client a.page a.offset) c.in_err-checked.ensures in
+    let refused = is_unsound a.pool.now a.store.now (ReadByte a.client a.page a.offset) c.in_err-checked.ensures in
     search (rules, refused)
 
 pub returns-then-not-as_long-clause-frame : goal.returns-then-not-as_long-clause-frame
 returns-then-not-as_long-clause-frame c =
     let a = c.args in
-    by_length a.pool.now a.store.now a.client a.page a.offset (λ e. c.if-not-as_long.true (omega (arith, e, c.from.ensures)))
+    by_length (state_of a.pool.now a.store.now) a.client a.page a.offset (λ e. c.if-not-as_long.true (omega (arith, e, c.from.ensures)))
 
 pub returns-in_err-_turn-clause-frame : goal.returns-in_err-_turn-clause-frame
 returns-in_err-_turn-clause-frame c =
     let a = c.args in
     let long : length a.store.now ≡ page_bytes * a.pool.now.memory.pages = omega (arith, c.if-not-as_long.false, c.from.ensures) in
-    let refused = by_release a.pool.now a.store.now a.client a.page a.offset c.in_ok-checked.ensures long _ c.in_err-_turn.ensures in
+    let refused = by_turned a.pool.now a.store.now a.client a.page a.offset c.in_ok-checked.ensures long _ c.in_err-_turn.ensures in
     search (rules, refused)
 
 pub returns-in_err-outside-clause-frame : goal.returns-in_err-outside-clause-frame
@@ -85,4 +84,6 @@ pub returns-clause-inside : goal.returns-clause-inside
 returns-clause-inside c =
     let a = c.args in
     let long : length a.store.now ≡ page_bytes * a.pool.now.memory.pages = omega (arith, c.if-not-as_long.false, c.from.ensures) in
-    (long, low_offset _ _ _ (sym c.in_ok-outside.ensures))
+    let place = by_place a.pool.now a.store.now a.client a.page a.offset c.in_ok-checked.ensures long c.in_ok-_turn.ensures.0 in
+    let past = passed (state_of a.pool.now a.store.now) a.client a.page a.offset (place ∙ sym c.in_ok-outside.ensures) in
+    (past.long, past.offset)

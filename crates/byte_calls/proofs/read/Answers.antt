@@ -1,9 +1,7 @@
 -- What turns the call down is what `holder` found; one that is not turned down fills the frame of the client's grant. Assumes nothing.
 use Rattle.std.proofs.Common.{rules, refl, ◌∙◌}
 use Rattle.pool.specs.Answers.{refusal_of}
-use Rattle.memory.specs.Requests.{state_of}
-use Rattle.buffered.specs.Refusals.{read_refusals}
-use Rattle.byte_calls.specs.Passed.{read_refused, reads}
+use Rattle.byte_calls.specs.Passed.{read_refused, reads, read_few}
 use Rattle.byte_calls.proofs.read.Goals as goal
 
 pub returns-in-Err-clause-value : goal.returns-in-Err-clause-value
@@ -16,7 +14,7 @@ pub returns-in-Err-clause-among : goal.returns-in-Err-clause-among
 returns-in-Err-clause-among c =
     let a = c.args in
     let value = c.turned_back.ensures ∙ read_refused a.pool a.store.now a.client a.page a.offset c.in-Err.refusal c.in-Err.ensures.frame in
-    rw value (read_refusals (state_of a.pool a.store.now) a.client a.page a.offset)
+    (read_few a.pool a.store.now a.client a.page a.offset value).1
 
 pub returns-clause-value : goal.returns-clause-value
 returns-clause-value c =

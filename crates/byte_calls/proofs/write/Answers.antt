@@ -2,9 +2,7 @@
 use Rattle.std.proofs.Common.{rules, refl, ap, ◌∙◌}
 use Rattle.pool.specs.Answers.{refusal_of}
 use Rattle.content.specs.Filling.{marks_written}
-use Rattle.memory.specs.Requests.{state_of}
-use Rattle.buffered.specs.Refusals.{write_refusals}
-use Rattle.byte_calls.specs.Passed.{write_refused, writes}
+use Rattle.byte_calls.specs.Passed.{write_refused, writes, write_few}
 use Rattle.byte_calls.proofs.write.Goals as goal
 
 pub returns-in-Err-clause-value : goal.returns-in-Err-clause-value
@@ -17,7 +15,7 @@ pub returns-in-Err-clause-among : goal.returns-in-Err-clause-among
 returns-in-Err-clause-among c =
     let a = c.args in
     let value = c.turned_back.ensures ∙ write_refused a.pool a.store.now a.client a.page a.offset a.byte c.in-Err.refusal c.in-Err.ensures.frame in
-    rw value (write_refusals (state_of a.pool a.store.now) a.client a.page a.offset a.byte)
+    (write_few a.pool a.store.now a.client a.page a.offset a.byte value).1
 
 pub returns-clause-value : goal.returns-clause-value
 returns-clause-value c =

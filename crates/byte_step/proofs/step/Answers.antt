@@ -5,17 +5,17 @@ use Rattle.pool.specs.State.{total, number_of_clients}
 use Rattle.memory.specs.Memory.{page_bytes}
 use Rattle.pool.specs.declared.Pool.{Pool}
 use Rattle.content.specs.Effects.{replaced_in, replaced_of}
-use Rattle.byte_step.specs.Steps.{not_sound, not_long, steps}
+use Rattle.byte_step.specs.Steps.{left_unsound, left_not_long, left_step}
 use Rattle.byte_step.proofs.step.Goals as goal
 
 pub returns-in_err-checked : goal.returns-in_err-checked
 returns-in_err-checked c =
-    let refused = not_sound c.args.pool.now c.args.client c.args.store.now c.in_err-checked.ensures in
+    let refused = left_unsound c.args.pool.now c.args.client c.args.store.now c.in_err-checked.ensures in
     search (rules, refused)
 
 pub returns-then-not-as_long : goal.returns-then-not-as_long
 returns-then-not-as_long c =
-    not_long c.args.pool.now c.args.client c.args.store.now (λ e. c.if-not-as_long.true (omega (arith, e, c.from.ensures)))
+    left_not_long c.args.pool.now c.args.client c.args.store.now (λ e. c.if-not-as_long.true (omega (arith, e, c.from.ensures)))
 
 pub returns : goal.returns
 returns c =
@@ -28,6 +28,6 @@ returns c =
     let entry : c.replaced-entry.result ≡ replaced_of b.pool w =
     c.replaced-entry.ensures ∙ ap (λ (n : ℕ). replaced_in b.pool.table_frames n w) frames in
     let long : length c.args.store.now ≡ page_bytes * b.memory.pages = omega (arith, c.if-not-as_long.false, c.from.ensures) in
-    let done = steps b c.args.client c.args.store.now c.in_ok-checked.ensures long c.call_made-made.ensures
+    let done = left_step b c.args.client c.args.store.now c.in_ok-checked.ensures long c.call_made-made.ensures
     entry c.follow.ensures.bytes c.follow.ensures.filled c.follow.ensures.changed c.follow.ensures.store in
     search (rules, done)

@@ -1,15 +1,15 @@
--- What is left is the definition's, and `step_refusals` lists by what a step can be refused. Assumes nothing.
-use Rattle.std.proofs.Common.{ap, ◌∙◌}
-use Rattle.memory.specs.Requests.{Result, state_of}
-use Rattle.buffered.specs.Refusals.{step_refusals}
+-- What is left of pool and store is the definition's, and the tally is brought up to date by what the step is counted as. Assumes nothing.
+use Rattle.byte_step.specs.Steps.{counts, counts_not}
 use Rattle.byte_step.proofs.step_tallied.Goals as goal
 
-pub returns-in-Ok-clause-among : goal.returns-in-Ok-clause-among
-returns-in-Ok-clause-among c =
+pub returns-in-Ok : goal.returns-in-Ok
+returns-in-Ok c =
     let a = c.args in
-    rw (ap (λ (o : Result). o.answer) c.in-Ok.ensures) (step_refusals (state_of a.pool a.store.now) a.client)
+    let done = counts a.pool a.client a.tally a.store.now c.in-Ok.ensures c.count.ensures in
+    record { value = done.0; among = done.1 }
 
-pub returns-in-Err-clause-among : goal.returns-in-Err-clause-among
-returns-in-Err-clause-among c =
+pub returns-in-Err : goal.returns-in-Err
+returns-in-Err c =
     let a = c.args in
-    rw (c.into-answer.ensures ∙ ap (λ (o : Result). o.answer) c.in-Err.ensures) (step_refusals (state_of a.pool a.store.now) a.client)
+    let done = counts_not a.pool a.client a.tally a.store.now c.in-Err.refusal c.in-Err.ensures c.into-answer.ensures in
+    record { value = done.0; among = done.1 }

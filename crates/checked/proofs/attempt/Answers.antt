@@ -7,7 +7,7 @@ use Rattle.pool.specs.State.{number_of_clients}
 use Rattle.pool.specs.declared.Move.{Move}
 use Rattle.play.specs.Turn.{is_client}
 use Rattle.answers.specs.Numbers.{refusal_number, some_refusal}
-use Rattle.checked.specs.Ways.{acts, by_turn, stops, breaks, as_made}
+use Rattle.checked.specs.Ways.{acts, by_turn, stops, move_breaks, move_made}
 use Rattle.checked.proofs.attempt.Goals as goal
 
 pub returns-in_err-turn : goal.returns-in_err-turn
@@ -39,7 +39,7 @@ returns-then-valid c =
     let m = (c.in_ok-turn.ensures).1 in
     let a = ap (λ (m : Move). acts m.answer) (sym m) ∙ sym c.acts.ensures ∙ c.if-not-acts.false in
     let q : c.put.new.pool ≡ apply p (caller call) (move_of p call) = c.put.ensures ∙ simp (c.caller-c.ensures, m) in
-    rw (q, m) (as_made p call c.args.pool.now.valid (c.in_ok-turn.ensures).0 a (ap valid (sym q) ∙ sym c.valid.ensures ∙ c.if-valid.true))
+    rw (q, m) (move_made p call c.args.pool.now.valid (c.in_ok-turn.ensures).0 a (ap valid (sym q) ∙ sym c.valid.ensures ∙ c.if-valid.true))
 
 pub returns-else-valid : goal.returns-else-valid
 returns-else-valid c =
@@ -48,4 +48,4 @@ returns-else-valid c =
     let m = (c.in_ok-turn.ensures).1 in
     let a = ap (λ (m : Move). acts m.answer) (sym m) ∙ sym c.acts.ensures ∙ c.if-not-acts.false in
     let q : c.put.new.pool ≡ apply p (caller call) (move_of p call) = c.put.ensures ∙ simp (c.caller-c.ensures, m) in
-    breaks p call c.args.pool.now.valid (c.in_ok-turn.ensures).0 a (ap valid (sym q) ∙ sym c.valid.ensures ∙ c.if-valid.false)
+    move_breaks p call c.args.pool.now.valid (c.in_ok-turn.ensures).0 a (ap valid (sym q) ∙ sym c.valid.ensures ∙ c.if-valid.false)
