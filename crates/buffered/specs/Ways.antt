@@ -19,7 +19,6 @@ use Rattle.answers.specs.Numbers.{refusal_number, some_refusal, refused_by}
 use Rattle.answers.specs.declared.refusal.Refusal.{Refusal}
 use Rattle.answers.specs.declared.refusal.Refusal.TheVariants.{OutOfRange}
 use Rattle.play.specs.Calls.{turned_down_by}
-use Rattle.play.specs.Decides.{Decides}
 use Rattle.checked.specs.Ways.{made_of}
 use Rattle.checked.specs.declared.Made.{Made}
 use Rattle.memory.specs.declared.BufferPool.{BufferPool}
@@ -197,11 +196,6 @@ its_reply : (b : BufferPool) (s : List ℕ) (call : Call) {made : Made} → made
 unfolding action_on
 its_reply b s call e k f = simp (e, f, k)
 
--- what a turn says of it
-turned_as : (p : Pool) (call : Call) (t : Result Move Refusal) → Decides p call t → refused_by t ≡ turned_by p call
-turned_as p call (Ok m) d = sym d.0
-turned_as p call (Err e) d = sym d
-
 module _ (b : BufferPool) (c g : ℕ) {q : Pool} (h : Passes q b) where
   pub begins : inside b.memory.pages g ≡ true → {made : Made} → made ≡ made_of q (Begin c g) → (s : List ℕ)
       → replied (Ok made) b ≡ reply (call_on (state_of b s) (Asks (Begin c g)))
@@ -210,12 +204,11 @@ module _ (b : BufferPool) (c g : ℕ) {q : Pool} (h : Passes q b) where
       its_reply b s (Begin c g) (e ∙ ap (λ (p : Pool). made_of p (Begin c g)) h.0) (begin_keeps b.pool b.memory c g)
       (asks (state_of b s) (Begin c g) h.1 refl (chosen _ _ _ i))
 
-  -- of a page outside the store, by what its turn says
-  pub begin_refused : inside b.memory.pages g ≡ false → (t : Result Move Refusal) → Decides q (Begin c g) t → (e : Refusal)
-      → refusal_number e ≡ in_order (refused_by t) 16 → (s : List ℕ) → turned_reply (refusal_number e) b ≡ reply (call_on (state_of b s) (Asks (Begin c g)))
-  begin_refused i t d e n s =
-      let its : refused_by t ≡ turned_by b.pool (Begin c g) =
-      turned_as q (Begin c g) t d ∙ ap (λ (p : Pool). turned_by p (Begin c g)) h.0 in
+  -- of a page outside the store, by the number t that turns it down, 0 for none
+  pub begin_refused : inside b.memory.pages g ≡ false → {t : ℕ} → t ≡ turned_by q (Begin c g) → (e : Refusal)
+      → refusal_number e ≡ in_order t 16 → (s : List ℕ) → turned_reply (refusal_number e) b ≡ reply (call_on (state_of b s) (Asks (Begin c g)))
+  begin_refused i {t} d e n s =
+      let its : t ≡ turned_by b.pool (Begin c g) = d ∙ ap (λ (p : Pool). turned_by p (Begin c g)) h.0 in
       begins_outside b c g s h.1 i (n ∙ ap (λ (k : ℕ). in_order k 16) its)
 
   pub releases : {made : Made} → made ≡ made_of q (Release c g) → (s : List ℕ)

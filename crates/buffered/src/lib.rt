@@ -8,7 +8,6 @@ ghost use Rattle.std.specs.Prelude.{◌≡◌, List, ℕ, MatchOption};
 ghost use Rattle.pool.specs.Answers.{refusal_of};
 ghost use Rattle.pool.specs.declared.Call.TheVariants.{Begin, Release};
 ghost use Rattle.answers.specs.Among.{Among};
-ghost use Rattle.answers.specs.Numbers.{refusal_number};
 ghost use Rattle.answers.specs.Refusals.{by_setup, by_begin_on, by_release};
 ghost use Rattle.memory.specs.Memory.{blank};
 ghost use Rattle.memory.specs.Requests.{Asks, setup_on, call_on, state_of, reply};
@@ -21,11 +20,11 @@ use memory::{BYTES, BufferPool, Memory, Reply};
 use pool::{Answer, Call, FRAMES};
 
 /// The pool as it was, and why the call is refused. Internal.
-pub fn turned_back(refusal: Refusal, pool: BufferPool) -> Reply
-    ensures { result ≡ turned_reply (refusal_number refusal) pool }
+pub fn turned_back(n: u8, pool: BufferPool) -> Reply
+    ensures { result ≡ turned_reply n pool }
 {
     Reply {
-        answer: refusal.into(),
+        answer: Answer::Refused(n),
         pool,
     }
 }
@@ -55,7 +54,7 @@ pub fn setup(size: u8, client_count: u8, cap: u8, hand: u32, store: &[u8]) -> Re
     let (Some(_), Some(pages)) = (numbers, pages) else {
         let pool = calls::fresh(0, 0, 0, 0);
         let memory = blank(0);
-        return turned_back(Refusal::OutOfRange, BufferPool { pool, memory });
+        return turned_back(Refusal::OutOfRange.number(), BufferPool { pool, memory });
     };
     let pool = calls::fresh(size, client_count, cap, hand);
     let memory = blank(pages);
@@ -74,7 +73,7 @@ fn begun(pool: &BufferPool, client: u8, page: u32) -> Result<Made, Refusal>
     let checked = checks::sound(pool)?;
     let call = Call::Begin(client, page);
     if !checks::inside(pool.memory.pages, page) {
-        return Err(checks::outside_of(play::turn(&checked, call)));
+        return Err(checks::outside_of(checked::turned_by(&checked, call)));
     }
     Ok(checked::call_made(&checked, call))
 }
@@ -99,7 +98,7 @@ fn replied(made: Result<Made, Refusal>, pool: BufferPool) -> Reply
                 ..pool
             },
         },
-        Err(refusal) => turned_back(refusal, pool),
+        Err(refusal) => turned_back(refusal.number(), pool),
     }
 }
 

@@ -35,7 +35,7 @@ fn holder(
     if !as_long {
         return Err(Refusal::OutOfRange);
     }
-    let _turn = play::turn(&checked, Call::Release(client, page))?;
+    checked::turned_by(&checked, Call::Release(client, page))?;
     content::outside(pages, page, offset)?;
     let c = client as usize;
     let held = checked.pool.clients[c].held;
@@ -53,7 +53,7 @@ pub fn read(mut pool: BufferPool, client: u8, page: u32, offset: u32, store: &[u
 {
     let frame = match holder(&pool, store, client, page, offset) {
         Ok(frame) => frame,
-        Err(refusal) => return buffered::turned_back(refusal, pool),
+        Err(refusal) => return buffered::turned_back(refusal.number(), pool),
     };
     let mut frames = Frames {
         pages: pool.memory.pages,
@@ -82,7 +82,7 @@ pub fn write(
 {
     let frame = match holder(&pool, store, client, page, offset) {
         Ok(frame) => frame,
-        Err(refusal) => return buffered::turned_back(refusal, pool),
+        Err(refusal) => return buffered::turned_back(refusal.number(), pool),
     };
     let pages = pool.memory.pages;
     let mut content = Content {

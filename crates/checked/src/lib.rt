@@ -4,8 +4,8 @@
 #![tactic(auto)]
 
 ghost use Rattle.std.specs.Prelude.{◌≡◌, MatchResult};
-ghost use Rattle.pool.specs.Calls.{turned_down, call_of};
-ghost use Rattle.answers.specs.Numbers.{refusal_number};
+ghost use Rattle.pool.specs.Calls.{turned_by, turned_down, call_of};
+ghost use Rattle.answers.specs.Numbers.{refused_by, refusal_number};
 ghost use Rattle.checked.specs.Ways.{acts, unmade_by, made_of};
 
 use answers::Refusal;
@@ -31,6 +31,18 @@ fn unmade(refusal: Refusal, pool: &Pool) -> Made
         write: Write::Keep,
         pool: *pool,
     }
+}
+
+/// Why a call on a pool that passes check 8 is turned down: SPECIFICATION 3.7 without 8. No frame is looked for, as its turn does.
+pub fn turned_by(pool: &Checked, call: Call) -> Result<(), Refusal>
+    ensures { refused_by result ≡ turned_by pool.now.pool.now call }
+{
+    let number = answers::caller(call);
+    if number >= pool.numbers.client_count {
+        return Err(Refusal::NoSuchClient);
+    }
+    let client = pool.pool.clients[number as usize];
+    play::turned_by(call, pool.numbers.client_count, client, &pool.pool.grant_pages)
 }
 
 /// Whether an action may have changed something: one that is refused by another number than 15 has not (SPECIFICATION 3.9).

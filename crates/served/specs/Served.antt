@@ -1,4 +1,5 @@
 -- What each function for other languages promises, and how each way out of its code is that. Assumes nothing.
+use Rattle.std.specs.Prelude.{Result as Outcome}
 use Rattle.std.specs.Prelude.{◌≡◌, ◌≢◌, Bool, true, false, Ok, Err, List, ℕ, ◌*◌, ◌/◌, length, replicate}
 use Rattle.std.proofs.Math.Path.{refl, sym, ap}
 use Rattle.std.proofs.Common.{◌∙◌}
@@ -69,11 +70,11 @@ with_clients p clients =
 
 -- ---- begin, release
 
-left : (a : Std.Result Acted Refusal) {q : Pool} → q ≡ (held_by a q).pool
+left : (a : Outcome Acted Refusal) {q : Pool} → q ≡ (held_by a q).pool
 left (Ok a) = refl
 left (Err e) = refl
 
-pub calls : {p : Pool} {n : ℕ} {call : Call} {a : Result Acted Refusal} {q : Pool} {r : ℕ} →
+pub calls : {p : Pool} {n : ℕ} {call : Call} {a : Outcome Acted Refusal} {q : Pool} {r : ℕ} →
     ActsTo p n call a q → r ≡ word_of (held_by a q).answer → CallsTo (held_of p n call) r q
 calls {a = a} t e = (e ∙ ap (λ (h : Held). word_of h.answer) t.held, left a ∙ ap (λ (h : Held). h.pool) t.held)
 

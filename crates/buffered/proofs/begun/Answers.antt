@@ -16,7 +16,7 @@ pub returns-then-not-inside : goal.returns-then-not-inside
 returns-then-not-inside c =
     let a = c.args in
     let out : inside a.pool.now.memory.pages a.page ≡ false = sym c.inside.ensures ∙ c.if-not-inside.true in
-    begin_refused a.pool.now a.client a.page c.in_ok-checked.ensures out _ c.turn.ensures _ c.outside.ensures
+    begin_refused a.pool.now a.client a.page c.in_ok-checked.ensures out c.turned_by.ensures _ c.outside_of.ensures
 
 pub returns : goal.returns
 returns c =

@@ -19,41 +19,41 @@ returns-then-not-as_long-clause-frame c =
     let a = c.args in
     by_length (state_of a.pool.now a.store.now) a.client a.page a.offset (λ e. c.if-not-as_long.true (omega (arith, e, c.from.ensures)))
 
-pub returns-in_err-_turn-clause-frame : goal.returns-in_err-_turn-clause-frame
-returns-in_err-_turn-clause-frame c =
+pub returns-in_err-turned_by-clause-frame : goal.returns-in_err-turned_by-clause-frame
+returns-in_err-turned_by-clause-frame c =
     let a = c.args in
     let long : length a.store.now ≡ page_bytes * a.pool.now.memory.pages = omega (arith, c.if-not-as_long.false, c.from.ensures) in
-    let refused = by_turned a.pool.now a.store.now a.client a.page a.offset c.in_ok-checked.ensures long _ c.in_err-_turn.ensures in
+    let refused = by_turned a.pool.now a.store.now a.client a.page a.offset c.in_ok-checked.ensures long _ (sym c.in_err-turned_by.ensures) in
     search (rules, refused)
 
 pub returns-in_err-outside-clause-frame : goal.returns-in_err-outside-clause-frame
 returns-in_err-outside-clause-frame c =
     let a = c.args in
     let long : length a.store.now ≡ page_bytes * a.pool.now.memory.pages = omega (arith, c.if-not-as_long.false, c.from.ensures) in
-    let refused = by_place a.pool.now a.store.now a.client a.page a.offset c.in_ok-checked.ensures long c.in_ok-_turn.ensures.0 ∙ sym c.in_err-outside.ensures in
+    let refused = by_place a.pool.now a.store.now a.client a.page a.offset c.in_ok-checked.ensures long (sym c.in_ok-turned_by.ensures) ∙ sym c.in_err-outside.ensures in
     search (rules, refused)
 
 pub bounds-checked-c : goal.bounds-checked-c
 bounds-checked-c c =
     let k = c.in_ok-checked.checked in
-    let its = its_number k.pool.now c.args.client c.args.page k.valid c.in_ok-_turn.ensures.0 in
+    let its = its_number k.pool.now c.args.client c.args.page k.valid (sym c.in_ok-turned_by.ensures) in
     omega (arith, its, k.client_count, k.numbers.few_clients)
 
 pub grant_of-requires-clause-client : goal.grant_of-requires-clause-client
 grant_of-requires-clause-client c =
     let k = c.in_ok-checked.checked in
-    let its = its_number k.pool.now c.args.client c.args.page k.valid c.in_ok-_turn.ensures.0 in
+    let its = its_number k.pool.now c.args.client c.args.page k.valid (sym c.in_ok-turned_by.ensures) in
     omega (arith, its, k.client_count, k.numbers.few_clients)
 
 pub grant_of-requires-clause-few : goal.grant_of-requires-clause-few
 grant_of-requires-clause-few c =
     let k = c.in_ok-checked.checked in
-    few k.pool.now c.args.client c.args.page k.valid c.in_ok-_turn.ensures.0
+    few k.pool.now c.args.client c.args.page k.valid (sym c.in_ok-turned_by.ensures)
 
 pub returns-in_default-clause-frame : goal.returns-in_default-clause-frame
 returns-in_default-clause-frame c =
     let k = c.in_ok-checked.checked in
-    let z = c.in_ok-_turn.ensures.0 in
+    let z = (sym c.in_ok-turned_by.ensures) in
     let q = k.pool.now in
     let found = grant_is q c.args.client c.args.page k.valid z c.books-books.result c.books-books.ensures.pool none c.in_default.ensures.first in
     absurd (has_one q c.args.client c.args.page k.valid z (sym found))
@@ -61,19 +61,19 @@ returns-in_default-clause-frame c =
 pub grant_frame-requires-clause-client : goal.grant_frame-requires-clause-client
 grant_frame-requires-clause-client c =
     let k = c.in_ok-checked.checked in
-    let its = its_number k.pool.now c.args.client c.args.page k.valid c.in_ok-_turn.ensures.0 in
+    let its = its_number k.pool.now c.args.client c.args.page k.valid (sym c.in_ok-turned_by.ensures) in
     omega (arith, its, k.client_count, k.numbers.few_clients)
 
 pub grant_frame-requires-clause-few : goal.grant_frame-requires-clause-few
 grant_frame-requires-clause-few c =
     let k = c.in_ok-checked.checked in
-    few k.pool.now c.args.client c.args.page k.valid c.in_ok-_turn.ensures.0
+    few k.pool.now c.args.client c.args.page k.valid (sym c.in_ok-turned_by.ensures)
 
 pub returns-clause-frame : goal.returns-clause-frame
 returns-clause-frame c =
     let a = c.args in
     let k = c.in_ok-checked.checked in
-    let z = c.in_ok-_turn.ensures.0 in
+    let z = (sym c.in_ok-turned_by.ensures) in
     let long : length a.store.now ≡ page_bytes * a.pool.now.memory.pages = omega (arith, c.if-not-as_long.false, c.from.ensures) in (
       by_place a.pool.now a.store.now a.client a.page a.offset c.in_ok-checked.ensures long z ∙ sym c.in_ok-outside.ensures,
       frame_is k.pool.now a.client a.page k.valid z c.books-books.result c.books-books.ensures.pool c.in-Some.i c.in-Some.ensures.first c.grant_frame.ensures
@@ -84,6 +84,6 @@ pub returns-clause-inside : goal.returns-clause-inside
 returns-clause-inside c =
     let a = c.args in
     let long : length a.store.now ≡ page_bytes * a.pool.now.memory.pages = omega (arith, c.if-not-as_long.false, c.from.ensures) in
-    let place = by_place a.pool.now a.store.now a.client a.page a.offset c.in_ok-checked.ensures long c.in_ok-_turn.ensures.0 in
+    let place = by_place a.pool.now a.store.now a.client a.page a.offset c.in_ok-checked.ensures long (sym c.in_ok-turned_by.ensures) in
     let past = passed (state_of a.pool.now a.store.now) a.client a.page a.offset (place ∙ sym c.in_ok-outside.ensures) in
     (past.long, past.offset)
