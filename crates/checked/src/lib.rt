@@ -42,7 +42,12 @@ pub fn turned_by(pool: &Checked, call: Call) -> Result<(), Refusal>
         return Err(Refusal::NoSuchClient);
     }
     let client = pool.pool.clients[number as usize];
-    play::turned_by(call, pool.numbers.client_count, client, &pool.pool.grant_pages)
+    play::turned_by(
+        call,
+        pool.numbers.client_count,
+        client,
+        &pool.pool.grant_pages,
+    )
 }
 
 /// Whether an action may have changed something: one that is refused by another number than 15 has not (SPECIFICATION 3.9).
