@@ -1,6 +1,7 @@
 // One call's turn: by which refusal it is turned down, or its move, decided over the pool's books where they lie; and the move put into an owned pool.
-// The run of a schedule, the public calls and the calls in place decide here and nowhere else. Internal: check 8 is not made here. A record's stage is a
-// byte, 0 at rest, and may be any in a pool that a C program hands over: so it is compared as a number.
+// The run of a schedule, the public calls, and the begins, steps and releases in place decide here and nowhere else; who may read or write a byte in
+// place is told by crate `holding`. Internal: check 8 is not made here. A record's stage is a byte, 0 at rest, and may be any in a pool that a C program
+// hands over: so it is compared as a number.
 #![tactic(auto)]
 
 ghost use Rattle.std.specs.Prelude.{◌≡◌, ◌<◌, ◌≤◌, ℕ, List, IfOk, unwrap_or};
