@@ -1,5 +1,6 @@
 // A Move is written here and nowhere else in the code: the moves that several stages share, refusal 15's and one that changes nothing, and those
-// of a begin and a release. A move says what an action does; it changes nothing by itself.
+// of a begin and a release. A move says what an action does; it changes nothing by itself. Stages and refusals are told by number, and slots by how many
+// there are: the pages on the code name `works` and `still`, which take any (what may not change).
 #![tactic(auto, unfolding(pool::specs::Stages::around, pool::specs::Stages::raised, pool::specs::Stages::busy_visit, pool::specs::Stages::evict_own, pool::specs::Moves::granted, pool::specs::Calls::release_move, pool::specs::Choose::choose))]
 
 ghost use Rattle.std.specs.Prelude.{◌≡◌, ◌-◌, ◌<◌};

@@ -1,5 +1,5 @@
 // The 23 stages (SPECIFICATION, section 4), one small function each. A stage gets its client and the numbers of the pool that it reads, and says
-// what it does; it changes nothing by itself.
+// what it does; it changes nothing by itself. It takes S as a number, not `Numbers`: README names the stages, which take any size (what may not change).
 #![tactic(auto, unfolding(pool::specs::Stages::stage1, pool::specs::Stages::stage2, pool::specs::Stages::stage3, pool::specs::Stages::stage4, pool::specs::Stages::stage5, pool::specs::Stages::stage6, pool::specs::Stages::stage7, pool::specs::Stages::stage8, pool::specs::Stages::stage9, pool::specs::Stages::stage10, pool::specs::Stages::stage11, pool::specs::Stages::stage12, pool::specs::Stages::stage13, pool::specs::Stages::stage14, pool::specs::Stages::stage15, pool::specs::Stages::stage16, pool::specs::Stages::stage17, pool::specs::Stages::stage18, pool::specs::Stages::stage19, pool::specs::Stages::stage20, pool::specs::Stages::stage21, pool::specs::Stages::stage22, pool::specs::Stages::stage23, pool::specs::Stages::growth, pool::specs::Stages::first_count, pool::specs::Stages::advanced, pool::specs::Choose::choose))]
 
 ghost use Rattle.std.specs.Prelude.{◌≡◌, ◌%◌, ◌<◌, ◌≤◌, unwrap_or};

@@ -19,7 +19,7 @@ use checked::Made;
 use memory::{BYTES, BufferPool, Memory, Reply};
 use pool::{Answer, Call, FRAMES};
 
-/// The pool as it was, and why the call is refused. Internal.
+/// The pool as it was, and why the call is refused: by a number, which may be any (what may not change). Internal.
 pub fn turned_back(n: u8, pool: BufferPool) -> Reply
     ensures { result ≡ turned_reply n pool }
 {

@@ -54,7 +54,7 @@ pub fn inside(store: u16, page: u32) -> bool
 }
 
 /// SPECIFICATION 13.10: by which number a begin of a page outside the store is turned down, where the pool turns it down by n, or by none of its
-/// numbers, 0.
+/// numbers, 0. It takes any number, also those that no refusal has (what may not change).
 #[tactic(auto, using(memory::specs::Orders::order_zero, memory::specs::Orders::order_some), unfolding(memory::specs::Requests::in_order, memory::specs::Requests::first_of, pool::specs::Choose::choose))]
 pub fn outside(n: u8) -> u8
     ensures { result ≡ in_order n 16 }
