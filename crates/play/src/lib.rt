@@ -141,6 +141,7 @@ pub fn decide(actor: &Actor, call: Call) -> Result<Move, Refusal>
         move_by actor.now.client result ≡ turn (pool_in actor.now.books clients) call }
 {
     let client_count = actor.books.numbers.client_count;
+    // By its arms: with `?` the proof of clause `turn` did not close.
     match turned_by(call, client_count, actor.client, actor.books.grant_pages) {
         Ok(()) => Ok(call_move(actor, call)),
         Err(refusal) => Err(refusal),
