@@ -5,6 +5,8 @@ usage: python3 tests/embed.py [--seeds N | --fetch]
 What embed/build made, in target/embed/, is used as a program would use it:
 
   - the header is compiled by itself, as C and as C++, by two compilers;
+  - the library must ask for memcpy and memset alone, so that a program links
+    with it that has no C library;
   - generated schedules (seeds 0 to N - 1, 500 if not said) and edge files, and
     scripts with reads and writes, are played call by call, and the reports
     must be those of second.py and second_store.py;
@@ -53,6 +55,7 @@ OURS = TOP / "tests" / "embed"
 
 WARNINGS = ["-Wall", "-Wextra", "-Wconversion", "-Wshadow", "-pedantic", "-Werror"]
 C, CPP = ["-std=c11", "-xc"], ["-std=c++11", "-xc++"]
+ASKED = {"memcpy", "memset"}  # of whoever links the library
 
 TIME_LIMIT = 120  # seconds for one program; the longest takes a few
 CPP_FILES = 60  # that the player in C++ plays, for which the library is the same
@@ -165,6 +168,15 @@ def header():
     for way in (MEMORY_CHECKED, AS_CPP):
         run_checked(build(OURS / "header.c", way))
     return "the header compiles without warnings in %d ways, and its calls do what it says" % len(ways)
+
+
+def outside():
+    """What the library asks of whoever links it."""
+    said = [line.split() for line in run(["nm", "-u", LIBRARY]).decode().splitlines()]
+    asked = {parts[1] for parts in said if len(parts) == 2 and parts[0] == "U"}
+    if not asked <= ASKED:
+        raise Failed("the library asks from outside for %s" % ", ".join(sorted(asked - ASKED)))
+    return "the library asks from outside for %s alone" % " and ".join(sorted(asked))
 
 
 # Schedules and scripts.
@@ -290,6 +302,7 @@ def check_ready():
 def parts(seeds):
     """The parts of the test, in order: each gives its line."""
     yield header
+    yield outside
     schedules, scripts = prepare(seeds)
     for player in (from_c, from_cpp, from_rust):
         yield lambda player=player: player(schedules, scripts)
