@@ -1,4 +1,5 @@
-ghost use Rattle.std.specs.Prelude.{◌≡◌, true};
+ghost use Rattle.std.specs.Prelude.{◌≡◌, ◌≤◌, true};
+ghost use Rattle.pool.specs.Limits.{max_clients};
 ghost use Rattle.pool.specs.Valid.{valid};
 ghost use Rattle.books.specs.Books.{pool_in};
 
@@ -14,6 +15,7 @@ pub struct Checked<'a> {
     ghost client_count: { numbers.client_count ≡ pool.now.client_count },
     ghost cap: { numbers.cap ≡ pool.now.cap },
     ghost valid: { valid pool.now ≡ true },
+    ghost few_clients: { numbers.client_count ≤ max_clients },
 }
 
 impl<'a> Checked<'a> {

@@ -1,17 +1,17 @@
 ghost use Rattle.std.specs.Prelude.{◌≡◌, ◌+◌, ◌*◌, ◌≤◌, true, false, MatchOption};
-ghost use Rattle.pool.specs.Limits.{max_size, max_clients, max_frames};
+ghost use Rattle.pool.specs.Limits.{max_size, max_frames};
 ghost use Rattle.pool.specs.Valid.{numbers_ok};
 
 use pool::{MAX_CAP, MAX_CLIENTS, MAX_SIZE};
 
-/// S, T and C of a pool, of no more slots and clients than there is room for. That they are in range, `new` tests: SPECIFICATION 1.1.
+/// S, T and C of a pool, of no more slots and frames than there is room for. That they are in range, `new` tests: SPECIFICATION 1.1.
 #[derive(Clone, Copy, Debug, PartialEq, Eq)]
 pub struct Numbers {
     pub size: u8,
     pub client_count: u8,
     pub cap: u8,
     ghost few_slots: { size ≤ max_size },
-    ghost few_clients: { client_count ≤ max_clients },
+    ghost few_frames: { size + 2 * client_count ≤ max_frames },
 }
 
 impl Numbers {

@@ -1,4 +1,4 @@
-ghost use Rattle.std.specs.Prelude.{◌≡◌, ◌<◌, List, set};
+ghost use Rattle.std.specs.Prelude.{◌≡◌, ◌<◌, ◌≤◌, List, set};
 ghost use Rattle.pool.specs.Limits.{max_clients};
 ghost use Rattle.pool.specs.Apply.{apply};
 ghost use Rattle.pool.specs.declared.Client.{Client};
@@ -49,7 +49,8 @@ impl BooksMut<'_> {
 
     /// A move of client c, put into the books: SPECIFICATION 1.9. Its next record is the caller's to put back.
     pub fn put(&mut self, c: usize, turn: &Move)
-        requires { c < max_clients }
+        requires clients { self.old.numbers.client_count ≤ max_clients }
+        requires client { c < max_clients }
         ensures loans { SameLoans self.old self.new }
         ensures applied { (clients : List Client) →
             pool_of self.new (set clients c turn.now.next) ≡ apply (pool_of self.old clients) c turn.now }
@@ -104,7 +105,8 @@ impl BooksMut<'_> {
     /// What becomes of client c's grants.
     #[tactic(auto, unfolding(pool::specs::Apply::stored, pool::specs::Apply::grant_pages_after, pool::specs::Apply::grant_frames_after, pool::specs::State::within, pool::specs::Choose::choose))]
     fn grant(&mut self, c: usize, change: GrantChange)
-        requires { c < max_clients }
+        requires clients { self.old.numbers.client_count ≤ max_clients }
+        requires client { c < max_clients }
         ensures loans { SameLoans self.old self.new }
         ensures granted { (clients : List Client) → pool_of self.new clients ≡ granted (pool_of self.old clients) c change }
     {

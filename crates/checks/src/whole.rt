@@ -3,7 +3,7 @@
 
 ghost use Rattle.std.specs.Prelude.{◌≡◌, ◌<◌, ◌≤◌, ℕ, ◌&&◌, true, false, fold, MatchResult};
 ghost use Rattle.std.specs.List.{zip};
-ghost use Rattle.pool.specs.Limits.{max_size, max_frames};
+ghost use Rattle.pool.specs.Limits.{max_size, max_clients, max_frames};
 ghost use Rattle.pool.specs.State.{none, evicted, within};
 ghost use Rattle.pool.specs.Choose.{every};
 ghost use Rattle.pool.specs.Valid.{numbers_ok, frame_ok, state_ok, client_ok, valid};
@@ -52,7 +52,8 @@ fn states_ok(pins: &[u8; FRAMES], counts: &[u8; FRAMES], n: usize, cap: u8) -> b
 
 /// Client c: its numbers, the frames that it remembers, its grants.
 fn client_ok(books: &Books, clients: &[Client; CLIENTS], c: usize) -> bool
-    requires { c < books.now.numbers.client_count }
+    requires clients { books.now.numbers.client_count ≤ max_clients }
+    requires client { c < books.now.numbers.client_count }
     ensures { result ≡ client_ok (pool_in books.now clients.now) c }
 {
     let client = &clients[c];
@@ -63,6 +64,7 @@ fn client_ok(books: &Books, clients: &[Client; CLIENTS], c: usize) -> bool
 
 /// The first T clients.
 fn clients_ok(books: &Books, clients: &[Client; CLIENTS]) -> bool
+    requires { books.now.numbers.client_count ≤ max_clients }
     ensures { result ≡ every (client_ok (pool_in books.now clients.now)) books.now.numbers.client_count }
 {
     (0..usize::from(books.numbers.client_count)).all(|c| client_ok(books, clients, c))

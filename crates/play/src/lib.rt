@@ -134,7 +134,8 @@ pub fn call_move(actor: &Actor, call: Call) -> Move
 
 /// The turn of a call: SPECIFICATION 3.7 without 8. Where there is no such client, the actor's record may be any.
 pub fn decide(actor: &Actor, call: Call) -> Result<Move, Refusal>
-    requires { caller call ≡ actor.now.number }
+    requires caller { caller call ≡ actor.now.number }
+    requires clients { actor.now.books.numbers.client_count ≤ max_clients }
     ensures decides { (clients : List Client) → Asks (pool_in actor.now.books clients) actor.now → Decides (pool_in actor.now.books clients) call result }
     ensures turn { (c : ℕ) (clients : List Client) →
         Turns (pool_in actor.now.books clients) call c actor.now.client (unwrap_or actor.now.fresh none) →
@@ -151,6 +152,7 @@ pub fn decide(actor: &Actor, call: Call) -> Result<Move, Refusal>
 /// The frame to take, where the client stands at stage 4; it is dear to find, and no other stage looks at it.
 pub fn fresh_frame(books: &Books, clients: &[Client; CLIENTS], client: Client) -> Option<u8>
     requires some_slot { 0 < books.now.numbers.size }
+    requires clients { books.now.numbers.client_count ≤ max_clients }
     requires few { FewGrants books.now.numbers.client_count clients.now }
     ensures frame { client.stage ≡ 4 → unwrap_or result none ≡ free_frame (pool_in books.now clients.now) }
     ensures number { IsNumber result }
@@ -185,6 +187,7 @@ pub fn turn(pool: &Checked, call: Call) -> Result<Move, Refusal>
 /// A move of client c, put into an owned pool: SPECIFICATION 1.9.
 pub fn put(pool: &mut Pool, numbers: Numbers, c: usize, turn: &Move)
     requires numbers { NumbersOf pool.old numbers }
+    requires clients { numbers.client_count ≤ max_clients }
     requires client { c < max_clients }
     ensures { pool.new ≡ apply pool.old c turn.now }
 {

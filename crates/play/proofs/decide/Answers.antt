@@ -9,7 +9,7 @@ pub returns-in-Ok-clause-turn : goal.returns-in-Ok-clause-turn
 returns-in-Ok-clause-turn c =
     λ _ clients t.
     let p = pool_in c.args.actor.now.books clients in
-    let its : client p c.args.actor.now.number ≡ c.args.actor.now.client = ap (client p) (sym c.requires) ∙ its_client t c.in-Ok.ensures.known in
+    let its : client p c.args.actor.now.number ≡ c.args.actor.now.client = ap (client p) (sym c.requires.caller) ∙ its_client t c.in-Ok.ensures.known in
     is_turn (Ok c.call_move.result) t
     (sym (c.in-Ok.ensures.value p (calls t)), c.call_move.ensures clients (record { client = its; fresh = t.fresh }))
 

@@ -1,5 +1,5 @@
 -- What passed as a pool has its bytes tested by its own books. Assumes nothing.
-use Rattle.std.proofs.Common.{rules, tests, ◌≡◌, ◌∙◌, sym, ap, refl, ℕ, Bool, false, List}
+use Rattle.std.proofs.Common.{rules, tests, arith, ◌≡◌, ◌∙◌, sym, ap, refl, ℕ, Bool, false, List}
 use Rattle.pool.specs.Choose.{choose, both}
 use Rattle.pool.specs.State.{number_of_clients}
 use Rattle.pool.specs.Valid.{valid}
@@ -38,9 +38,12 @@ bytes_ok-requires c =
     let p = c.args.pool.now.pool in
     let k = c.in_ok-checked.checked in
     let same : k.pool.now ≡ p = c.in_ok-checked.ensures in
-    let there : c.books.result.numbers.client_count ≡ number_of_clients p =
-    ap (λ (n : Numbers). n.client_count) c.books.ensures.numbers ∙ k.client_count ∙ ap (λ (q : Pool). q.client_count) same in
-    λ i h. few_grants p (ap valid (sym same) ∙ k.valid) i (rw (← there) h)
+    let its : c.books.result.numbers.client_count ≡ k.numbers.client_count = ap (λ (n : Numbers). n.client_count) c.books.ensures.numbers in
+    let there : c.books.result.numbers.client_count ≡ number_of_clients p = its ∙ k.client_count ∙ ap (λ (q : Pool). q.client_count) same in
+    record {
+      clients = omega (arith, its, k.few_clients);
+      few = λ i h. few_grants p (ap valid (sym same) ∙ k.valid) i (rw (← there) h);
+    }
 
 pub returns-then-bytes_ok : goal.returns-then-bytes_ok
 returns-then-bytes_ok c =

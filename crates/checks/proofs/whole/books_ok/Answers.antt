@@ -5,10 +5,14 @@ use lib.Dec.{leb}
 use Rattle.pool.specs.Choose.{both, every}
 use Rattle.pool.specs.State.{none, evicted, within, total}
 use Rattle.pool.specs.Valid.{frame_ok, state_ok}
+use Rattle.ranges.specs.Ranges.{numbers_in}
 use Rattle.books.specs.Books.{pool_in}
 use Rattle.checks.proofs.Parts.{fails, holds, slots_of, states_of, entries_of, valid_is}
 use Rattle.checks.proofs.whole.books_ok.Goals as goal
 use Rattle.checks.proofs.whole.books_ok.Goals.{then-books-size, else-books-size, then-frame_ok, else-frame_ok, then-slots_ok, else-slots_ok, then-states_ok, else-states_ok}
+
+pub clients_ok-requires : goal.clients_ok-requires
+clients_ok-requires c = (numbers_in _ _ _ c.requires).clients
 
 pub returns-else-entries_ok : goal.returns-else-entries_ok
 returns-else-entries_ok c =

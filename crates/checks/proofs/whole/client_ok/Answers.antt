@@ -26,7 +26,7 @@ returns-else-names_ok c =
       | then-counts_ok w ↦ w.value-is ∙ w.names_ok.ensures ∙ ap (names_ok k) w.total.ensures.value ∙ holds _ c.counts_ok.ensures w.if-counts_ok.true
       | else-counts_ok w ↦ w.value-is ∙ fails _ c.counts_ok.ensures w.if-counts_ok.false
     ] in
-    fails _ named c.if-names_ok.false ∙ client_is b c.args.clients.now c.args.c c.requires
+    fails _ named c.if-names_ok.false ∙ client_is b c.args.clients.now c.args.c c.requires.client
 
 pub returns-then-names_ok : goal.returns-then-names_ok
 returns-then-names_ok c =
@@ -38,4 +38,4 @@ returns-then-names_ok c =
       | then-counts_ok w ↦ w.value-is ∙ w.names_ok.ensures ∙ ap (names_ok k) w.total.ensures.value ∙ holds _ c.counts_ok.ensures w.if-counts_ok.true
       | else-counts_ok w ↦ w.value-is ∙ fails _ c.counts_ok.ensures w.if-counts_ok.false
     ] in
-    c.grants_ok.ensures ∙ holds _ named c.if-names_ok.true ∙ client_is b c.args.clients.now c.args.c c.requires
+    c.grants_ok.ensures ∙ holds _ named c.if-names_ok.true ∙ client_is b c.args.clients.now c.args.c c.requires.client
