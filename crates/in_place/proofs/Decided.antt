@@ -1,5 +1,6 @@
 -- What is known of the client whose record was read. Assumes nothing.
-use Rattle.std.proofs.Common.{◌≡◌, ◌∙◌, sym, ap, ℕ, ◌<◌, Bool, arith}
+use Rattle.std.proofs.Common.{◌≡◌, ◌∙◌, sym, ap, ℕ, ◌<◌, ◌≤◌, Bool, arith}
+use Rattle.pool.specs.Limits.{max_clients}
 use Rattle.pool.specs.State.{number_of_clients, client, pins}
 use Rattle.pool.specs.Calls.{caller}
 use Rattle.pool.specs.declared.Call.{Call}
@@ -15,14 +16,14 @@ use Rattle.in_place.specs.Held.{client_fits, search_fits}
 
 -- the record r that was read at place n
 module _ (b : Books) (l : Clients) (call : Call) {c n : ℕ} {r : Client} (at : n ≡ c) (is : c ≡ caller call) (h : c < b.numbers.client_count)
-    (e : r ≡ client_from l.bytes.now l.words.now n) where
+    (few : b.numbers.client_count ≤ max_clients) (e : r ≡ client_from l.bytes.now l.words.now n) where
   pub there : caller call < number_of_clients (pool_in b (clients_in l))
   there = omega (arith, is, h)
 
   pub its_record : client (pool_in b (clients_in l)) (caller call) ≡ r
   its_record =
       client_of_pool (pool_in b (clients_in l)) (caller call) there
-      ∙ client_from_lem l.bytes.now l.words.now (caller call) (omega (arith, there, b.numbers.few_clients))
+      ∙ client_from_lem l.bytes.now l.words.now (caller call) (omega (arith, there, few))
       ∙ ap (client_from l.bytes.now l.words.now) (sym (at ∙ is)) ∙ sym e
 
 -- its tests are those of the client that calls

@@ -1,4 +1,5 @@
-ghost use Rattle.std.specs.Prelude.{◌≡◌, true, Err, IfOk, IfErr};
+ghost use Rattle.std.specs.Prelude.{◌≡◌, ◌≤◌, true, Err, IfOk, IfErr};
+ghost use Rattle.pool.specs.Limits.{max_clients};
 ghost use Rattle.pool.specs.Choose.{choose};
 ghost use Rattle.pool.specs.Valid.{numbers_ok};
 ghost use Rattle.memory.specs.Requests.{outside_at};
@@ -37,7 +38,8 @@ fn is_outside(store_pages: u16, call: Call) -> bool
 
 /// The turn of a call beside a store of so many pages, by the tests of SPECIFICATION 14.4 in their order; S, T and C have passed theirs.
 fn turn(books: &Books, clients: &Clients, call: Call, store_pages: u16) -> Result<Move, Refusal>
-    requires { numbers_ok books.now.numbers.size books.now.numbers.client_count books.now.numbers.cap ≡ true }
+    requires numbers { numbers_ok books.now.numbers.size books.now.numbers.client_count books.now.numbers.cap ≡ true }
+    requires clients { books.now.numbers.client_count ≤ max_clients }
     ensures moved { IfOk result (λ m. IsMove (pool_in books.now (clients_in clients.now)) store_pages call m) }
     ensures away { IfErr result (λ e. let p = pool_in books.now (clients_in clients.now) in ActsTo p store_pages call (Err e) p) }
 {
@@ -71,7 +73,8 @@ fn act_on(
     books: &mut BooksMut,
     clients: &mut ClientsMut,
 ) -> Result<Acted, Refusal>
-    requires { numbers_ok books.old.numbers.size books.old.numbers.client_count books.old.numbers.cap ≡ true }
+    requires numbers { numbers_ok books.old.numbers.size books.old.numbers.client_count books.old.numbers.cap ≡ true }
+    requires clients { books.old.numbers.client_count ≤ max_clients }
     ensures books { SameLoans books.old books.new }
     ensures clients { SameClients clients.old clients.new }
     ensures acts { ActsTo (pool_of books.old (clients_of clients.old)) store_pages call result (pool_of books.new (clients_of clients.new)) }

@@ -1,7 +1,7 @@
 // The tests of a call in place: SPECIFICATION 14.4.
-ghost use Rattle.std.specs.Prelude.{◌≡◌, ◌<◌, true, false, List, IfOk, MatchResult, unwrap_or, leb};
+ghost use Rattle.std.specs.Prelude.{◌≡◌, ◌<◌, ◌≤◌, true, false, List, IfOk, MatchResult, unwrap_or, leb};
 ghost use Rattle.std.specs.List.{list_all};
-ghost use Rattle.pool.specs.Limits.{max_held};
+ghost use Rattle.pool.specs.Limits.{max_clients, max_held};
 ghost use Rattle.pool.specs.State.{none, pins};
 ghost use Rattle.pool.specs.Frames.{free_frame};
 ghost use Rattle.pool.specs.declared.Client.{Client};
@@ -42,7 +42,8 @@ fn few_grants(clients: &[Client]) -> bool
 #[inline(never)]
 #[tactic(auto, using(crate::proofs::Each::helds_is))]
 fn searched(books: &Books, clients: &Clients) -> Result<Option<u8>, Refusal>
-    requires { 0 < books.now.numbers.size }
+    requires some_slot { 0 < books.now.numbers.size }
+    requires clients { books.now.numbers.client_count ≤ max_clients }
     ensures fits { MatchResult result (λ f. helds (clients_in clients.now) books.now.numbers.client_count ≡ true)
         (λ e. (helds (clients_in clients.now) books.now.numbers.client_count ≡ false) × (e ≡ OutOfRange)) }
     ensures frame { IfOk result (λ f. unwrap_or f none ≡ free_frame (pool_in books.now (clients_in clients.now))) }
@@ -59,7 +60,8 @@ fn searched(books: &Books, clients: &Clients) -> Result<Option<u8>, Refusal>
 /// The frame to take, where the client stands at stage 4; no other stage looks at it.
 #[tactic(auto, using(crate::proofs::Each::search_of, crate::proofs::Each::no_search))]
 pub fn fresh_frame(books: &Books, clients: &Clients, client: &Client) -> Result<Option<u8>, Refusal>
-    requires { 0 < books.now.numbers.size }
+    requires some_slot { 0 < books.now.numbers.size }
+    requires clients { books.now.numbers.client_count ≤ max_clients }
     ensures fits { MatchResult result (λ f. search_fits (pool_in books.now (clients_in clients.now)) client.now ≡ true)
         (λ e. (search_fits (pool_in books.now (clients_in clients.now)) client.now ≡ false) × (e ≡ OutOfRange)) }
     ensures frame { IfOk result (λ f. client.now.stage ≡ 4 → unwrap_or f none ≡ free_frame (pool_in books.now (clients_in clients.now))) }

@@ -14,7 +14,7 @@ use Rattle.in_place.proofs.acting.turn.Goals.{After-decide}
 
 pub returns-then-caller-books-clause-away : goal.returns-then-caller-books-clause-away
 returns-then-caller-books-clause-away c =
-    no_such (pool_in c.args.books.now (clients_in c.args.clients.now)) c.args.store_pages c.args.call c.requires
+    no_such (pool_in c.args.books.now (clients_in c.args.clients.now)) c.args.store_pages c.args.call c.requires.numbers
     (omega (arith, c.caller-caller.ensures, c.if-caller-books.true))
 
 pub returns-then-not-client_fits-clause-away : goal.returns-then-not-client_fits-clause-away
@@ -22,21 +22,21 @@ returns-then-not-client_fits-clause-away c =
     let b = c.args.books.now in
     let l = c.args.clients.now in
     let p = pool_in b (clients_in l) in
-    let its = its_record b l c.args.call c.from.ensures c.caller-caller.ensures c.if-caller-books.false c.get-client.ensures in
-    no_client_fits p c.args.store_pages c.args.call c.requires (client_test p its (c.if-not-client_fits.ensures.value (clients_in l)))
+    let its = its_record b l c.args.call c.from.ensures c.caller-caller.ensures c.if-caller-books.false c.requires.clients c.get-client.ensures in
+    no_client_fits p c.args.store_pages c.args.call c.requires.numbers (client_test p its (c.if-not-client_fits.ensures.value (clients_in l)))
 
 pub returns-in_err-fresh-clause-away : goal.returns-in_err-fresh-clause-away
 returns-in_err-fresh-clause-away c =
     let b = c.args.books.now in
     let l = c.args.clients.now in
     let p = pool_in b (clients_in l) in
-    let its = its_record b l c.args.call c.from.ensures c.caller-caller.ensures c.if-caller-books.false c.get-client.ensures in
+    let its = its_record b l c.args.call c.from.ensures c.caller-caller.ensures c.if-caller-books.false c.requires.clients c.get-client.ensures in
     let fits = client_test p its (c.if-not-client_fits.ensures.value (clients_in l)) in
     let e = err_from_is_err_and c.from_residual.result c.from_residual.ensures.1 in
     let P : Refusal → Type 0 = λ r. ActsTo p c.args.store_pages c.args.call (Err r) p in
     rw e.1
     (subst P (sym (e.2 ∙ c.in_err-fresh.ensures.fits.1))
-    (no_search p c.args.store_pages c.args.call c.requires fits (search_test p its c.in_err-fresh.ensures.fits.0)))
+    (no_search p c.args.store_pages c.args.call c.requires.numbers fits (search_test p its c.in_err-fresh.ensures.fits.0)))
 
 pub returns-then-is_outside-clause-away : goal.returns-then-is_outside-clause-away
 unfolding choose
@@ -44,10 +44,10 @@ returns-then-is_outside-clause-away c =
     let b = c.args.books.now in
     let l = c.args.clients.now in
     let p = pool_in b (clients_in l) in
-    let its = its_record b l c.args.call c.from.ensures c.caller-caller.ensures c.if-caller-books.false c.get-client.ensures in
+    let its = its_record b l c.args.call c.from.ensures c.caller-caller.ensures c.if-caller-books.false c.requires.clients c.get-client.ensures in
     let fits = client_test p its (c.if-not-client_fits.ensures.value (clients_in l)) in
     let asked = c.turned_by-turned.ensures.value p (record { count = refl; client = λ _. its; grant_pages = refl }) in
-    outside p c.args.store_pages c.args.call c.requires fits (search_test p its c.in_ok-fresh.ensures.fits) c.if-is_outside.ensures asked c.outside_of.ensures
+    outside p c.args.store_pages c.args.call c.requires.numbers fits (search_test p its c.in_ok-fresh.ensures.fits) c.if-is_outside.ensures asked c.outside_of.ensures
 
 -- ---- a turn that was decided
 
@@ -56,7 +56,7 @@ decided c =
     let b = c.args.books.now in
     let l = c.args.clients.now in
     let p = pool_in b (clients_in l) in
-    let its = its_record b l c.args.call c.from.ensures c.caller-caller.ensures c.if-caller-books.false c.get-client.ensures in
+    let its = its_record b l c.args.call c.from.ensures c.caller-caller.ensures c.if-caller-books.false c.requires.clients c.get-client.ensures in
     c.decide.ensures.decides (clients_in l) (record { client = λ _. ap (client p) c.caller-caller.ensures ∙ its; fresh = c.in_ok-fresh.ensures.frame })
 
 pub returns-clause-away : goal.returns-clause-away
@@ -65,10 +65,10 @@ returns-clause-away c =
     let b = c.args.books.now in
     let l = c.args.clients.now in
     let p = pool_in b (clients_in l) in
-    let its = its_record b l c.args.call c.from.ensures c.caller-caller.ensures c.if-caller-books.false c.get-client.ensures in
-    let h = there b l c.args.call c.from.ensures c.caller-caller.ensures c.if-caller-books.false c.get-client.ensures in
+    let its = its_record b l c.args.call c.from.ensures c.caller-caller.ensures c.if-caller-books.false c.requires.clients c.get-client.ensures in
+    let h = there b l c.args.call c.from.ensures c.caller-caller.ensures c.if-caller-books.false c.requires.clients c.get-client.ensures in
     let fits = client_test p its (c.if-not-client_fits.ensures.value (clients_in l)) in
-    turned_away_by p c.args.store_pages c.args.call c.requires fits (search_test p its c.in_ok-fresh.ensures.fits) c.if-is_outside.ensures h c.decide.result
+    turned_away_by p c.args.store_pages c.args.call c.requires.numbers fits (search_test p its c.in_ok-fresh.ensures.fits) c.if-is_outside.ensures h c.decide.result
     (decided (goal.at.returns-clause-away c).After-decide)
 
 pub returns-clause-moved : goal.returns-clause-moved
@@ -77,8 +77,8 @@ returns-clause-moved c =
     let b = c.args.books.now in
     let l = c.args.clients.now in
     let p = pool_in b (clients_in l) in
-    let its = its_record b l c.args.call c.from.ensures c.caller-caller.ensures c.if-caller-books.false c.get-client.ensures in
-    let h = there b l c.args.call c.from.ensures c.caller-caller.ensures c.if-caller-books.false c.get-client.ensures in
+    let its = its_record b l c.args.call c.from.ensures c.caller-caller.ensures c.if-caller-books.false c.requires.clients c.get-client.ensures in
+    let h = there b l c.args.call c.from.ensures c.caller-caller.ensures c.if-caller-books.false c.requires.clients c.get-client.ensures in
     let fits = client_test p its (c.if-not-client_fits.ensures.value (clients_in l)) in
-    moves_on p c.args.store_pages c.args.call c.requires fits (search_test p its c.in_ok-fresh.ensures.fits) c.if-is_outside.ensures h c.decide.result
+    moves_on p c.args.store_pages c.args.call c.requires.numbers fits (search_test p its c.in_ok-fresh.ensures.fits) c.if-is_outside.ensures h c.decide.result
     (decided (goal.at.returns-clause-moved c).After-decide)
