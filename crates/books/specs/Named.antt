@@ -1,7 +1,7 @@
 -- What the search for a frame looks at: where it starts, and who names a frame, told from a client's record and the frames of all grants.
 -- Assumes nothing.
 use Rattle.std.specs.Prelude.{Bool, List, ℕ, ◌+◌, ◌%◌, ◌<◌, ◌≤◌, eqb, get_or}
-use Rattle.pool.specs.Limits.{max_held}
+use Rattle.pool.specs.Limits.{max_clients, max_held}
 use Rattle.pool.specs.Choose.{choose, either, some}
 use Rattle.pool.specs.State.{none, no_client, of_client}
 use Rattle.pool.specs.declared.Client.{Client}
@@ -18,6 +18,7 @@ holds_in frames c n f = some (λ i. eqb (of_client frames c n none i) f) n
 unfoldable pub names_in : Client → List ℕ → ℕ → ℕ → Bool
 names_in k frames c f = either (eqb k.own f) (either (eqb k.found f) (either (eqb k.victim f) (holds_in frames c k.held f)))
 
--- none of the first n clients has more grants than one may have
-abbrev pub FewGrants : ℕ → List Client → Type 0
-FewGrants n clients = (c : ℕ) → c < n → (get_or clients c no_client).held ≤ max_held
+-- there is room for n clients, and none of the first n has more grants than one may have
+pub record FewGrants (n : ℕ) (clients : List Client) : Type 0 where
+  pub room : n ≤ max_clients
+  pub each : (c : ℕ) → c < n → (get_or clients c no_client).held ≤ max_held

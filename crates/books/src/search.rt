@@ -64,8 +64,7 @@ impl Books<'_> {
 
     /// Whether a slot, an entry or a client names frame f: SPECIFICATION 2.7.
     fn is_named(&self, clients: &[Client; CLIENTS], f: u8) -> bool
-        requires clients { self.now.numbers.client_count ≤ max_clients }
-        requires few { FewGrants self.now.numbers.client_count clients.now }
+        requires { FewGrants self.now.numbers.client_count clients.now }
         ensures { result ≡ referenced (pool_in self.now clients.now) f }
     {
         if self.in_slot(f) {
@@ -87,7 +86,6 @@ impl Books<'_> {
     /// The frame that stage 4 takes: the first that nobody names, in the order of SPECIFICATION 2.8.
     pub fn free_frame(&self, clients: &[Client; CLIENTS]) -> Option<u8>
         requires some_slot { 0 < self.now.numbers.size }
-        requires clients { self.now.numbers.client_count ≤ max_clients }
         requires few { FewGrants self.now.numbers.client_count clients.now }
         ensures frame { unwrap_or result none ≡ free_frame (pool_in self.now clients.now) }
         ensures number { IsNumber result }

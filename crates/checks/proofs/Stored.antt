@@ -18,7 +18,9 @@ use Rattle.memory.specs.declared.Memory.{Memory}
 
 -- a pool that passes check 8 has few grants of each client
 pub few_grants : (p : Pool) → valid p ≡ true → FewGrants (number_of_clients p) p.clients
-few_grants p v c h = rw (client_of_pool p c h) at (((ranged p v).client c h).counts.held)
+few_grants p v =
+    let r = ranged p v in
+    record { room = r.numbers.clients; each = λ c h. rw (client_of_pool p c h) at ((r.client c h).counts.held) }
 
 -- ---- pool, bytes and store together
 

@@ -142,7 +142,6 @@ fn wanted_inside(stage: u8, page: u32, store: u16) -> bool
 
 /// Client c: the page that it wants, and its grants.
 fn client_inside(books: &Books, clients: &[Client; CLIENTS], c: usize, store: u16) -> bool
-    requires clients { books.now.numbers.client_count ≤ max_clients }
     requires few { FewGrants books.now.numbers.client_count clients.now }
     requires client { c < books.now.numbers.client_count }
     ensures { result ≡ client_inside (pool_in books.now clients.now) store c }
@@ -154,8 +153,7 @@ fn client_inside(books: &Books, clients: &[Client; CLIENTS], c: usize, store: u1
 
 /// The first T clients.
 fn clients_inside(books: &Books, clients: &[Client; CLIENTS], store: u16) -> bool
-    requires clients { books.now.numbers.client_count ≤ max_clients }
-    requires few { FewGrants books.now.numbers.client_count clients.now }
+    requires { FewGrants books.now.numbers.client_count clients.now }
     ensures { result ≡ every (client_inside (pool_in books.now clients.now) store) books.now.numbers.client_count }
 {
     (0..usize::from(books.numbers.client_count)).all(|c| client_inside(books, clients, c, store))
@@ -163,8 +161,7 @@ fn clients_inside(books: &Books, clients: &[Client; CLIENTS], store: u16) -> boo
 
 /// Every page number of the pool.
 fn pages_inside(books: &Books, clients: &[Client; CLIENTS], store: u16) -> bool
-    requires clients { books.now.numbers.client_count ≤ max_clients }
-    requires few { FewGrants books.now.numbers.client_count clients.now }
+    requires { FewGrants books.now.numbers.client_count clients.now }
     ensures { result ≡ pages_inside (pool_in books.now clients.now) store }
 {
     let n = books.numbers.total() as usize;
@@ -190,8 +187,7 @@ fn unmarked(filled: &[u8; FRAMES], changed: &[u8; FRAMES], n: usize) -> bool
 
 /// What is tested of the bytes. Without a store every page is inside, and with one any mark may be on.
 fn bytes_ok(books: &Books, clients: &[Client; CLIENTS], marks: &Marks) -> bool
-    requires clients { books.now.numbers.client_count ≤ max_clients }
-    requires few { FewGrants books.now.numbers.client_count clients.now }
+    requires { FewGrants books.now.numbers.client_count clients.now }
     ensures { (bytes : List ℕ) → result ≡ bytes_ok (pool_in books.now clients.now) (memory_in marks.now bytes) }
 {
     if marks.pages == 0 {

@@ -1,7 +1,7 @@
 -- What the turn of a call asks of a pool, and that every pool that passes check 8 has it. Assumes nothing.
 use Rattle.std.specs.Prelude.{◌≡◌, true, List, ℕ, ◌<◌, ◌≤◌, get_or}
 use Rattle.std.proofs.Common.{subst}
-use Rattle.pool.specs.Limits.{max_clients, max_held}
+use Rattle.pool.specs.Limits.{max_held}
 use Rattle.pool.specs.State.{number_of_clients, pins, client, no_client}
 use Rattle.pool.specs.Valid.{valid}
 use Rattle.pool.specs.declared.Client.{Client}
@@ -46,8 +46,9 @@ module _ (b : Books) (clients : List Client) (v : valid (pool_in b clients) ≡ 
   pub some_slot : 0 < b.numbers.size
   some_slot = in_range.numbers.some_slot
 
-  pub few_clients : b.numbers.client_count ≤ max_clients
-  few_clients = in_range.numbers.clients
-
   pub few_grants : FewGrants b.numbers.client_count clients
-  few_grants c h = subst (λ (k : Client). k.held ≤ max_held) (client_of_pool its_pool c h) ((searchable its_pool v).grants c h)
+  few_grants =
+      record {
+        room = (searchable its_pool v).clients;
+        each = λ c h. subst (λ (k : Client). k.held ≤ max_held) (client_of_pool its_pool c h) ((searchable its_pool v).grants c h);
+      }

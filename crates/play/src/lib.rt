@@ -152,7 +152,6 @@ pub fn decide(actor: &Actor, call: Call) -> Result<Move, Refusal>
 /// The frame to take, where the client stands at stage 4; it is dear to find, and no other stage looks at it.
 pub fn fresh_frame(books: &Books, clients: &[Client; CLIENTS], client: Client) -> Option<u8>
     requires some_slot { 0 < books.now.numbers.size }
-    requires clients { books.now.numbers.client_count ≤ max_clients }
     requires few { FewGrants books.now.numbers.client_count clients.now }
     ensures frame { client.stage ≡ 4 → unwrap_or result none ≡ free_frame (pool_in books.now clients.now) }
     ensures number { IsNumber result }

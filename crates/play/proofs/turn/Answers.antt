@@ -7,7 +7,7 @@ use Rattle.laws.specs.Elements.{client_of_pool}
 use Rattle.books.specs.declared.numbers.Numbers.{Numbers}
 use Rattle.books.specs.Books.{pool_in}
 use Rattle.play.specs.Decides.{Decides, IsClient}
-use Rattle.play.specs.Playable.{CanAct, can_act, few_clients, few_grants, some_slot, record_at}
+use Rattle.play.specs.Playable.{CanAct, can_act, few_grants, some_slot, record_at}
 use Rattle.play.proofs.turn.Goals as goal
 
 pub returns-then-number-pool : goal.returns-then-number-pool
@@ -18,7 +18,7 @@ fresh_frame-requires c =
     let p = c.args.pool.now.pool.now in
     let b = c.books-books.result in
     let v : valid (pool_in b p.clients) ≡ true = ap valid c.books-books.ensures.pool ∙ c.args.pool.now.valid in
-    record { some_slot = some_slot b p.clients v; clients = few_clients b p.clients v; few = few_grants b p.clients v }
+    record { some_slot = some_slot b p.clients v; few = few_grants b p.clients v }
 
 can : (c : goal.After-fresh_frame) → CanAct c.books-books.result (record_at c.args.pool.now.pool.now c.caller-number.result)
 can c =

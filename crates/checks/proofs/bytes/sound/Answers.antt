@@ -1,5 +1,5 @@
 -- What passed as a pool has its bytes tested by its own books. Assumes nothing.
-use Rattle.std.proofs.Common.{rules, tests, arith, ◌≡◌, ◌∙◌, sym, ap, refl, ℕ, Bool, false, List}
+use Rattle.std.proofs.Common.{rules, tests, ◌≡◌, ◌∙◌, sym, ap, subst, refl, ℕ, Bool, false, List}
 use Rattle.pool.specs.Choose.{choose, both}
 use Rattle.pool.specs.State.{number_of_clients}
 use Rattle.pool.specs.Valid.{valid}
@@ -7,6 +7,7 @@ use Rattle.pool.specs.declared.Pool.{Pool}
 use Rattle.memory.specs.Requests.{bytes_ok}
 use Rattle.memory.specs.declared.Memory.{Memory}
 use Rattle.books.specs.Books.{pool_in}
+use Rattle.books.specs.Named.{FewGrants}
 use Rattle.books.specs.declared.checked.Checked.{Checked}
 use Rattle.books.specs.declared.numbers.Numbers.{Numbers}
 use Rattle.books.specs.declared.reading.Books.{Books}
@@ -38,12 +39,9 @@ bytes_ok-requires c =
     let p = c.args.pool.now.pool in
     let k = c.in_ok-checked.checked in
     let same : k.pool.now ≡ p = c.in_ok-checked.ensures in
-    let its : c.books.result.numbers.client_count ≡ k.numbers.client_count = ap (λ (n : Numbers). n.client_count) c.books.ensures.numbers in
-    let there : c.books.result.numbers.client_count ≡ number_of_clients p = its ∙ k.client_count ∙ ap (λ (q : Pool). q.client_count) same in
-    record {
-      clients = omega (arith, its, k.few_clients);
-      few = λ i h. few_grants p (ap valid (sym same) ∙ k.valid) i (rw (← there) h);
-    }
+    let there : c.books.result.numbers.client_count ≡ number_of_clients p =
+    ap (λ (n : Numbers). n.client_count) c.books.ensures.numbers ∙ k.client_count ∙ ap (λ (q : Pool). q.client_count) same in
+    subst (λ (n : ℕ). FewGrants n p.clients) (sym there) (few_grants p (ap valid (sym same) ∙ k.valid))
 
 pub returns-then-bytes_ok : goal.returns-then-bytes_ok
 returns-then-bytes_ok c =
