@@ -1,5 +1,5 @@
 -- The tests are the definition's, of the record that is read. Assumes nothing.
-use Rattle.std.proofs.Common.{◌≡◌, ◌∙◌, sym, ap, subst, refl, Err, arith}
+use Rattle.std.proofs.Common.{◌∙◌, sym, ap, subst, refl, Err, arith}
 use Rattle.std.proofs.lemmas.Result.{err_from_is_err_and}
 use Rattle.pool.specs.Choose.{choose}
 use Rattle.pool.specs.State.{client}
