@@ -6,7 +6,8 @@ ghost use Rattle.books.specs.Books.{pool_in};
 use crate::{Books, Numbers};
 use pool::Pool;
 
-/// A pool that passes check 8: SPECIFICATION, section 5. Whoever makes one has tested the pool, or knows where it comes from.
+/// A pool that passes check 8: SPECIFICATION, section 5. Whoever makes one has tested the pool, or knows where it comes from. That there is room for its
+/// clients follows; it is said for whoever looks up one of them.
 #[derive(Clone, Copy)]
 pub struct Checked<'a> {
     pub pool: &'a Pool,

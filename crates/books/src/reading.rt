@@ -38,7 +38,7 @@ pub fn some(number: u8) -> Option<u8>
 
 /// Element i of the first n, of a frame's pins or counts or of the table's frames; d past them.
 #[tactic(auto, unfolding(pool::specs::State::within, pool::specs::Choose::choose))]
-fn byte_within(xs: &[u8; FRAMES], n: u8, d: u8, i: u8) -> u8
+pub fn byte_within(xs: &[u8; FRAMES], n: u8, d: u8, i: u8) -> u8
     requires { n ≤ max_frames }
     ensures { result ≡ within xs.now n d i }
 {

@@ -44,7 +44,7 @@ fn fill(
 {
     let at = usize::from(f);
     if at < FRAMES && !marked(filled, f) && page < u32::from(pages) {
-        copy_page(bytes, at, store, page as usize);
+        copy_page(bytes, PAGE * at, store, PAGE * page as usize);
         filled[at] = 1;
     }
 }
@@ -159,7 +159,7 @@ impl Content<'_> {
         ensures { store.new ≡ copied_page store.old page self.now.bytes.now f }
     {
         let bytes: &[u8; BYTES] = self.bytes;
-        copy_page(store, page, bytes, f);
+        copy_page(store, PAGE * page, bytes, PAGE * f);
     }
 
     /// Whether frame f was written since it was filled.

@@ -3,7 +3,7 @@
 #![tactic(auto, unfolding(crate::specs::Effects::replaced_in, crate::specs::Effects::store_in, crate::specs::Effects::saved_in, crate::specs::Effects::bytes_after, crate::specs::Effects::bytes_moved, crate::specs::Effects::marks_after, crate::specs::Effects::cleared, crate::specs::Effects::marks_moved, crate::specs::Filling::wanted, crate::specs::Filling::bytes_filled, crate::specs::Filling::marks_filled, crate::specs::Filling::byte_in, crate::specs::Filling::bytes_written, crate::specs::Filling::marks_written, memory::specs::Memory::is_frame, memory::specs::Memory::mark, memory::specs::Requests::length_ok, memory::specs::Requests::byte_refusal, pool::specs::State::within, pool::specs::Choose::choose, pool::specs::Choose::both))]
 
 pub mod lent;
-mod pages;
+pub mod pages;
 pub mod store;
 
 pub use lent::{Content, Frames, marked, replaced};

@@ -7,7 +7,7 @@
 ghost use Rattle.std.specs.Prelude.{◌≡◌};
 ghost use Rattle.pool.specs.Schedule.{end_of, report_of};
 
-mod lines;
+pub mod lines;
 pub mod records;
 pub mod run_loop;
 
