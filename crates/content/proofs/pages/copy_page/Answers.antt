@@ -1,4 +1,4 @@
-use Rattle.std.proofs.Common.{◌≡◌, ◌*◌, take, drop, refl, arith}
+use Rattle.std.proofs.Common.{◌≡◌, take, drop, refl, arith}
 use Rattle.content.proofs.Copied.{part_is}
 use Rattle.content.proofs.pages.copy_page.Goals as goal
 
