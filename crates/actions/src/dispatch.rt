@@ -7,12 +7,12 @@ ghost use Rattle.books.specs.Books.{pool_in};
 ghost use Rattle.actions.specs.Turn.{turn_at};
 ghost use Rattle.answers.specs.declared.stage.Stage.TheVariants.{TakeFrame};
 
-use crate::{Actor, moves, stages};
+use crate::{View, moves, stages};
 use answers::Stage;
 use pool::Move;
 
-impl Actor<'_> {
-    /// Its move at a stage. One `match` on a closed enum: a closure or a `dyn` for each stage would say less.
+impl View<'_> {
+    /// The client's move at a stage. One `match` on a closed enum: a closure or a `dyn` for each stage would say less.
     fn turn(&self, stage: Stage) -> Move
         ensures { (clients : List Client) →
             (stage ≡ TakeFrame → unwrap_or self.now.fresh none ≡ free_frame (pool_in self.now.books clients)) →
@@ -58,7 +58,7 @@ impl Actor<'_> {
         }
     }
 
-    /// Its move at the stage where it stands: SPECIFICATION 3.3.
+    /// The client's move at the stage where it stands: SPECIFICATION 3.3.
     pub fn stage_move(&self) -> Move
         ensures { (clients : List Client) →
             (self.now.client.stage ≡ 4 → unwrap_or self.now.fresh none ≡ free_frame (pool_in self.now.books clients)) →

@@ -6,4 +6,4 @@ pub mod dispatch;
 pub mod moves;
 pub mod stages;
 
-pub use actor::Actor;
+pub use actor::{Actor, View};

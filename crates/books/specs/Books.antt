@@ -2,7 +2,7 @@
 use Rattle.std.specs.Prelude.{◌≡◌, List}
 use Rattle.pool.specs.declared.Pool.{Pool}
 use Rattle.pool.specs.declared.Client.{Client}
-use Rattle.books.specs.declared.numbers.Numbers.{Numbers}
+use Rattle.books.specs.declared.extent.Extent.{Extent}
 use Rattle.books.specs.declared.reading.Books.{Books}
 use Rattle.books.specs.declared.writing.BooksMut.{BooksMut}
 
@@ -48,8 +48,8 @@ pool_of b clients =
       grant_frames = b.grant_frames.now;
     }
 
--- these are S, T and C of the pool
-pub record NumbersOf (p : Pool) (n : Numbers) : Type 0 where
+-- these are S, T and C of the pool, as books have them
+pub record NumbersOf (p : Pool) (n : Extent) : Type 0 where
   pub size : n.size ≡ p.size
   pub client_count : n.client_count ≡ p.client_count
   pub cap : n.cap ≡ p.cap

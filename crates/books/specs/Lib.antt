@@ -1,4 +1,5 @@
 pub mod Books
+pub mod Extents
 pub mod Lent
 pub mod Lists
 pub mod Named

@@ -5,6 +5,7 @@
 #![tactic(auto)]
 
 pub mod checked;
+pub mod extent;
 pub mod numbers;
 pub mod parts;
 pub mod reading;
@@ -13,6 +14,7 @@ pub mod searches;
 pub mod writing;
 
 pub use checked::Checked;
+pub use extent::Extent;
 pub use numbers::Numbers;
 pub use parts::Parts;
 pub use reading::Books;

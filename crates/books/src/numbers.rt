@@ -1,17 +1,22 @@
-ghost use Rattle.std.specs.Prelude.{◌≡◌, ◌+◌, ◌*◌, ◌≤◌, true, false, MatchOption};
-ghost use Rattle.pool.specs.Limits.{max_size, max_frames};
+ghost use Rattle.std.specs.Prelude.{◌≡◌, ◌+◌, ◌*◌, ◌<◌, ◌≤◌, true, false, MatchOption};
+ghost use Rattle.pool.specs.Limits.{max_size, max_clients, max_cap, max_frames};
 ghost use Rattle.pool.specs.Valid.{numbers_ok};
 
+use crate::Extent;
 use pool::{MAX_CAP, MAX_CLIENTS, MAX_SIZE};
 
-/// S, T and C of a pool, of no more slots and frames than there is room for. That they are in range, `new` tests: SPECIFICATION 1.1.
+/// S, T and C of a pool, which are in range: SPECIFICATION 1.1.
 #[derive(Clone, Copy, Debug, PartialEq, Eq)]
 pub struct Numbers {
     pub size: u8,
     pub client_count: u8,
     pub cap: u8,
+    ghost some_slot: { 0 < size },
     ghost few_slots: { size ≤ max_size },
-    ghost few_frames: { size + 2 * client_count ≤ max_frames },
+    ghost some_client: { 0 < client_count },
+    ghost few_clients: { client_count ≤ max_clients },
+    ghost some_cap: { 0 < cap },
+    ghost low_cap: { cap ≤ max_cap },
 }
 
 impl Numbers {
@@ -35,11 +40,11 @@ impl Numbers {
         }
     }
 
-    /// How many frames there are, and places of the table: SPECIFICATION 1.2.
+    /// As an `Extent` has it: SPECIFICATION 1.2.
     pub fn total(&self) -> u8
         ensures value { result ≡ self.now.size + 2 * self.now.client_count }
         ensures bound { result ≤ max_frames }
     {
-        self.size + 2 * self.client_count
+        Extent::from(*self).total()
     }
 }

@@ -57,7 +57,7 @@ impl<'a> Parts<'a> {
     {
         let numbers = Numbers::new(self.size, self.client_count, self.cap)?;
         Some(Books {
-            numbers,
+            numbers: numbers.into(),
             hand: self.hand,
             free: self.free,
             last: self.last,

@@ -7,13 +7,13 @@ ghost use Rattle.books.specs.Books.{pool_in, NumbersOf};
 ghost use Rattle.books.specs.Optional.{some_number, IsNumber};
 ghost use Rattle.books.specs.Lists.{grant_in};
 
-use crate::{Numbers, searches};
+use crate::{Extent, searches};
 use pool::{EVICTED, FRAMES, GRANTS, HELD, NONE, Pool, SLOTS};
 
 /// A pool's books, lent to be read: the fields of `Pool` but for the clients.
 #[derive(Clone, Copy)]
 pub struct Books<'a> {
-    pub numbers: Numbers,
+    pub numbers: Extent,
     pub hand: u32,
     pub free: u8,
     pub last: u8,
@@ -48,7 +48,7 @@ pub fn byte_within(xs: &[u8; FRAMES], n: u8, d: u8, i: u8) -> u8
 // What an action reads, of the pool with these books and any clients.
 impl<'a> Books<'a> {
     /// The books of an owned pool.
-    pub fn of(numbers: Numbers, pool: &'a Pool) -> Self
+    pub fn of(numbers: Extent, pool: &'a Pool) -> Self
         requires { NumbersOf pool.now numbers }
         ensures pool { pool_in result pool.now.clients ≡ pool.now }
         ensures numbers { result.numbers ≡ numbers }

@@ -5,13 +5,13 @@ ghost use Rattle.pool.specs.declared.Client.{Client};
 ghost use Rattle.books.specs.Books.{pool_in, pool_of, SameLoans};
 ghost use Rattle.books.specs.Puts.{written, granted};
 
-use crate::{Books, Numbers};
+use crate::{Books, Extent};
 use pool::{FRAMES, GRANTS, GrantChange, HELD, Move, SLOTS, Write};
 
 /// A pool's books, lent to be written.
 #[derive(Drop)]
 pub struct BooksMut<'a> {
-    pub numbers: Numbers,
+    pub numbers: Extent,
     pub hand: &'a mut u32,
     pub free: &'a mut u8,
     pub last: &'a mut u8,

@@ -70,7 +70,7 @@ fn attempt(pool: &Checked, call: Call) -> Result<Made, Refusal>
     }
     let mut next = *pool.pool;
     let c = answers::caller(call) as usize;
-    play::put(&mut next, pool.numbers, c, &turn);
+    play::put(&mut next, pool.numbers.into(), c, &turn);
     if checks::valid(&next) {
         Ok(Made {
             answer: turn.answer,

@@ -104,7 +104,7 @@ pub fn checked(pool: &Pool) -> Result<Checked<'_>, Refusal>
     let Some(numbers) = Numbers::new(pool.size, pool.client_count, pool.cap) else {
         return Err(Refusal::OutOfRange);
     };
-    if books_ok(&Books::of(numbers, pool), &pool.clients) {
+    if books_ok(&Books::of(numbers.into(), pool), &pool.clients) {
         Ok(Checked { pool, numbers })
     } else {
         Err(Refusal::OutOfRange)

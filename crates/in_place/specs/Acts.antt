@@ -53,16 +53,24 @@ module _ (p : Pool) (n : ℕ) (call : Call) where
   unfolding held_of
   away e h = record { held = sym (rw h (passed _ _ _ (some_number e))); entry = tt }
 
+  -- the move that nothing turns down, put into the pool
+  pub moved : (m : Move) (q : Pool) → held_refusal p n call ≡ 0 → m ≡ move_of p call → q ≡ apply p (caller call) m
+      → record { answer = m.answer; counted = m.counted; write = m.write; pool = q } ≡ held_of p n call
+  unfolding held_of choose
+  moved m q h e f = rw (h, f, e) refl
+
   pub acts : {m : Move} {e : ℕ} {q : Pool} → IsMove p n call m → e ≡ replaced_of p m.write → q ≡ apply p (caller call) m
       → ActsTo p n call (Ok (record { answer = m.answer; counted = m.counted; write = m.write; entry = e })) q
-  unfolding held_of choose
-  acts i ee eq = record { held = rw (eq, i.refused, i.move) refl; entry = ee }
+  acts i ee eq = record { held = moved _ _ i.refused i.move eq; entry = ee }
 
   -- ---- refused by 8
 
-  unfit : fits p (caller call) ≡ false → ActsTo p n call (Err OutOfRange) p
+  by_fits : fits p (caller call) ≡ false → held_refusal p n call ≡ 8
   unfolding held_refusal
-  unfit e = away OutOfRange (passed _ _ _ e)
+  by_fits e = passed _ _ _ e
+
+  unfit : fits p (caller call) ≡ false → ActsTo p n call (Err OutOfRange) p
+  unfit e = away OutOfRange (by_fits e)
 
   abbrev k : Client
   k = client p (caller call)
@@ -72,9 +80,12 @@ module _ (p : Pool) (n : ℕ) (call : Call) where
   no_numbers e = unfit (rw e refl)
 
   module _ (numbers : numbers_ok p.size (number_of_clients p) p.cap ≡ true) where
-    pub no_client_fits : client_fits p.size (pins p k.found) k ≡ false → ActsTo p n call (Err OutOfRange) p
+    pub by_client : client_fits p.size (pins p k.found) k ≡ false → held_refusal p n call ≡ 8
     unfolding fits both choose
-    no_client_fits e = unfit (rw (numbers, e) refl)
+    by_client e = by_fits (rw (numbers, e) refl)
+
+    pub no_client_fits : client_fits p.size (pins p k.found) k ≡ false → ActsTo p n call (Err OutOfRange) p
+    no_client_fits e = away OutOfRange (by_client e)
 
     -- ---- refused by 9
 
@@ -98,17 +109,22 @@ module _ (p : Pool) (n : ℕ) (call : Call) where
         (both_yes _ _ (lt-ltb _ _ r.some_slot) (both_yes _ _ (lt-ltb _ _ r.some_slot) (both_yes _ _ (le-leb 0 max_held (omega arith)) (le-leb 0 (pinned max_pins) (omega arith)))))
         refl))
 
-    pub no_such : number_of_clients p ≤ caller call → ActsTo p n call (Err NoSuchClient) p
+    pub by_9 : number_of_clients p ≤ caller call → held_refusal p n call ≡ 9
     unfolding held_refusal
-    no_such h =
-        away NoSuchClient
-        (chosen _ _ _ (nobody_fits h) ∙ ap (λ (t : ℕ). in_order t (outside_at n call)) (passed _ _ _ (le-ltb _ _ h))
-        ∙ order_some 9 _ (λ z. let y : ⊥ = omega arith in y) (λ z. let y : ⊥ = omega arith in y))
+    by_9 h =
+        chosen _ _ _ (nobody_fits h) ∙ ap (λ (t : ℕ). in_order t (outside_at n call)) (passed _ _ _ (le-ltb _ _ h))
+        ∙ order_some 9 _ (λ z. let y : ⊥ = omega arith in y) (λ z. let y : ⊥ = omega arith in y)
+
+    pub no_such : number_of_clients p ≤ caller call → ActsTo p n call (Err NoSuchClient) p
+    no_such h = away NoSuchClient (by_9 h)
 
     module _ (its : client_fits p.size (pins p k.found) k ≡ true) where
-      pub no_search : search_fits p k ≡ false → ActsTo p n call (Err OutOfRange) p
+      pub by_search : search_fits p k ≡ false → held_refusal p n call ≡ 8
       unfolding fits both choose
-      no_search e = unfit (rw (numbers, its, e) refl)
+      by_search e = by_fits (rw (numbers, its, e) refl)
+
+      pub no_search : search_fits p k ≡ false → ActsTo p n call (Err OutOfRange) p
+      no_search e = away OutOfRange (by_search e)
 
       module _ (searches : search_fits p k ≡ true) where
         all_fits : fits p (caller call) ≡ true

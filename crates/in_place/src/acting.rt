@@ -9,7 +9,7 @@ ghost use Rattle.in_place.specs.Held.{pool_from};
 ghost use Rattle.in_place.specs.Acts.{ActsTo, IsMove};
 
 use crate::fitting::{client_fits, fresh_frame};
-use actions::Actor;
+use actions::{Actor, View};
 use answers::Refusal;
 use books::{Books, BooksMut, Numbers};
 use client_arrays::{ALL_BYTES, ALL_WORDS, Clients, ClientsMut};
@@ -57,13 +57,13 @@ fn turn(books: &Books, clients: &Clients, call: Call, store_pages: u16) -> Resul
         let turned = play::turned_by(call, count, client, books.grant_pages);
         return Err(checks::outside_of(turned));
     }
-    let actor = Actor {
+    let view = View {
         books: *books,
         number: caller,
         client,
         fresh,
     };
-    play::decide(&actor, call)
+    play::decide(&Actor { view }, call)
 }
 
 /// The call on books whose numbers are in range.
@@ -127,7 +127,7 @@ pub fn act(
         return Err(Refusal::OutOfRange);
     };
     let mut books = BooksMut {
-        numbers,
+        numbers: numbers.into(),
         hand,
         free,
         last,

@@ -9,9 +9,9 @@ use Rattle.pool.specs.declared.Call.{Call}
 use Rattle.pool.specs.declared.Call.TheVariants.{Begin, Step, Release}
 use Rattle.pool.specs.declared.Pool.{Pool}
 use Rattle.pool.specs.declared.Client.{Client}
-use Rattle.laws.specs.Choices.{chosen}
 use Rattle.books.specs.Lists.{grant_in, grant_in_lem}
 use Rattle.play.specs.Caller.{Caller}
+use Rattle.play.specs.Decides.{past_9}
 
 module _ (p : Pool) (k : Client) (c g : ℕ) (e : client p c ≡ k) where
   -- the place of its grant of the page
@@ -61,4 +61,4 @@ module _ {call : Call} {c g n : ℕ} where
 -- a call of a client that there is is not turned down by 9
 pub not_by_9 : (p : Pool) (call : Call) {n : ℕ} {k : Client} {pages : List ℕ} → Caller p call n k pages → caller call < n →
     turned_by p call ≡ refusal_at p k call
-not_by_9 p call a h = chosen _ _ _ (lt-ltb _ _ (omega (arith, a.count, h))) ∙ ap (λ (k : Client). refusal_at p k call) (a.client h)
+not_by_9 p call a h = past_9 p call _ (omega (arith, a.count, h)) (a.client h)

@@ -19,11 +19,11 @@ ghost use Rattle.books.specs.Named.{FewGrants};
 ghost use Rattle.books.specs.Optional.{IsNumber};
 ghost use Rattle.play.specs.Caller.{Caller};
 ghost use Rattle.play.specs.Turn.{turn, Turns};
-ghost use Rattle.play.specs.Decides.{Acts, Asks, Decides, IsClient, move_by};
+ghost use Rattle.play.specs.Decides.{Answers, Acts, Asks, Decides, IsClient, move_by};
 
-use actions::{Actor, moves};
+use actions::{Actor, View, moves};
 use answers::{Refusal, Stage};
-use books::{Books, BooksMut, Checked, Numbers, searches};
+use books::{Books, BooksMut, Checked, Extent, searches};
 use pool::{CLIENTS, Call, Client, GRANTS, MAX_HELD, Move, NONE, Pool};
 
 // ---- what turns a call down
@@ -111,20 +111,20 @@ pub fn turned_by(
 
 // ---- the turn
 
-/// The move of a call of the actor, whether or not it is turned down: SPECIFICATION 3.2 to 3.4.
+/// The move of a call of the client in view, whether or not it is turned down: SPECIFICATION 3.2 to 3.4.
 #[tactic(auto, unfolding(pool::specs::Calls::caller))]
-pub fn call_move(actor: &Actor, call: Call) -> Move
-    requires caller { caller call ≡ actor.now.number }
-    requires client { actor.now.number < max_clients }
-    ensures { (clients : List Client) → Acts (pool_in actor.now.books clients) actor.now → result ≡ move_of (pool_in actor.now.books clients) call }
+pub fn call_move(view: &View, call: Call) -> Move
+    requires caller { caller call ≡ view.now.number }
+    requires client { view.now.number < max_clients }
+    ensures { (clients : List Client) → Acts (pool_in view.now.books clients) view.now → result ≡ move_of (pool_in view.now.books clients) call }
 {
-    let client = actor.client;
+    let client = view.client;
     match call {
         Call::Begin(_, page) => moves::begin_move(client, page),
-        Call::Step(_) => actor.stage_move(),
+        Call::Step(_) => view.stage_move(),
         Call::Release(_, page) => {
-            let books = &actor.books;
-            let c = actor.number as usize;
+            let books = &view.books;
+            let c = view.number as usize;
             let i = books.grant_of(c, client.held, page).unwrap_or(NONE);
             let f = books.grant_frame(c, client.held, i);
             moves::release_move(client, page, i, f, books.pins(f))
@@ -132,21 +132,35 @@ pub fn call_move(actor: &Actor, call: Call) -> Move
     }
 }
 
-/// The turn of a call: SPECIFICATION 3.7 without 8. Where there is no such client, the actor's record may be any.
-pub fn decide(actor: &Actor, call: Call) -> Result<Move, Refusal>
-    requires caller { caller call ≡ actor.now.number }
-    requires clients { actor.now.books.numbers.client_count ≤ max_clients }
-    ensures decides { (clients : List Client) → Asks (pool_in actor.now.books clients) actor.now → Decides (pool_in actor.now.books clients) call result }
+/// The turn of a call, whether or not there is such a client: SPECIFICATION 3.7 without 8. Where there is none, its record may be any.
+pub fn decide_any(view: &View, call: Call) -> Result<Move, Refusal>
+    requires caller { caller call ≡ view.now.number }
+    requires clients { view.now.books.numbers.client_count ≤ max_clients }
+    ensures decides { (clients : List Client) → Asks (pool_in view.now.books clients) view.now → Decides (pool_in view.now.books clients) call result }
     ensures turn { (c : ℕ) (clients : List Client) →
-        Turns (pool_in actor.now.books clients) call c actor.now.client (unwrap_or actor.now.fresh none) →
-        move_by actor.now.client result ≡ turn (pool_in actor.now.books clients) call }
+        Turns (pool_in view.now.books clients) call c view.now.client (unwrap_or view.now.fresh none) →
+        move_by view.now.client result ≡ turn (pool_in view.now.books clients) call }
 {
-    let client_count = actor.books.numbers.client_count;
+    let client_count = view.books.numbers.client_count;
     // By its arms: with `?` the proof of clause `turn` did not close.
-    match turned_by(call, client_count, actor.client, actor.books.grant_pages) {
-        Ok(()) => Ok(call_move(actor, call)),
+    match turned_by(call, client_count, view.client, view.books.grant_pages) {
+        Ok(()) => Ok(call_move(view, call)),
         Err(refusal) => Err(refusal),
     }
+}
+
+/// The turn of a call of the actor, whom 9 does not turn down: SPECIFICATION 3.7 without 8 and 9.
+pub fn decide(actor: &Actor, call: Call) -> Result<Move, Refusal>
+    requires { caller call ≡ actor.now.view.number }
+    ensures answers { (clients : List Client) → Acts (pool_in actor.now.view.books clients) actor.now.view →
+        Answers (pool_in actor.now.view.books clients) call actor.now.view.client result }
+    ensures decides { (clients : List Client) → Asks (pool_in actor.now.view.books clients) actor.now.view →
+        Decides (pool_in actor.now.view.books clients) call result }
+    ensures turn { (c : ℕ) (clients : List Client) →
+        Turns (pool_in actor.now.view.books clients) call c actor.now.view.client (unwrap_or actor.now.view.fresh none) →
+        move_by actor.now.view.client result ≡ turn (pool_in actor.now.view.books clients) call }
+{
+    decide_any(&actor.view, call)
 }
 
 /// The frame to take, where the client stands at stage 4; it is dear to find, and no other stage looks at it.
@@ -174,17 +188,17 @@ pub fn turn(pool: &Checked, call: Call) -> Result<Move, Refusal>
     let clients = &pool.pool.clients;
     let client = clients[number as usize];
     let books = pool.books();
-    let actor = Actor {
+    let view = View {
         books,
         number,
         client,
         fresh: fresh_frame(&books, clients, client),
     };
-    decide(&actor, call)
+    decide(&Actor { view }, call)
 }
 
 /// A move of client c, put into an owned pool: SPECIFICATION 1.9.
-pub fn put(pool: &mut Pool, numbers: Numbers, c: usize, turn: &Move)
+pub fn put(pool: &mut Pool, numbers: Extent, c: usize, turn: &Move)
     requires numbers { NumbersOf pool.old numbers }
     requires clients { numbers.client_count ≤ max_clients }
     requires client { c < max_clients }

@@ -45,7 +45,7 @@ fn perform(pool: &mut Pool, numbers: Numbers, call: Call) -> Answer
     match turn {
         Ok(turn) => {
             let c = answers::caller(call) as usize;
-            play::put(pool, numbers, c, &turn);
+            play::put(pool, numbers.into(), c, &turn);
             turn.answer
         }
         Err(refusal) => refusal.into(),

@@ -28,7 +28,7 @@ use Rattle.content.specs.Effects.{marks_after, bytes_after, store_in, replaced_i
 use Rattle.content.specs.Filling.{bytes_filled, marks_filled, byte_in, bytes_written, marks_written}
 use Rattle.content.specs.Acting.{reads_as, writes_as}
 use Rattle.in_place.specs.Held.{Held, turned_away, held_of, byte_held_refusal, byte_held, held_on, held_state, duty_of, duty_on, state_from}
-use Rattle.in_place.specs.Acts.{held_by, ActsTo}
+use Rattle.in_place.specs.Acts.{held_by, ActsTo, no_numbers}
 use Rattle.in_place.specs.declared.acting.Acted.{Acted}
 use Rattle.listing.specs.Listed.{HeldRows}
 use Rattle.checks.specs.Checked.{checked_of}
@@ -62,6 +62,11 @@ ListsTo h r u = (r ≡ word_of h.answer) × (u ≡ h.numbers)
 abbrev pub checked_state : State → Answer
 checked_state x = checked_of x.pool x.memory x.store
 
+-- S, T or C is out of range
+pub no_numbers_checked : (x : State) → numbers_ok x.pool.size (number_of_clients x.pool) x.pool.cap ≡ false → checked_state x ≡ Refused 8
+unfolding checked_of valid both choose
+no_numbers_checked x e = rw e refl
+
 -- a pool with other clients
 abbrev pub with_clients : Pool → List Client → Pool
 with_clients p clients =
@@ -70,13 +75,21 @@ with_clients p clients =
 
 -- ---- begin, release
 
+pub calls_as : {h k : Held} {r : ℕ} {q : Pool} → h ≡ k → r ≡ word_of h.answer → q ≡ h.pool → CallsTo k r q
+calls_as e f g = (f ∙ ap (λ (h : Held). word_of h.answer) e, g ∙ ap (λ (h : Held). h.pool) e)
+
 left : (a : Outcome Acted Refusal) {q : Pool} → q ≡ (held_by a q).pool
 left (Ok a) = refl
 left (Err e) = refl
 
 pub calls : {p : Pool} {n : ℕ} {call : Call} {a : Outcome Acted Refusal} {q : Pool} {r : ℕ} →
     ActsTo p n call a q → r ≡ word_of (held_by a q).answer → CallsTo (held_of p n call) r q
-calls {a = a} t e = (e ∙ ap (λ (h : Held). word_of h.answer) t.held, left a ∙ ap (λ (h : Held). h.pool) t.held)
+calls {a = a} t e = calls_as t.held e (left a)
+
+-- S, T or C is out of range
+pub calls_away : (p : Pool) (n : ℕ) (call : Call) {r : ℕ} → numbers_ok p.size (number_of_clients p) p.cap ≡ false → r ≡ word_of (Refused 8)
+    → CallsTo (held_of p n call) r p
+calls_away p n call e = calls (no_numbers p n call e)
 
 -- ---- setup
 

@@ -37,13 +37,13 @@ pub bounds-checked-c : goal.bounds-checked-c
 bounds-checked-c c =
     let k = c.in_ok-checked.checked in
     let its = its_number k.pool.now c.args.client c.args.page k.valid (sym c.in_ok-turned_by.ensures) in
-    omega (arith, its, k.client_count, k.few_clients)
+    omega (arith, its, k.client_count, k.numbers.few_clients)
 
 pub grant_of-requires-clause-client : goal.grant_of-requires-clause-client
 grant_of-requires-clause-client c =
     let k = c.in_ok-checked.checked in
     let its = its_number k.pool.now c.args.client c.args.page k.valid (sym c.in_ok-turned_by.ensures) in
-    omega (arith, its, k.client_count, k.few_clients)
+    omega (arith, its, k.client_count, k.numbers.few_clients)
 
 pub grant_of-requires-clause-few : goal.grant_of-requires-clause-few
 grant_of-requires-clause-few c =
@@ -62,7 +62,7 @@ pub grant_frame-requires-clause-client : goal.grant_frame-requires-clause-client
 grant_frame-requires-clause-client c =
     let k = c.in_ok-checked.checked in
     let its = its_number k.pool.now c.args.client c.args.page k.valid (sym c.in_ok-turned_by.ensures) in
-    omega (arith, its, k.client_count, k.few_clients)
+    omega (arith, its, k.client_count, k.numbers.few_clients)
 
 pub grant_frame-requires-clause-few : goal.grant_frame-requires-clause-few
 grant_frame-requires-clause-few c =

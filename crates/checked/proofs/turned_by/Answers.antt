@@ -1,12 +1,10 @@
 -- The client's record is the pool's, and a valid pool's clients have few grants. Assumes nothing.
-use Rattle.std.proofs.Common.{◌≡◌, ◌∙◌, sym, ap, subst, refl, ℕ, ◌<◌, ◌≤◌, arith, le-ltb}
+use Rattle.std.proofs.Common.{◌∙◌, sym, ap, subst, refl, ◌<◌, ◌≤◌, arith, le-ltb}
 use Rattle.pool.specs.Limits.{max_held}
 use Rattle.pool.specs.State.{number_of_clients, client}
-use Rattle.pool.specs.Calls.{caller}
 use Rattle.pool.specs.declared.Client.{Client}
 use Rattle.laws.specs.Choices.{passed}
 use Rattle.laws.specs.Elements.{client_of_pool}
-use Rattle.play.specs.Playable.{record_at}
 use Rattle.play.specs.Searchable.{searchable}
 use Rattle.checked.proofs.turned_by.Goals as goal
 

@@ -1,19 +1,20 @@
-use Rattle.std.proofs.Common.{◌≡◌, ◌∙◌, sym, ap, Ok, Err}
-use Rattle.pool.specs.State.{client}
+-- The actor is a client that there is, so that what is asked of any caller holds of it, and 9 does not turn its call down. Assumes nothing.
+use Rattle.std.proofs.Common.{◌∙◌, sym, ap, subst, ℕ, ◌<◌}
+use Rattle.pool.specs.State.{client, number_of_clients}
+use Rattle.pool.specs.Calls.{caller}
+use Rattle.ranges.specs.Ranges.{numbers_in}
 use Rattle.books.specs.Books.{pool_in}
-use Rattle.play.specs.Turn.{its_client, calls}
-use Rattle.play.specs.Decides.{is_turn}
+use Rattle.play.specs.Decides.{IsClient, answers}
 use Rattle.play.proofs.decide.Goals as goal
 
-pub returns-in-Ok-clause-turn : goal.returns-in-Ok-clause-turn
-returns-in-Ok-clause-turn c =
-    λ _ clients t.
-    let p = pool_in c.args.actor.now.books clients in
-    let its : client p c.args.actor.now.number ≡ c.args.actor.now.client = ap (client p) (sym c.requires.caller) ∙ its_client t c.in-Ok.ensures.known in
-    is_turn (Ok c.call_move.result) t
-    (sym (c.in-Ok.ensures.value p (calls t)), c.call_move.ensures clients (record { client = its; fresh = t.fresh }))
+pub decide_any-requires-clause-clients : goal.decide_any-requires-clause-clients
+decide_any-requires-clause-clients c = (numbers_in _ _ _ c.args.actor.now.in_range).clients
 
-pub returns-in-Err-clause-turn : goal.returns-in-Err-clause-turn
-returns-in-Err-clause-turn c =
-    λ _ clients t.
-    is_turn (Err c.in-Err.refusal) t (sym (c.in-Err.ensures.value (pool_in c.args.actor.now.books clients) (calls t)))
+pub returns-clause-answers : goal.returns-clause-answers
+returns-clause-answers c =
+    λ clients a.
+    let view = c.args.actor.now.view in
+    let p = pool_in view.books clients in
+    let there : caller c.args.call < number_of_clients p = subst (λ (n : ℕ). n < number_of_clients p) (sym c.requires) c.args.actor.now.known in
+    let its : IsClient p (caller c.args.call) view.client = ap (client p) c.requires ∙ a.client in
+    answers p c.args.call view.client c.decide_any.result there its (c.decide_any.ensures.decides clients (record { client = λ _. a.client; fresh = a.fresh }))

@@ -9,7 +9,6 @@ use Rattle.memory.specs.declared.Memory.{Memory}
 use Rattle.books.specs.Books.{pool_in}
 use Rattle.books.specs.Named.{FewGrants}
 use Rattle.books.specs.declared.checked.Checked.{Checked}
-use Rattle.books.specs.declared.numbers.Numbers.{Numbers}
 use Rattle.books.specs.declared.reading.Books.{Books}
 use Rattle.checks.specs.Lent.{memory_in}
 use Rattle.checks.specs.declared.bytes.Marks.{Marks}
@@ -40,7 +39,7 @@ bytes_ok-requires c =
     let k = c.in_ok-checked.checked in
     let same : k.pool.now ≡ p = c.in_ok-checked.ensures in
     let there : c.books.result.numbers.client_count ≡ number_of_clients p =
-    ap (λ (n : Numbers). n.client_count) c.books.ensures.numbers ∙ k.client_count ∙ ap (λ (q : Pool). q.client_count) same in
+    c.books.ensures.numbers.1 ∙ k.client_count ∙ ap (λ (q : Pool). q.client_count) same in
     subst (λ (n : ℕ). FewGrants n p.clients) (sym there) (few_grants p (ap valid (sym same) ∙ k.valid))
 
 pub returns-then-bytes_ok : goal.returns-then-bytes_ok

@@ -1,12 +1,6 @@
-use Rattle.ranges.specs.Ranges.{numbers_in}
 use Rattle.in_place.specs.Held.{pool_from}
 use Rattle.in_place.specs.Acts.{no_numbers}
 use Rattle.in_place.proofs.acting.act.Goals as goal
-
-pub act_on-requires-clause-clients : goal.act_on-requires-clause-clients
-act_on-requires-clause-clients c =
-    let n = c.in-Some.ensures in
-    rw n.2 (numbers_in _ _ _ n.0).clients
 
 pub returns-in_default : goal.returns-in_default
 returns-in_default c =

@@ -6,7 +6,7 @@ use Rattle.pool.specs.State.{client}
 use Rattle.answers.specs.declared.refusal.Refusal.{Refusal}
 use Rattle.books.specs.Books.{pool_in}
 use Rattle.client_arrays.specs.Loans.{clients_in}
-use Rattle.play.specs.Decides.{Decides}
+use Rattle.play.specs.Decides.{Decides, decided}
 use Rattle.in_place.specs.Acts.{ActsTo, no_such, no_client_fits, no_search, outside, turned_away_by, moves_on}
 use Rattle.in_place.proofs.Decided.{there, its_record, client_test, search_test}
 use Rattle.in_place.proofs.acting.turn.Goals as goal
@@ -51,13 +51,15 @@ returns-then-is_outside-clause-away c =
 
 -- ---- a turn that was decided
 
-decided : (c : After-decide) → Decides (pool_in c.args.books.now (clients_in c.args.clients.now)) c.args.call c.decide.result
-decided c =
+by_decide : (c : After-decide) → Decides (pool_in c.args.books.now (clients_in c.args.clients.now)) c.args.call c.decide.result
+by_decide c =
     let b = c.args.books.now in
     let l = c.args.clients.now in
     let p = pool_in b (clients_in l) in
     let its = its_record b l c.args.call c.from.ensures c.caller-caller.ensures c.if-caller-books.false c.requires.clients c.get-client.ensures in
-    c.decide.ensures.decides (clients_in l) (record { client = λ _. ap (client p) c.caller-caller.ensures ∙ its; fresh = c.in_ok-fresh.ensures.frame })
+    let h = there b l c.args.call c.from.ensures c.caller-caller.ensures c.if-caller-books.false c.requires.clients c.get-client.ensures in
+    decided p c.args.call _ c.decide.result h its
+    (c.decide.ensures.answers (clients_in l) (record { client = ap (client p) c.caller-caller.ensures ∙ its; fresh = c.in_ok-fresh.ensures.frame }))
 
 pub returns-clause-away : goal.returns-clause-away
 unfolding choose
@@ -69,7 +71,7 @@ returns-clause-away c =
     let h = there b l c.args.call c.from.ensures c.caller-caller.ensures c.if-caller-books.false c.requires.clients c.get-client.ensures in
     let fits = client_test p its (c.if-not-client_fits.ensures.value (clients_in l)) in
     turned_away_by p c.args.store_pages c.args.call c.requires.numbers fits (search_test p its c.in_ok-fresh.ensures.fits) c.if-is_outside.ensures h c.decide.result
-    (decided (goal.at.returns-clause-away c).After-decide)
+    (by_decide (goal.at.returns-clause-away c).After-decide)
 
 pub returns-clause-moved : goal.returns-clause-moved
 unfolding choose
@@ -81,4 +83,4 @@ returns-clause-moved c =
     let h = there b l c.args.call c.from.ensures c.caller-caller.ensures c.if-caller-books.false c.requires.clients c.get-client.ensures in
     let fits = client_test p its (c.if-not-client_fits.ensures.value (clients_in l)) in
     moves_on p c.args.store_pages c.args.call c.requires.numbers fits (search_test p its c.in_ok-fresh.ensures.fits) c.if-is_outside.ensures h c.decide.result
-    (decided (goal.at.returns-clause-moved c).After-decide)
+    (by_decide (goal.at.returns-clause-moved c).After-decide)

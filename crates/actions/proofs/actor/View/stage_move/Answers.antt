@@ -2,7 +2,7 @@ use Rattle.std.proofs.Common.{sym, ◌∙◌, ap}
 use Rattle.books.specs.Books.{pool_in}
 use Rattle.answers.specs.Numbers.{stage_number}
 use Rattle.actions.specs.Turn.{stage_move_is, no_stage_move}
-use Rattle.actions.proofs.actor.Actor.stage_move.Goals as goal
+use Rattle.actions.proofs.actor.View.stage_move.Goals as goal
 
 pub returns-in-Some : goal.returns-in-Some
 returns-in-Some c =
