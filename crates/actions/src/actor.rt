@@ -9,7 +9,7 @@ use books::Books;
 use pool::Client;
 
 /// All that a client's next action looks at. A pool that passes check 8 has what the ghost fields say of each of its clients; a call in place tests it.
-/// Whether there is such a client, and whether S, T and C are in range, is not known: an `Actor` is a view of which it is.
+/// It may be of a client that there is not, and of a pool whose S, T or C is out of range; where neither is so, it can be an `Actor`.
 #[derive(Clone, Copy)]
 pub struct View<'a> {
     pub books: Books<'a>,

@@ -40,7 +40,7 @@ impl Numbers {
         }
     }
 
-    /// As an `Extent` has it: SPECIFICATION 1.2.
+    /// How many frames a pool of these has: SPECIFICATION 1.2.
     pub fn total(&self) -> u8
         ensures value { result ≡ self.now.size + 2 * self.now.client_count }
         ensures bound { result ≤ max_frames }
